@@ -1,0 +1,105 @@
+-- P1 to P8 of document 01, as one table of cases that the checker computes over the definitions: each description is legal,
+-- and its answer has the round count and the labels that the row gives. The last row is no P of document 01: an allow list and
+-- an order that list nothing both leave tau.
+-- Assumes nothing.
+use mathlib.Core.Logic.{Dec·and}
+use mathlib.Core.Bool.{Bool, true, false, _&&_}
+use mathlib.Core.List.{List, [], _∷_}
+use Prim.Native.Nat.{ℕ}
+use native.Mathlib.Decide.{decLe, decLt, ℕ-discrete}
+use lib.Dec.{T, eqb}
+use Rattle.meaning.specs.Bytes.{Text, ascii}
+use Rattle.meaning.specs.Labels.{Label, size, number, isTau, plus, inside, minus, clear, without, renamedFrom, order}
+use Rattle.meaning.specs.Sets.{member, insert, ascending, spread, product}
+use Rattle.meaning.specs.Descriptions.{Pair, Rule, Operator, hide, rename, comm, allow, Term, act, tau, ref, seq, merge, sync, wrap, Order, all, only, Description}
+use Rattle.meaning.specs.Rounds.{target, allowed, applied, communicated, worked, next, roundSets}
+use Rattle.meaning.specs.Limits.{total, someLong, someOver, over}
+use Rattle.meaning.specs.Answers.{Outcome, tooLarge, listed, cut, sameLabels, sameSets, answerFrom, answer}
+use Rattle.meaning.proofs.Legality.{legal?, legalTest}
+
+pub record Case : Type 0 where
+  pub given : Description
+  pub order : Order
+  pub rounds : ℕ
+  pub labels : List Label
+
+abbrev case : Description → Order → ℕ → List Label → Case
+case d o rounds labels = record { given = d; order = o; rounds = rounds; labels = labels }
+
+-- the names a to e of the short examples; a label over them
+abbrev letters : List Text
+letters = ascii "a" ∷ ascii "b" ∷ ascii "c" ∷ ascii "d" ∷ ascii "e" ∷ []
+
+abbrev abcde : ℕ → ℕ → ℕ → ℕ → ℕ → Label
+abcde a b c d e = a ∷ b ∷ c ∷ d ∷ e ∷ []
+
+abbrev described : List Term → List ℕ → ℕ → Description
+described terms bodies root = record { words = letters; terms = terms; bodies = bodies; root = root }
+
+abbrev pair : ℕ → ℕ → Pair
+pair a b = record { left = a; right = b }
+
+abbrev rule : Label → ℕ → Rule
+rule a n = record { left = a; right = n }
+
+-- the listing: X = done . X, two of them merged, and two reports of done close the stripe
+abbrev stripe : Description
+stripe =
+    record {
+      words = ascii "done" ∷ ascii "close" ∷ [];
+      terms = act 0 ∷ ref 0 ∷ seq 0 1 ∷ merge 1 1 ∷ wrap (comm (rule (2 ∷ 0 ∷ []) 1 ∷ [])) 3 ∷ [];
+      bodies = 2 ∷ [];
+      root = 4;
+    }
+
+-- P4: X = a then (X with a renamed to b). P5: a:2.b:1 with a and b exchanged. P6: two rules, the second of which takes the result
+-- of the first.
+abbrev later : Description
+later = described (act 0 ∷ ref 0 ∷ wrap (rename (pair 0 1 ∷ [])) 1 ∷ seq 0 2 ∷ []) (3 ∷ []) 3
+
+abbrev exchanged : Description
+exchanged = described (act 0 ∷ sync 0 0 ∷ act 1 ∷ sync 1 2 ∷ wrap (rename (pair 0 1 ∷ pair 1 0 ∷ [])) 3 ∷ []) [] 4
+
+abbrev fedBack : Description
+fedBack =
+    described
+    (act 0 ∷ act 1 ∷ sync 0 1 ∷ act 3 ∷ sync 2 3 ∷ wrap (comm (rule (abcde 1 1 0 0 0) 2 ∷ rule (abcde 0 0 1 1 0) 4 ∷ [])) 4 ∷ []) [] 5
+
+-- P7: a hidden in a:2. P8: sync of a and tau. Last: P7 under an allow list.
+abbrev hidden : Description
+hidden = described (act 0 ∷ sync 0 0 ∷ wrap (hide (0 ∷ [])) 1 ∷ []) [] 2
+
+abbrev synced : Description
+synced = described (act 0 ∷ tau ∷ sync 0 1 ∷ []) [] 2
+
+abbrev allowedTau : Description
+allowedTau = described (act 0 ∷ sync 0 0 ∷ wrap (hide (0 ∷ [])) 1 ∷ wrap (allow []) 2 ∷ []) [] 3
+
+abbrev pub table : List Case
+table =
+    case stripe all 2 ((1 ∷ 0 ∷ []) ∷ (2 ∷ 0 ∷ []) ∷ (0 ∷ 1 ∷ []) ∷ [])
+    ∷ case stripe (only ((0 ∷ 1 ∷ []) ∷ [])) 2 ((0 ∷ 1 ∷ []) ∷ [])
+    ∷ case stripe (only []) 2 []
+    ∷ case (described (ref 0 ∷ []) (0 ∷ []) 0) all 1 []
+    ∷ case later all 3 (abcde 1 0 0 0 0 ∷ abcde 0 1 0 0 0 ∷ [])
+    ∷ case exchanged all 1 (abcde 1 2 0 0 0 ∷ [])
+    ∷ case fedBack all 1 (abcde 1 1 0 1 0 ∷ abcde 0 0 1 1 0 ∷ abcde 0 0 0 0 1 ∷ [])
+    ∷ case hidden all 1 (abcde 0 0 0 0 0 ∷ [])
+    ∷ case synced all 1 (abcde 1 0 0 0 0 ∷ [])
+    ∷ case allowedTau (only []) 1 (abcde 0 0 0 0 0 ∷ [])
+    ∷ []
+
+unfoldable pub says : ℕ → List Label → Outcome → Bool
+says rounds labels tooLarge = false
+says rounds labels (listed r ls) = eqb r rounds && sameLabels ls labels
+
+unfoldable pub holds : Case → Bool
+holds c = legalTest (c .given) (c .order) && says (c .rounds) (c .labels) (answer (c .given) (c .order))
+
+unfoldable pub all-hold : List Case → Bool
+all-hold [] = true
+all-hold (c ∷ cs) = holds c && all-hold cs
+
+pub computed : T (all-hold table)
+unfolding all-hold holds says legalTest legal? decLe decLt ℕ-discrete Dec·and answer answerFrom cut sameLabels sameSets over total someOver someLong roundSets next worked communicated applied allowed target product spread ascending insert member order renamedFrom without clear minus inside plus isTau number size
+computed = tt

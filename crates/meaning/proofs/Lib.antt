@@ -1,0 +1,22 @@
+-- The theorems, each file after those that it cites; the computed cases first.
+pub mod Legality
+pub mod Alphabets
+pub mod Tests
+pub mod Bags
+pub mod Order
+pub mod Digits
+pub mod Sorted
+pub mod Members
+pub mod Made
+pub mod Carried
+pub mod Growth
+pub mod Stable
+pub mod Least
+pub mod Operators
+pub mod Soundness
+pub mod Limits
+pub mod Lengths
+pub mod Answers
+pub mod Outcomes
+pub mod Widening
+pub mod Examples

@@ -1,0 +1,104 @@
+-- Widening: sets grow term by term and round by round, and so demand 3 holds of two legal descriptions.
+-- Assumes nothing.
+use mathlib.Core.Path.{_≡_, refl, sym, ap, subst, _∙_}
+use mathlib.Core.Logic.{_⊎_, inl, inr}
+use mathlib.Core.Bool.{Bool}
+use mathlib.Core.List.{List, [], _∷_}
+use Prim.Native.Nat.{ℕ, zero, suc}
+use lib.Dec.{T}
+use lib.ListN.{length, getD}
+use Rattle.meaning.specs.Labels.{Label, count, clear, empty, single}
+use Rattle.meaning.specs.Sets.{_∈_, at, keep}
+use Rattle.meaning.specs.Descriptions.{Term, act, tau, delta, ref, sum, cond, choice, ifelse, seq, merge, lmerge, sync, wrap, Order, Description, names, termAt}
+use Rattle.meaning.specs.Legal.{Legal}
+use Rattle.meaning.specs.Rounds.{allowed, image, Shape, leaf, through, shape, InSet}
+use Rattle.meaning.specs.Runs.{OnRun}
+use Rattle.meaning.specs.Limits.{PassesLimit}
+use Rattle.meaning.specs.Answers.{Allows, Outcome, tooLarge, listed, Answers, answer}
+use Rattle.meaning.specs.Widening.{WiderTerm, same, gained, lost, opened, WiderTerms, Widens}
+use Rattle.meaning.proofs.Bags.{clear→zero, zero→clear}
+use Rattle.meaning.proofs.Members.{in-keep}
+use Rattle.meaning.proofs.Made.{Grown, alike, filled, fuller}
+use Rattle.meaning.proofs.Growth.{Wide, rounds-widen}
+use Rattle.meaning.proofs.Operators.{allowed→, →allowed}
+use Rattle.meaning.proofs.Answers.{answer-right}
+use Rattle.meaning.proofs.Soundness.{sound}
+
+-- A filter that lets more through gives more: said once, for allow lists that gain and block lists that lose.
+keep-grows : (p q : Label → Bool) → ((a : Label) → T (p a) → T (q a)) → (a b : Label) → b ∈ keep p a → b ∈ keep q a
+keep-grows p q h a b m = let x = in-keep p a b .0 m in in-keep q a b .1 (x .0, h a (x .1))
+
+-- The shape of a term depends on no more of a description than its number of names.
+shape-names : (d d′ : Description) → names d ≡ names d′ → (t : Term) → shape d t ≡ shape d′ t
+shape-names d d′ e (act a) = ap (λ (n : ℕ). leaf (single n a ∷ [])) e
+shape-names d d′ e tau = ap (λ (n : ℕ). leaf (empty n ∷ [])) e
+shape-names d d′ e delta = refl
+shape-names d d′ e (ref x) = refl
+shape-names d d′ e (sum t) = refl
+shape-names d d′ e (cond t) = refl
+shape-names d d′ e (choice t u) = refl
+shape-names d d′ e (ifelse t u) = refl
+shape-names d d′ e (seq t u) = refl
+shape-names d d′ e (merge t u) = refl
+shape-names d d′ e (lmerge t u) = refl
+shape-names d d′ e (sync t u) = refl
+shape-names d d′ e (wrap o t) = ap (λ (n : ℕ). through (image n o) t) e
+
+wider-grown : (d d′ : Description) → names d ≡ names d′ → {t t′ : Term} → WiderTerm t t′ → Grown (shape d t) (shape d′ t′)
+wider-grown d d′ e (same t) = subst (λ (s : Shape). Grown (shape d t) s) (shape-names d d′ e t) (alike (shape d t))
+wider-grown d d′ e (gained {ls = ls} {more = more} t h) =
+    fuller (keep (allowed ls)) (keep (allowed more)) t
+    (keep-grows (allowed ls) (allowed more) (λ a x. →allowed more a (elim (allowed→ ls a x) [ inl m ↦ inl (h a m) | inr z ↦ inr z ])))
+wider-grown d d′ e (lost {ns = ns} {fewer = fewer} t h) =
+    fuller (keep (clear ns)) (keep (clear fewer)) t
+    (keep-grows (clear ns) (clear fewer) (λ a x. zero→clear fewer a (λ n m. clear→zero ns a x n (h n m))))
+wider-grown d d′ e (opened t) = filled (shape d′ t)
+
+wider-at : (ts us : List Term) → WiderTerms ts us → (n : ℕ) → WiderTerm (getD ts n delta) (getD us n delta)
+wider-at [] [] h n = same delta
+wider-at (t ∷ ts) (u ∷ us) h zero = h .0
+wider-at (t ∷ ts) (u ∷ us) h (suc n) = wider-at ts us (h .1) n
+
+wider-length : (ts us : List Term) → WiderTerms ts us → length ts ≡ length us
+wider-length [] [] h = refl
+wider-length (t ∷ ts) (u ∷ us) h = ap suc (wider-length ts us (h .1))
+
+pub widens-wide : (d : Description) (o : Order) (d′ : Description) (o′ : Order) → Widens d o d′ o′ → Wide d d′
+widens-wide d o d′ o′ w =
+    record {
+      terms = λ n. wider-grown d d′ (ap length (w .words)) (wider-at (d .terms) (d′ .terms) (w .terms) n);
+      count = wider-length (d .terms) (d′ .terms) (w .terms);
+      bodies = w .bodies;
+    }
+
+module _ (d : Description) (o : Order) (d′ : Description) (o′ : Order) (w : Widens d o d′ o′) where
+  pub sets-widen : (t : ℕ) (a : Label) → InSet d t a → InSet d′ t a
+  sets-widen t a x = record { round = x .round; there = rounds-widen d d′ (widens-wide d o d′ o′ w) (x .round) t a (x .there) }
+
+  pub passes-widen : PassesLimit d → PassesLimit d′
+  passes-widen x = record { part = x .part; inSets = λ t a m. sets-widen t a (x .inSets t a m); once = x .once; tooMuch = x .tooMuch }
+
+-- Demand 3. If the second description is answered, so is the first, and every label on any finite run of the first that the
+-- first's order allows is listed by the second.
+pub record Answered (x : Outcome) : Type 0 where
+  pub rounds : ℕ
+  pub labels : List Label
+  pub is : x ≡ listed rounds labels
+
+answered-unless : (d : Description) (o : Order) (x : Outcome) → Answers d o x → (PassesLimit d → ⊥) → Answered x
+answered-unless d o tooLarge p h = absurd (h p)
+answered-unless d o (listed k labels) p h = record { rounds = k; labels = labels; is = refl }
+
+pub record Tightened (d : Description) (o : Order) (labels : List Label) : Type 0 where
+  pub answered : Answered (answer d o)
+  pub covered : (a : Label) → OnRun d a → Allows o a → a ∈ labels
+
+pub tightening : (d : Description) (o : Order) (d′ : Description) (o′ : Order) → Legal d o → Legal d′ o′ → Widens d o d′ o′
+    → (rounds : ℕ) (labels : List Label) → answer d′ o′ ≡ listed rounds labels → Tightened d o labels
+tightening d o d′ o′ legal legal′ w rounds labels e =
+    let right : Answers d′ o′ (listed rounds labels) = subst (λ (x : Outcome). Answers d′ o′ x) e (answer-right d′ o′) in
+    record {
+      answered = answered-unless d o (answer d o) (answer-right d o) (λ x. right .within (passes-widen d o d′ o′ w x));
+      covered = λ a run allowed.
+          right .exactly a .1 (subst (λ (t : ℕ). InSet d′ t a) (w .root) (sets-widen d o d′ o′ w (d .root) a (sound d o legal a run)), w .orders a allowed);
+    }

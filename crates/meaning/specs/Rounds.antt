@@ -1,0 +1,108 @@
+-- The sets of all terms, round by round (document 01, "The sets").
+-- Assumes nothing.
+use mathlib.Core.Path.{_≡_}
+use mathlib.Core.Bool.{Bool, true, false, _||_}
+use mathlib.Core.List.{List, [], _∷_, _++_, map}
+use mathlib.Core.Logic.{_≢_}
+use Prim.Native.Nat.{ℕ, zero, suc, pred, _≤_, _<_}
+use lib.Dec.{eqb}
+use Rattle.meaning.specs.Labels.{Label, size, empty, single, isTau, plus, minus, inside, clear, without, renamed}
+use Rattle.meaning.specs.Sets.{_∈_, at, member, ascending, spread, keep, turn, product}
+use Rattle.meaning.specs.Descriptions.{Pair, Rule, Operator, block, hide, rename, comm, allow, Term, act, tau, delta, ref, sum, cond, choice, ifelse, seq, merge, lmerge, sync, wrap, Description, names, termCount, termAt}
+
+-- rename: where a name goes. A name that no pair lists stays.
+abbrev pub pick : Bool → ℕ → ℕ → ℕ
+pick true a b = a
+pick false a b = b
+
+unfoldable pub target : List Pair → ℕ → ℕ
+target [] n = n
+target (p ∷ ps) n = pick (eqb n (p .left)) (p .right) (target ps n)
+
+-- allow: the listed labels, and tau.
+unfoldable pub allowed : List Label → Label → Bool
+allowed ls a = isTau a || member a ls
+
+-- comm: a label with the left side of a rule replaced by its right side, what one application of any rule gives, and
+-- each label with all that follows from it by at most so many applications.
+abbrev pub replaced : ℕ → Rule → Label → Label
+replaced names r a = plus (minus a (r .left)) (single names (r .right))
+
+unfoldable pub applied : ℕ → List Rule → Label → List Label
+applied names [] a = []
+applied names (r ∷ rs) a = spread (turn (replaced names r)) (keep (inside (r .left)) a) ++ applied names rs a
+
+unfoldable pub communicated : ℕ → ℕ → List Rule → Label → List Label
+communicated zero names rs a = a ∷ []
+communicated (suc more) names rs a = a ∷ spread (communicated more names rs) (applied names rs a)
+
+-- What an operator makes of one label. An application of a rule takes away at least two actions and gives one, so that there
+-- are fewer of them than actions.
+abbrev pub image : ℕ → Operator → Label → List Label
+image names (block ns) = keep (clear ns)
+image names (hide ns) = turn (without ns)
+image names (rename ps) = turn (renamed names (target ps))
+image names (comm rs) = λ a. communicated (size a) names rs a
+image names (allow ls) = keep (allowed ls)
+
+-- The 17 kinds take their labels in seven ways.
+pub data Shape : Type 0 where
+  leaf : List Label → Shape
+  reference one : ℕ → Shape
+  either both joint : ℕ → ℕ → Shape
+  through : (Label → List Label) → ℕ → Shape
+
+abbrev pub shape : Description → Term → Shape
+shape d (act a) = leaf (single (names d) a ∷ [])
+shape d tau = leaf (empty (names d) ∷ [])
+shape d delta = leaf []
+shape d (ref e) = reference e
+shape d (sum t) = one t
+shape d (cond t) = one t
+shape d (choice t u) = either t u
+shape d (ifelse t u) = either t u
+shape d (seq t u) = either t u
+shape d (merge t u) = both t u
+shape d (lmerge t u) = both t u
+shape d (sync t u) = joint t u
+shape d (wrap o t) = through (image (names d) o) t
+
+abbrev pub made : List (List Label) → List (List Label) → Shape → List Label
+made eqs sets (leaf s) = s
+made eqs sets (reference e) = at eqs e
+made eqs sets (one t) = at sets t
+made eqs sets (either t u) = at sets t ++ at sets u
+made eqs sets (both t u) = at sets t ++ at sets u ++ product (at sets t) (at sets u)
+made eqs sets (joint t u) = product (at sets t) (at sets u)
+made eqs sets (through f t) = spread f (at sets t)
+
+-- The sets of the first terms, worked out one after the other from the equations' sets.
+unfoldable pub worked : Description → List (List Label) → ℕ → List (List Label)
+worked d eqs zero = []
+worked d eqs (suc n) = let sets = worked d eqs n in sets ++ (ascending (made eqs sets (shape d (termAt d n))) ∷ [])
+
+-- Round 0 gives every equation the empty set; round k+1 works all terms out from the equation sets of round k. The set of
+-- an equation is that of its body.
+abbrev pub bodySets : Description → List (List Label) → List (List Label)
+bodySets d sets = map (at sets) (d .bodies)
+
+unfoldable pub next : Description → List (List Label) → List (List Label)
+next d sets = worked d (bodySets d sets) (termCount d)
+
+unfoldable pub roundSets : Description → ℕ → List (List Label)
+roundSets d zero = []
+roundSets d (suc k) = next d (roundSets d k)
+
+abbrev pub equationSets : Description → ℕ → List (List Label)
+equationSets d k = bodySets d (roundSets d k)
+
+-- The set of a term is the union over all rounds.
+pub record InSet (d : Description) (t : ℕ) (a : Label) : Type 0 where
+  pub round : ℕ
+  pub there : a ∈ at (roundSets d round) t
+
+-- The reported round count: the smallest k, at least 1, whose equation sets equal those of round k-1.
+pub record Rounds (d : Description) (k : ℕ) : Type 0 where
+  pub atLeast : 1 ≤ k
+  pub stable : equationSets d k ≡ equationSets d (pred k)
+  pub smallest : (j : ℕ) → 1 ≤ j → j < k → equationSets d j ≢ equationSets d (pred j)

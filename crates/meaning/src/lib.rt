@@ -1,0 +1,1 @@
+// What a description means is said in specs/ and proved in proofs/: there is no program here.
