@@ -1,0 +1,109 @@
+//! A description while it is being put together.
+
+use crate::names;
+
+/// The values of the lines; nothing here demands that they are right.
+#[derive(Clone)]
+pub struct Draft {
+    pub names: Vec<String>,
+    pub terms: Vec<String>,
+    pub bodies: Vec<usize>,
+    pub root: usize,
+    pub order: String,
+}
+
+impl Draft {
+    pub fn new(names: Vec<String>) -> Draft {
+        Draft { names, terms: Vec::new(), bodies: Vec::new(), root: 0, order: String::from("all") }
+    }
+
+    /// A draft with the names a, b, c and so on.
+    pub fn with_letters(count: usize) -> Draft {
+        Draft::new(names::letters(count))
+    }
+
+    /// Adds a term, which is the root until another is added, and gives its
+    /// number.
+    pub fn add(&mut self, term: String) -> usize {
+        self.terms.push(term);
+        self.root = self.terms.len() - 1;
+        self.root
+    }
+
+    pub fn act(&mut self, name: usize) -> usize {
+        self.add(format!("act {}", self.names[name]))
+    }
+
+    pub fn one(&mut self, kind: &str, operand: usize) -> usize {
+        self.add(format!("{} {}", kind, operand))
+    }
+
+    pub fn two(&mut self, kind: &str, left: usize, right: usize) -> usize {
+        self.add(format!("{} {} {}", kind, left, right))
+    }
+
+    pub fn with_list(&mut self, kind: &str, operand: usize, list: &str) -> usize {
+        self.add(format!("{} {} {}", kind, operand, list))
+    }
+
+    /// Puts a list where it belongs: into a new term or into the order.
+    pub fn place_list(&mut self, kind: &str, operand: usize, list: &str) {
+        if kind == "order" {
+            self.order = String::from(list);
+        } else {
+            self.with_list(kind, operand, list);
+        }
+    }
+
+    /// Takes the term away that was added last.
+    pub fn drop_last(&mut self) {
+        self.terms.pop();
+        self.root = self.terms.len() - 1;
+    }
+
+    /// Whether a term may be an operand of sync.
+    pub fn is_multi_action(&self, term: usize) -> bool {
+        let text = &self.terms[term];
+        text == "tau" || text.starts_with("act ") || text.starts_with("sync ")
+    }
+
+    pub fn lines(&self) -> Vec<Vec<u8>> {
+        let mut lines = vec![format!("names={}", self.names.len())];
+        lines.extend(self.names.iter().map(|name| format!("name={}", name)));
+        lines.push(format!("equations={}", self.bodies.len()));
+        lines.push(format!("terms={}", self.terms.len()));
+        lines.extend(self.terms.iter().map(|term| format!("term={}", term)));
+        lines.extend(self.bodies.iter().map(|body| format!("equation={}", body)));
+        lines.push(format!("root={}", self.root));
+        lines.push(format!("order={}", self.order));
+        lines.into_iter().map(String::into_bytes).collect()
+    }
+
+    pub fn bytes(&self) -> Vec<u8> {
+        ended(&self.lines())
+    }
+}
+
+/// The lines, each ended by LF.
+pub fn ended(lines: &[Vec<u8>]) -> Vec<u8> {
+    let mut text = Vec::new();
+    for line in lines {
+        text.extend_from_slice(line);
+        text.push(b'\n');
+    }
+    text
+}
+
+/// `count` times the unit, joined by doubling as dies are: 2, 4, 8, 16.
+pub fn doubled<T: Copy>(unit: T, count: usize, join: &mut impl FnMut(T, T) -> T) -> T {
+    if count == 1 {
+        return unit;
+    }
+    let half = doubled(unit, count / 2, join);
+    let even = join(half, half);
+    if count % 2 == 0 {
+        even
+    } else {
+        join(even, unit)
+    }
+}

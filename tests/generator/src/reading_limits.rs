@@ -1,0 +1,177 @@
+//! Both sides of each limit of the reading.
+
+use crate::draft::{ended, Draft};
+use crate::lists::{self, Lists};
+use crate::random::Random;
+use crate::slips;
+use crate::well_formed;
+
+const MOST_BYTES: usize = 8_192;
+
+/// Texts of 8,190 to 8,195 bytes, some much longer: well-formed ones, ones
+/// with slips in them, and short ones with something behind the last line.
+pub fn bytes(random: &mut Random) -> Vec<u8> {
+    let length = match random.below(10) {
+        0 => random.within(MOST_BYTES + 1..=2 * MOST_BYTES),
+        1..=2 => MOST_BYTES,
+        3..=4 => MOST_BYTES + 1,
+        _ => random.within(MOST_BYTES - 2..=MOST_BYTES + 3),
+    };
+    match random.below(5) {
+        0 | 1 => well_formed_of(random, length.min(MOST_BYTES + 3)).bytes(),
+        2 => {
+            let mut lines = well_formed_of(random, length.min(MOST_BYTES + 3)).lines();
+            slips::make(random, &mut lines);
+            filled(random, ended(&lines), length)
+        }
+        3 => {
+            let short = well_formed::record(random);
+            filled(random, short, length)
+        }
+        _ => filled(random, Vec::new(), length),
+    }
+}
+
+/// The text, filled up to this length with one byte again and again.
+fn filled(random: &mut Random, mut text: Vec<u8>, length: usize) -> Vec<u8> {
+    let filling = random.pick(b"\n\0 x0=");
+    text.resize(length.max(text.len()), filling);
+    text
+}
+
+/// A well-formed description of exactly this length: long allow lines, then
+/// acts with names of one to eight letters, whose lines have 11 to 18 bytes.
+fn well_formed_of(random: &mut Random, length: usize) -> Draft {
+    let names = (1..=8).map(|letters| "abcdefgh"[..letters].to_string()).collect();
+    let mut draft = Draft::new(names);
+    draft.order = well_formed::order(random, &draft.names[..1], &[]);
+    for name in 0..8 {
+        draft.act(name);
+    }
+    loop {
+        let list = Lists::new(&draft.names, &[]).many_labels(random, 32);
+        let operand = random.below(draft.terms.len());
+        draft.with_list("allow", operand, &list);
+        if draft.bytes().len() + 200 > length {
+            draft.drop_last();
+            break;
+        }
+    }
+    // The numbers of the terms and of the root have two digits now, and so they
+    // have in the end.
+    let mut missing = length - draft.bytes().len();
+    while missing > 0 {
+        let line = if missing > 60 { random.within(11..=18) } else { even_share(missing) };
+        draft.act(line - 11);
+        missing -= line;
+    }
+    draft.root = random.within(10..=draft.terms.len() - 1);
+    assert_eq!(draft.bytes().len(), length, "the length that was asked for");
+    draft
+}
+
+/// What the next line has of the bytes that are missing, if as few lines as
+/// possible share them.
+fn even_share(missing: usize) -> usize {
+    let lines = (missing + 17) / 18;
+    missing / lines
+}
+
+/// 11 to 13 names, 15 to 17 equations, 95 to 97 terms, and none of them.
+pub fn counts(random: &mut Random) -> Vec<u8> {
+    let mut near = |most: usize, usual: usize| match random.below(8) {
+        0 => 0,
+        1..=3 => usual,
+        _ => random.within(most - 1..=most + 1),
+    };
+    let (names, equations, terms) = (near(12, 3), near(16, 2), near(96, 5));
+    let mut draft = Draft::with_letters(names);
+    for _ in 0..terms {
+        match random.below(3) {
+            0 if equations > 0 => draft.one("ref", random.below(equations)),
+            1 if names > 0 => draft.act(random.below(names)),
+            _ => draft.add(String::from("tau")),
+        };
+    }
+    draft.bodies = (0..equations).map(|_| random.below(terms.max(1))).collect();
+    draft.bytes()
+}
+
+/// Lists around their maximum, with or without a fault in one entry, which
+/// may stand behind the maximum.
+pub fn list_lengths(random: &mut Random) -> Vec<u8> {
+    let mut draft = some_sets(random);
+    let top = draft.root;
+    let kind = random.pick(&["allow", "order", "comm", "block", "hide", "rename"]);
+    let names = draft.names.clone();
+    let mut entries: Vec<String> = match kind {
+        "allow" | "order" => split(&Lists::new(&names, &[]).many_labels(random, 34)),
+        "comm" => split(&Lists::new(&names, &[]).many_rules(random, 10)),
+        "rename" => names.iter().map(|name| format!("{}>{}", name, random.pick(&names))).collect(),
+        _ => names,
+    };
+    let most = entries.len();
+    entries.truncate(most - random.below(5.min(most)));
+    if random.chance(50) {
+        let faulty = random.below(entries.len());
+        entries[faulty] = slips::in_entry(random, &entries[faulty]);
+    }
+    if random.chance(20) {
+        let again = random.pick(&entries);
+        entries.push(again);
+    }
+    if random.chance(5) {
+        repeat_up_to(&mut entries, random.within(1_000..=7_500));
+    }
+    draft.place_list(kind, top, &entries.join(","));
+    draft.bytes()
+}
+
+/// Labels of 30 to 33 actions, and such whose counts add up to more than a
+/// byte holds, in each place where a label is read.
+pub fn long_labels(random: &mut Random) -> Vec<u8> {
+    let mut draft = some_sets(random);
+    let top = draft.root;
+    let names = draft.names.len();
+    let actions = match random.below(4) {
+        0 => 254.min(names * 60)..=290.min(names * 60),
+        1 => 510.min(names * 60)..=550.min(names * 60),
+        _ => 28..=34,
+    };
+    let label = lists::label(random, names, actions);
+    let mut parts: Vec<String> = vec![lists::written(&draft.names, &label)];
+    if random.chance(5) {
+        repeat_up_to(&mut parts, random.within(1_000..=7_500));
+    }
+    let written = parts.join(".");
+    match random.pick(&["allow", "order", "comm"]) {
+        "comm" => {
+            let rule = format!("{}>{}", written, random.pick(&draft.names));
+            draft.place_list("comm", top, &rule);
+        }
+        kind => draft.place_list(kind, top, &written),
+    }
+    draft.bytes()
+}
+
+/// Puts the entries down again and again, up to about so many bytes.
+fn repeat_up_to(entries: &mut Vec<String>, bytes: usize) {
+    let once = entries.clone();
+    while entries.iter().map(|entry| entry.len() + 1).sum::<usize>() < bytes {
+        entries.extend_from_slice(&once);
+    }
+}
+
+/// A few names and a term with some labels of them.
+fn some_sets(random: &mut Random) -> Draft {
+    let mut draft = Draft::with_letters(random.within(3..=12));
+    let first = draft.act(0);
+    let second = draft.act(1);
+    let both = draft.two("merge", first, second);
+    draft.two("merge", both, first);
+    draft
+}
+
+fn split(list: &str) -> Vec<String> {
+    list.split(',').map(String::from).collect()
+}

@@ -1,0 +1,57 @@
+//! Slips that a hand at the bench makes in a well-formed description.
+
+mod of_bytes;
+mod of_lines;
+mod of_lists;
+mod of_tokens;
+
+use crate::draft::ended;
+use crate::random::Random;
+use crate::well_formed;
+
+type Lines = Vec<Vec<u8>>;
+
+/// A well-formed description with one to three slips.
+pub fn record(random: &mut Random) -> Vec<u8> {
+    let mut lines = well_formed::draft(random).lines();
+    for _ in 0..random.weighted(&[(1, 60), (2, 25), (3, 15)]) {
+        make(random, &mut lines);
+    }
+    let mut text = ended(&lines);
+    if random.chance(4) {
+        of_bytes::in_text(random, &mut text);
+    }
+    text
+}
+
+/// A sort of slips, and how often it is made.
+type Sort = (fn(&mut Random, &mut Lines), usize);
+
+/// Makes one slip somewhere in the lines.
+pub fn make(random: &mut Random, lines: &mut Lines) {
+    let sorts: [Sort; 7] = [
+        (of_lines::in_order, 8),
+        (of_lines::of_terms, 16),
+        (of_bytes::in_line, 8),
+        (of_tokens::in_number, 24),
+        (of_tokens::in_word, 26),
+        (of_tokens::in_mark, 5),
+        (of_lists::in_list, 40),
+    ];
+    random.weighted(&sorts)(random, lines);
+}
+
+/// Makes one slip in a single entry of a list.
+pub fn in_entry(random: &mut Random, entry: &str) -> String {
+    let mut lines = vec![entry.as_bytes().to_vec()];
+    let sorts: [Sort; 3] =
+        [(of_tokens::in_number, 3), (of_tokens::in_word, 3), (of_tokens::in_mark, 1)];
+    random.weighted(&sorts)(random, &mut lines);
+    String::from_utf8(lines.remove(0)).expect("slips in tokens keep to letters")
+}
+
+/// One of the lines; no slip leaves none at all.
+fn any_line<'a>(random: &mut Random, lines: &'a mut Lines) -> &'a mut Vec<u8> {
+    let place = random.below(lines.len());
+    &mut lines[place]
+}

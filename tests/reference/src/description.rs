@@ -1,0 +1,68 @@
+//! A description as it is written, and what it may be refused with.
+
+/// A refusal: its number, and the line it is given for (0 for none).
+#[derive(Clone, Copy, Debug, PartialEq, Eq)]
+pub struct Refusal {
+    pub reason: u8,
+    pub line: usize,
+}
+
+/// A label as written: names with counts, in the order they stand in.
+pub type Parts<N> = Vec<(N, u64)>;
+
+/// A term. `N` is a name: a word while only the form was looked at, a number
+/// once the name was found among those given.
+#[derive(Clone, Debug)]
+pub enum Term<N> {
+    Act(N),
+    Tau,
+    Delta,
+    Ref(usize),
+    One(OneKind, usize),
+    Two(TwoKind, usize, usize),
+    With(usize, List<N>),
+}
+
+#[derive(Clone, Copy, Debug, PartialEq, Eq)]
+pub enum OneKind {
+    Sum,
+    Cond,
+}
+
+#[derive(Clone, Copy, Debug, PartialEq, Eq)]
+pub enum TwoKind {
+    Choice,
+    IfElse,
+    Seq,
+    Merge,
+    LMerge,
+    Sync,
+}
+
+/// The list behind the operand, for the kinds that have one.
+#[derive(Clone, Debug)]
+pub enum List<N> {
+    Block(Vec<N>),
+    Hide(Vec<N>),
+    Rename(Vec<(N, N)>),
+    Comm(Vec<(Parts<N>, N)>),
+    Allow(Vec<Parts<N>>),
+}
+
+/// The labels that the answer is cut to.
+#[derive(Clone, Debug)]
+pub enum Order<N> {
+    All,
+    Only(Vec<Parts<N>>),
+}
+
+/// A well-formed description.
+#[derive(Clone, Debug)]
+pub struct Description {
+    pub names: Vec<String>,
+    pub terms: Vec<Term<usize>>,
+    /// The body of each equation.
+    pub bodies: Vec<usize>,
+    pub root: usize,
+    pub order: Order<usize>,
+}

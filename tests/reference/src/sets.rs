@@ -1,0 +1,104 @@
+//! The set that each kind of term has.
+
+use crate::bag::Bag;
+use crate::description::{List, Parts, Term, TwoKind};
+use crate::label_set::{LabelSet, TooLarge};
+
+/// Works out one term's set from those of the terms before it and from the
+/// sets that the equations had in the round before.
+pub struct Workings<'a> {
+    pub names: usize,
+    pub earlier: &'a [LabelSet],
+    pub equations: &'a [LabelSet],
+}
+
+impl Workings<'_> {
+    pub fn set_of(&self, term: &Term<usize>) -> Result<LabelSet, TooLarge> {
+        match term {
+            Term::Act(name) => {
+                LabelSet::from_labels([Bag::of_parts(self.names, &[(*name, 1)])].into_iter())
+            }
+            Term::Tau => LabelSet::from_labels([Bag::tau(self.names)].into_iter()),
+            Term::Delta => Ok(LabelSet::default()),
+            Term::Ref(equation) => Ok(self.equations[*equation].clone()),
+            Term::One(_, operand) => Ok(self.earlier[*operand].clone()),
+            Term::Two(kind, left, right) => {
+                set_of_two(*kind, &self.earlier[*left], &self.earlier[*right])
+            }
+            Term::With(operand, list) => self.set_with(&self.earlier[*operand], list),
+        }
+    }
+
+    fn set_with(&self, operand: &LabelSet, list: &List<usize>) -> Result<LabelSet, TooLarge> {
+        let labels = operand.iter();
+        match list {
+            List::Block(names) => {
+                LabelSet::from_labels(labels.filter(|label| !label.has_any_of(names)).cloned())
+            }
+            List::Hide(names) => {
+                LabelSet::from_labels(labels.map(|label| label.without_names(names)))
+            }
+            List::Rename(pairs) => {
+                let images = images(self.names, pairs);
+                LabelSet::from_labels(labels.map(|label| label.renamed(&images)))
+            }
+            List::Comm(rules) => communicated(self.names, operand, rules),
+            List::Allow(listed) => cut_to(self.names, operand, listed),
+        }
+    }
+}
+
+fn set_of_two(kind: TwoKind, left: &LabelSet, right: &LabelSet) -> Result<LabelSet, TooLarge> {
+    let mut set = LabelSet::default();
+    let has_both = kind != TwoKind::Sync;
+    let has_product = matches!(kind, TwoKind::Merge | TwoKind::LMerge | TwoKind::Sync);
+    if has_both {
+        set.add_all(left.iter().chain(right.iter()).cloned())?;
+    }
+    if has_product {
+        for label in left.iter() {
+            set.add_all(right.iter().map(|other| label.plus(other)))?;
+        }
+    }
+    Ok(set)
+}
+
+/// The renaming as a map: every name to itself, but for the pairs.
+fn images(names: usize, pairs: &[(usize, usize)]) -> Vec<usize> {
+    let mut images: Vec<usize> = (0..names).collect();
+    for (from, to) in pairs {
+        images[*from] = *to;
+    }
+    images
+}
+
+/// Each label, and what the rules make of it, and again from that. A label
+/// already found is not followed again: many orders of the same applications
+/// lead to it.
+fn communicated(
+    names: usize,
+    operand: &LabelSet,
+    rules: &[(Parts<usize>, usize)],
+) -> Result<LabelSet, TooLarge> {
+    let rules: Vec<(Bag, Bag)> = rules
+        .iter()
+        .map(|(left, right)| (Bag::of_parts(names, left), Bag::of_parts(names, &[(*right, 1)])))
+        .collect();
+    let mut found = LabelSet::default();
+    let mut waiting: Vec<Bag> = operand.iter().cloned().collect();
+    while let Some(label) = waiting.pop() {
+        if found.add(label.clone())? {
+            for (left, right) in &rules {
+                waiting.extend(label.minus(left).map(|rest| rest.plus(right)));
+            }
+        }
+    }
+    Ok(found)
+}
+
+/// The labels that are listed, and tau: it is never cut.
+pub fn cut_to(names: usize, set: &LabelSet, listed: &[Parts<usize>]) -> Result<LabelSet, TooLarge> {
+    let listed: Vec<Bag> = listed.iter().map(|parts| Bag::of_parts(names, parts)).collect();
+    let stays = |label: &&Bag| label.is_tau() || listed.contains(label);
+    LabelSet::from_labels(set.iter().filter(stays).cloned())
+}

@@ -1,0 +1,59 @@
+//! Both sides of each limit of the reading, apart from those that fit into
+//! one line.
+
+use super::{answered, as_strs, refused, Case};
+
+/// The text of a description with so many names, terms and equations, whose
+/// last term and order are as given.
+fn text(names: usize, terms: usize, equations: usize, last: &str, order: &str) -> String {
+    let names: Vec<String> = (0..names).map(|number| format!("n{}", number)).collect();
+    let names = as_strs(&names);
+    let mut lines = vec!["act n0"; terms - 1];
+    lines.push(last);
+    let bodies = vec![terms - 1; equations];
+    Case { names: &names, terms: &lines, bodies: &bodies, root: 0, order }.text()
+}
+
+#[test]
+fn counts_of_lines() {
+    let is_read = |text: String| text.starts_with("answer=ok\n");
+    assert!(is_read(text(12, 96, 16, "act n11", "all")));
+    assert_eq!(text(13, 96, 16, "act n11", "all"), refused(2, 1));
+    assert_eq!(text(12, 96, 17, "act n11", "all"), refused(2, 14));
+    assert_eq!(text(12, 97, 16, "act n11", "all"), refused(2, 15));
+}
+
+/// Lists of 32 and 33 labels, in an allow and in the order. The further
+/// entries of a list that is too long are still looked at.
+#[test]
+fn labels_of_a_list() {
+    let labels = |count: usize, last: &str| {
+        let counted = (0..count).map(|place| format!("n{}:{}", place / 31, place % 31 + 1));
+        counted.chain([String::from(last)]).collect::<Vec<_>>().join(",")
+    };
+    let cases = [(31, "n2:1", 0), (32, "n2:1", 5), (32, "zz:1", 3), (32, "n2", 2), (32, "n0:1", 5)];
+    for (count, last, reason) in cases {
+        let list = labels(count, last);
+        let in_allow = text(12, 2, 0, &format!("allow 0 {}", list), "all");
+        let in_order = text(12, 2, 0, "tau", &list);
+        let expected = |line| match reason {
+            0 => answered(1, "n0:1"),
+            _ => refused(reason, line),
+        };
+        assert_eq!(in_allow, expected(17), "{}", list);
+        assert_eq!(in_order, expected(19), "{}", list);
+    }
+}
+
+/// Counts of several names that add up to more than a byte holds (14, eleven
+/// times 22, so 256; 14 and eleven times 99, so 1,103) are over 31 as well.
+#[test]
+fn actions_of_a_long_label() {
+    let cases = [(0, 0, true), (1, 17, true), (1, 18, false), (11, 22, false), (11, 99, false)];
+    for (others, count, is_legal) in cases {
+        let others = (1..=others).map(|name| format!(".n{}:{}", name, count));
+        let label = format!("n0:14{}", others.collect::<String>());
+        let expected = if is_legal { answered(1, "") } else { refused(5, 19) };
+        assert_eq!(text(12, 2, 0, "tau", &label), expected, "{}", label);
+    }
+}

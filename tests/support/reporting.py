@@ -1,0 +1,118 @@
+"""What the reference says of the records that programs are compared with.
+
+A comparison shows nothing about what is never tried; so whatever should be
+tried must not be rare among the records.
+"""
+
+import collections
+import re
+
+from support.programs import Failed
+
+ANSWERED = 0
+OUTCOMES = [ANSWERED, 1, 2, 3, 4, 5, 6, 7]
+
+# A refusal number, or the answer, with fewer records than this is rare.
+FEW_RECORDS = 1000
+# The same for a refusal number on one kind of line.
+FEW_ON_A_KIND = 40
+# The same for a kind of term in descriptions that are answered.
+FEW_WITH_A_KIND = 2000
+
+# The same for descriptions that are answered after many rounds.
+MANY_ROUNDS = 100
+FEW_WITH_MANY_ROUNDS = 100
+
+KINDS_OF_TERM = (
+    "act tau delta ref sum cond choice ifelse seq merge lmerge sync"
+    " block hide rename comm allow"
+).split()
+
+# The numbers that a line of each kind can be refused with.
+POSSIBLE = {
+    **dict.fromkeys(["names", "equations", "terms", "tau", "delta"], [2]),
+    **dict.fromkeys(["name", "act"], [2, 3]),
+    **dict.fromkeys(["ref", "sum", "cond", "equation", "root"], [2, 4]),
+    **dict.fromkeys(["choice", "ifelse", "seq", "merge", "lmerge"], [2, 4]),
+    **dict.fromkeys(["block", "hide", "rename", "comm", "allow"], [2, 3, 4, 5]),
+    "sync": [2, 4, 6],
+    "order": [2, 3, 5],
+}
+
+
+def report(sample):
+    """Prints the counts; ends with Failed if anything is rare."""
+    by_class = collections.defaultdict(collections.Counter)
+    by_kind = collections.defaultdict(collections.Counter)
+    answered_with = collections.Counter()
+    rounds = []
+    for record, text, name in zip(sample.records, sample.texts, sample.classes):
+        outcome, second = outcome_of(text)
+        by_class[name][outcome] += 1
+        by_class["together"][outcome] += 1
+        if outcome == ANSWERED:
+            rounds.append(second)
+            answered_with.update({kind_of(line) for line in record.split(b"\n")})
+        else:
+            by_kind[kind_at(record, second)][outcome] += 1
+    show("class", by_class)
+    show("line refused", by_kind)
+    long = sum(count >= MANY_ROUNDS for count in rounds)
+    print(f"most rounds: {max(rounds, default=0)}, {MANY_ROUNDS} or more: {long} records")
+    found = rare(by_class["together"], by_kind, answered_with)
+    if long < FEW_WITH_MANY_ROUNDS:
+        found.append(f"{long} with {MANY_ROUNDS} rounds or more")
+    if found:
+        raise Failed("too few records: " + "; ".join(found))
+
+
+def outcome_of(text):
+    """The outcome, and the rounds of an answer or the line of a refusal."""
+    answer = re.match(rb"answer=ok\nrounds=(\d+)\n", text)
+    if answer:
+        return ANSWERED, int(answer[1])
+    refusal = re.fullmatch(rb"answer=refused\nreason=(\d)\nline=(\d+)\n", text)
+    if not refusal:
+        raise Failed(f"the reference printed {text!r}")
+    return int(refusal[1]), int(refusal[2])
+
+
+def kind_at(record, line):
+    """The kind of the line with this number, from 1; 0 stands for no line."""
+    lines = record.split(b"\n")
+    return kind_of(lines[line - 1]) if 0 < line <= len(lines) else "-"
+
+
+def kind_of(line):
+    """The key of a line, or the kind of its term; `-` if it has neither."""
+    key, _, value = line.partition(b"=")
+    word = (value.partition(b" ")[0] if key == b"term" else key).decode("latin-1")
+    return word if word in POSSIBLE else "-"
+
+
+def show(title, rows):
+    heads = ["answered" if outcome == ANSWERED else str(outcome) for outcome in OUTCOMES]
+    print(f"{title:20}" + "".join(f"{head:>9}" for head in heads))
+    for name, counts in sorted(rows.items(), key=lambda row: (row[0] == "together", row[0])):
+        print(f"{name:20}" + "".join(f"{counts[outcome] or '.':>9}" for outcome in OUTCOMES))
+
+
+def rare(together, by_kind, answered_with):
+    """What there are too few records of, told one by one."""
+    found = [
+        f"{together[outcome]} with outcome {outcome}"
+        for outcome in OUTCOMES
+        if together[outcome] < FEW_RECORDS
+    ]
+    found += [
+        f"{by_kind[kind][number]} with {number} on a line of {kind}"
+        for kind, numbers in POSSIBLE.items()
+        for number in numbers
+        if by_kind[kind][number] < FEW_ON_A_KIND
+    ]
+    found += [
+        f"{answered_with[kind]} answered with a term of {kind}"
+        for kind in KINDS_OF_TERM
+        if answered_with[kind] < FEW_WITH_A_KIND
+    ]
+    return found
