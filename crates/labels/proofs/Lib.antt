@@ -1,0 +1,4 @@
+-- The laws of packed labels, each file after those that it cites.
+pub mod Words
+pub mod Lists
+pub mod Meant

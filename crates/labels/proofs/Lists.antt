@@ -1,0 +1,177 @@
+-- Lists of names and maps of names, one entry more at a time.
+-- Assumes nothing.
+use mathlib.Core.Path.{_≡_, refl, sym, ap, ap₂, subst, _∙_}
+use mathlib.Core.Bool.{Bool, true, false, _&&_}
+use mathlib.Core.List.{List, [], _∷_, map}
+use Prim.Native.Nat.{ℕ, zero, suc, _+_, _*_, _-_, _/_, _%_, _^_, _≤_, _<_, zero-le}
+use native.Mathlib.Nat.{add-zero, add-suc, suc-add, not-suc-le-zero, le-refl, one-mul, mul-zero, mul-le-mul, pow-le-pow-right}
+use native.Mathlib.Numerals.{add-one}
+use native.Mathlib.Omega.{arith}
+use borrow.Author.Tests.{eq-eqb, ne-eqb}
+use lib.Dec.{eqb, lit<, lit≤}
+use native.Mathlib.Decide.{decLt}
+use lib.ListN.{length, getD, set, drop, drop-of-length-le}
+use lib.Seq.{drop-cons, set-out}
+use Rattle.meaning.specs.Labels.{Label, count, number, labelOf, several, plus, clear, without, renamed, renamedFrom}
+use Rattle.meaning.specs.Descriptions.{Pair}
+use Rattle.meaning.specs.Rounds.{pick, target}
+use Rattle.meaning.proofs.Bags.{number-plus}
+use Rattle.labels.specs.Bags.{bag}
+use Rattle.labels.specs.Names.{pairOf, pairsIn, listed, targets}
+use Rattle.labels.proofs.Words.{number-bag, bag-cleared, number-less, number-several, number-none}
+
+-- The list from the place before a given one.
+from-before : (l : List ℕ) (i n : ℕ) → 0 < i → i ≤ length l → n ≡ getD l (i - 1) 0 → drop (i - 1) l ≡ n ∷ drop i l
+from-before l i n p h e =
+    let s : suc (i - 1) ≡ i = omega arith in
+    drop-cons l (i - 1) 0 (omega arith) ∙ ap₂ {C = List ℕ} _∷_ (sym e) (ap (λ (k : ℕ). drop k l) s)
+
+-- A word w without the names from the i-th of the list on.
+pub record Hidden (names : List ℕ) (w i left : ℕ) : Type 0 where
+  pub within : i ≤ length names
+  pub fits : left < 2 ^ 64
+  pub hidden : bag left ≡ without (drop i names) (bag w)
+
+pub hidden-start : (names : List ℕ) (w : ℕ) → w < 2 ^ 64 → Hidden names w (length names) w
+unfolding without
+hidden-start names w h = record { within = le-refl (length names); fits = h; hidden = rw (drop-of-length-le names (le-refl (length names))) }
+
+pub hidden-more : {names : List ℕ} {w i left n next : ℕ} → Hidden names w i left → 0 < i → n ≡ getD names (i - 1) 0
+    → next ≡ number (without (n ∷ []) (bag left)) → Hidden names w (i - 1) next
+unfolding without
+hidden-more {names} {w} {i} {left} {n} {next} x p e r = record {
+  within = let h = x .within in omega arith;
+  fits = let h = number-less (bag left) n in let k = number-bag left (x .fits) in let l = x .fits in omega arith;
+  hidden = ap bag r ∙ bag-cleared left n ∙ ap (λ (a : Label). set a n 0) (x .hidden)
+      ∙ sym (ap (λ (l : List ℕ). without l (bag w)) (from-before names i n p (x .within) e));
+}
+
+pub hidden-all : {names : List ℕ} {w i left : ℕ} → Hidden names w i left → i ≤ 0 → left ≡ number (without names (bag w))
+hidden-all {names} {w} {i} {left} x h =
+    let z : i ≡ 0 = omega arith in
+    sym (number-bag left (x .fits)) ∙ ap number (x .hidden) ∙ ap (λ (k : ℕ). number (without (drop k names) (bag w))) z
+
+-- The names from the i-th on decide whether none occurs.
+pub clear-fails : (names : List ℕ) (a : Label) (i n : ℕ) → i < length names → n ≡ getD names i 0 → (count a n ≡ 0 → ⊥) → clear (drop i names) a ≡ false
+unfolding clear
+clear-fails names a i n h e k = rw (drop-cons names i 0 h, ← e, ne-eqb (count a n) 0 k)
+
+pub clear-goes : (names : List ℕ) (a : Label) (i n : ℕ) → i < length names → n ≡ getD names i 0 → count a n ≡ 0 → clear (drop (i + 1) names) a ≡ clear (drop i names) a
+unfolding clear
+clear-goes names a i n h e k = rw (add-one i, drop-cons names i 0 h, ← e, eq-eqb (count a n) 0 k)
+
+pub clear-ends : (names : List ℕ) (a : Label) (i : ℕ) → length names ≤ i → clear (drop i names) a ≡ true
+unfolding clear
+clear-ends names a i h = rw (drop-of-length-le names h)
+
+-- A map with one more name sent elsewhere is its list with one entry set.
+listed-equal : (more first : ℕ) (f g : ℕ → ℕ) → ((n : ℕ) → first ≤ n → f n ≡ g n) → listed more first f ≡ listed more first g
+unfolding listed
+listed-equal zero first f g h = refl
+listed-equal (suc more) first f g h = ap₂ {C = List ℕ} _∷_ (h first (le-refl first)) (listed-equal more (suc first) f g (λ n k. h n (omega arith)))
+
+abbrev sent : (ℕ → ℕ) → ℕ → ℕ → ℕ → ℕ
+sent f left right n = pick (eqb n left) right (f n)
+
+sent-there : (f : ℕ → ℕ) (left right n : ℕ) → n ≡ left → sent f left right n ≡ right
+sent-there f left right n e = rw (eq-eqb n left e)
+
+sent-elsewhere : (f : ℕ → ℕ) (left right n : ℕ) → (n ≡ left → ⊥) → sent f left right n ≡ f n
+sent-elsewhere f left right n h = rw (ne-eqb n left h)
+
+set-listed : (more first n v : ℕ) (f : ℕ → ℕ) → set (listed more first f) n v ≡ listed more first (sent f (first + n) v)
+unfolding listed
+set-listed zero first n v f = refl
+set-listed (suc more) first zero v f =
+    ap₂ {C = List ℕ} _∷_ (sym (sent-there f (first + 0) v first (omega arith)))
+    (listed-equal more (suc first) f (sent f (first + 0) v) (λ n k. sym (sent-elsewhere f (first + 0) v n (omega arith))))
+set-listed (suc more) first (suc n) v f =
+    let e : suc first + n ≡ first + suc n = omega arith in
+    ap₂ {C = List ℕ} _∷_ (sym (sent-elsewhere f (first + suc n) v first (omega arith)))
+    (set-listed more (suc first) n v f ∙ ap (λ (k : ℕ). listed more (suc first) (sent f k v)) e)
+
+pub set-target : (ps : List Pair) (p : Pair) → set (targets ps) (p .left) (p .right) ≡ targets (p ∷ ps)
+unfolding target
+set-target ps p =
+    let e : 0 + p .left ≡ p .left = omega arith in
+    set-listed 12 0 (p .left) (p .right) (target ps) ∙ ap (λ (k : ℕ). listed 12 0 (sent (target ps) k (p .right))) e
+
+pub length-listed : (more first : ℕ) (f : ℕ → ℕ) → length (listed more first f) ≡ more
+unfolding listed
+length-listed zero first f = refl
+length-listed (suc more) first f = ap suc (length-listed more (suc first) f)
+
+-- The list of a map before and after one more pair is read, the last first. An entry past the 12 names changes nothing.
+pub record Filled (pairs : List ℕ) (i : ℕ) (to : List ℕ) : Type 0 where
+  pub within : i ≤ length pairs
+  pub filled : to ≡ targets (pairsIn (drop i pairs))
+
+pub filled-start : (pairs : List ℕ) → Filled pairs (length pairs) (0 ∷ 1 ∷ 2 ∷ 3 ∷ 4 ∷ 5 ∷ 6 ∷ 7 ∷ 8 ∷ 9 ∷ 10 ∷ 11 ∷ [])
+unfolding listed target
+filled-start pairs = record { within = le-refl (length pairs); filled = rw (drop-of-length-le pairs (le-refl (length pairs))) }
+
+pub filled-more : {pairs : List ℕ} {i : ℕ} {to : List ℕ} (pair : ℕ) → Filled pairs i to → 0 < i → pair ≡ getD pairs (i - 1) 0
+    → Filled pairs (i - 1) (set to (pair % 32) (pair / 32))
+filled-more {pairs} {i} {to} pair x p e = record {
+  within = let h = x .within in omega arith;
+  filled = ap (λ (l : List ℕ). set l (pair % 32) (pair / 32)) (x .filled) ∙ set-target (pairsIn (drop i pairs)) (pairOf pair)
+      ∙ sym (ap (λ (l : List ℕ). targets (pairsIn l)) (from-before pairs i pair p (x .within) e));
+}
+
+pub filled-skips : {pairs : List ℕ} {i : ℕ} {to : List ℕ} (pair : ℕ) → Filled pairs i to → 0 < i → pair ≡ getD pairs (i - 1) 0
+    → 12 ≤ pair % 32 → Filled pairs (i - 1) to
+filled-skips {pairs} {i} {to} pair x p e h =
+    let l = ap length (x .filled) ∙ length-listed 12 0 (target (pairsIn (drop i pairs))) in
+    subst (Filled pairs (i - 1)) (set-out to (pair % 32) (pair / 32) (omega arith)) (filled-more pair x p e)
+
+pub filled-all : {pairs : List ℕ} {i : ℕ} {to : List ℕ} → Filled pairs i to → i ≤ 0 → to ≡ targets (pairsIn pairs)
+filled-all {pairs} {i} x h = let z : i ≡ 0 = omega arith in x .filled ∙ ap (λ (k : ℕ). targets (pairsIn (drop k pairs))) z
+
+-- A label renamed, its first i names done: what they weigh stands in `word`, and the counts of the others in `rest`.
+pub record Moved (to : ℕ → ℕ) (w i rest word : ℕ) : Type 0 where
+  pub within : i ≤ 12
+  pub fits : word ≤ i * (31 * 2 ^ 55)
+  pub moved : word + number (renamedFrom i 12 to (labelOf (12 - i) rest)) ≡ number (renamed 12 to (labelOf 12 w))
+
+pub moved-start : (to : ℕ → ℕ) (w : ℕ) → Moved to w 0 w 0
+moved-start to w = record { within = lit≤ tt; fits = lit≤ tt; moved = omega arith }
+
+number-single : (n : ℕ) → number (several 12 n 1) ≤ 2 ^ 55
+number-single n = elim (decLt n 12) [
+  | yes h ↦ rw (number-several 12 n 1 h, one-mul (32 ^ n)) (pow-le-pow-right {n = 32} (lit< tt) {j = 11} (omega arith))
+  | no h ↦ rw (number-none 12 n 1 (omega arith)) zero-le
+]
+
+weight : (n x : ℕ) → number (several 12 n x) ≡ x * number (several 12 n 1)
+weight n x = elim (decLt n 12) [
+  | yes h ↦ rw (number-several 12 n x h, number-several 12 n 1 h, one-mul (32 ^ n))
+  | no h ↦ rw (number-none 12 n x (omega arith), number-none 12 n 1 (omega arith), mul-zero x)
+]
+
+pub weight-fits : (n x : ℕ) → x < 32 → x * number (several 12 n 1) ≤ 31 * 2 ^ 55
+weight-fits n x h = let k : x ≤ 31 = omega arith in mul-le-mul k (number-single n)
+
+moved-step : (to : ℕ → ℕ) (i more rest : ℕ)
+    → number (renamedFrom i 12 to (labelOf (suc more) rest)) ≡ rest % 32 * number (several 12 (to i) 1) + number (renamedFrom (suc i) 12 to (labelOf more (rest / 32)))
+unfolding renamedFrom labelOf
+moved-step to i more rest =
+    number-plus (several 12 (to i) (rest % 32)) (renamedFrom (suc i) 12 to (labelOf more (rest / 32)))
+    ∙ ap (λ (x : ℕ). x + number (renamedFrom (suc i) 12 to (labelOf more (rest / 32)))) (weight (to i) (rest % 32))
+
+pub moved-more : {to : ℕ → ℕ} {w i rest word : ℕ} → Moved to w i rest word → i < 12
+    → Moved to w (i + 1) (rest / 32) (word + rest % 32 * number (several 12 (to i) 1))
+moved-more {to} {w} {i} {rest} {word} x h =
+    let more : 12 - i ≡ suc (12 - (i + 1)) = omega arith in
+    let e = rw (more, moved-step to i (12 - (i + 1)) rest, ← add-one i) at (x .moved) in
+    record { within = omega arith; fits = let k = weight-fits (to i) (rest % 32) (omega arith) in let l = x .fits in omega arith; moved = omega arith }
+
+renamed-none : (to : ℕ → ℕ) (rest : ℕ) → number (renamedFrom 12 12 to (labelOf 0 rest)) ≡ 0
+unfolding renamedFrom labelOf number
+renamed-none to rest = refl
+
+pub moved-all : {to : ℕ → ℕ} {w i rest word : ℕ} → Moved to w i rest word → 12 ≤ i → word ≡ number (renamed 12 to (labelOf 12 w))
+moved-all {to} {w} {i} {rest} {word} x h =
+    let t : i ≡ 12 = let l = x .within in omega arith in
+    let e = rw t at (x .moved) in
+    let z = renamed-none to rest in
+    omega arith

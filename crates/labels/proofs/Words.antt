@@ -1,0 +1,138 @@
+-- Words and their digits to base 32.
+-- Assumes nothing.
+use mathlib.Core.Path.{_≡_, refl, sym, ap, ap₂, _∙_}
+use mathlib.Core.Bool.{Bool, true, false, _&&_}
+use mathlib.Core.List.{List, [], _∷_}
+use Prim.Native.Nat.{ℕ, zero, suc, _+_, _*_, _-_, _/_, _%_, _^_, _≤_, _<_, zero-le}
+use native.Mathlib.Nat.{pow-suc, pow-succ', mod-eq-of-lt, zero-mod, zero-div, not-suc-le-zero, mul-comm, mul-assoc, mul-one, one-mul, mul-zero, zero-mul, div-div-eq-div-mul, le-of-suc-le-suc, div-one}
+use native.Mathlib.Omega.{arith}
+use borrow.Author.Tests.{lt-leb, le-leb}
+use lib.Dec.{T, leb, leb·zero, lit<}
+use lib.Pow.{pow-add, pow-lt}
+use lib.ListN.{length, set, length-set}
+use Rattle.meaning.specs.Labels.{Label, count, number, labelOf, empty, several, inside}
+use Rattle.meaning.proofs.Digits.{Small, number-labelOf, labelOf-number, length-labelOf, small-labelOf}
+use Rattle.labels.specs.Bags.{bag}
+
+-- Thirteen digits hold every word.
+pub number-bag : (w : ℕ) → w < 2 ^ 64 → number (bag w) ≡ w
+number-bag w h = number-labelOf 13 w (omega arith)
+
+-- A shift by five bits is a factor of 32.
+pub power : (n : ℕ) → 2 ^ (5 * n) ≡ 32 ^ n
+power zero = refl
+power (suc n) =
+    let e : 5 * suc n ≡ 5 * n + 5 = omega arith in
+    rw e (pow-add 2 (5 * n) 5 ∙ ap (λ (x : ℕ). x * 32) (power n) ∙ sym (pow-suc 32 n))
+
+-- The number of some actions of one name.
+pub number-empty : (names : ℕ) → number (empty names) ≡ 0
+unfolding number
+number-empty zero = refl
+number-empty (suc names) = omega (arith, number-empty names)
+
+pub number-several : (names n x : ℕ) → n < names → number (several names n x) ≡ x * 32 ^ n
+unfolding number
+number-several zero n x h = absurd (not-suc-le-zero h)
+number-several (suc names) zero x h = let e = number-empty names in let k = mul-one x in omega arith
+number-several (suc names) (suc n) x h =
+    let ih = number-several names n x (le-of-suc-le-suc h) in
+    let e : x * 32 ^ suc n ≡ 32 * (x * 32 ^ n) = rw (pow-suc 32 n) (sym (mul-assoc x (32 ^ n) 32) ∙ mul-comm (x * 32 ^ n) 32) in
+    omega arith
+
+pub number-none : (names n x : ℕ) → names ≤ n → number (several names n x) ≡ 0
+unfolding number
+number-none zero n x h = refl
+number-none (suc names) zero x h = absurd (not-suc-le-zero h)
+number-none (suc names) (suc n) x h = omega (arith, number-none names n x (le-of-suc-le-suc h))
+
+-- A digit of a word, and what is left of the word without it.
+pub count-labelOf : (names w n : ℕ) → n < names → count (labelOf names w) n ≡ w / 32 ^ n % 32
+unfolding labelOf
+count-labelOf zero w n h = absurd (not-suc-le-zero h)
+count-labelOf (suc names) w zero h = rw (div-one w)
+count-labelOf (suc names) w (suc n) h =
+    count-labelOf names (w / 32) n (le-of-suc-le-suc h) ∙ ap (λ (x : ℕ). x % 32) (div-div-eq-div-mul w 32 (32 ^ n) ∙ ap (λ (x : ℕ). w / x) (sym (pow-succ' 32 n)))
+
+pub number-cleared : (a : Label) (n : ℕ) → n < length a → number (set a n 0) + count a n * 32 ^ n ≡ number a
+unfolding number
+number-cleared [] n h = absurd (not-suc-le-zero h)
+number-cleared (x ∷ a) zero h = let e = mul-one x in omega arith
+number-cleared (x ∷ a) (suc n) h =
+    let ih = number-cleared a n (le-of-suc-le-suc h) in
+    let e : count a n * 32 ^ suc n ≡ 32 * (count a n * 32 ^ n) = rw (pow-suc 32 n) (sym (mul-assoc (count a n) (32 ^ n) 32) ∙ mul-comm (count a n * 32 ^ n) 32) in
+    omega arith
+
+-- Taking a name out of a word.
+pub number-less : (a : Label) (n : ℕ) → number (set a n 0) ≤ number a
+unfolding number
+number-less [] n = zero-le
+number-less (x ∷ a) zero = omega arith
+number-less (x ∷ a) (suc n) = let ih = number-less a n in omega arith
+
+small-cleared : (a : Label) (n : ℕ) → Small a → Small (set a n 0)
+small-cleared [] n h = h
+small-cleared (x ∷ a) zero h = (lit< tt, h .1)
+small-cleared (x ∷ a) (suc n) h = (h .0, small-cleared a n (h .1))
+
+pub bag-cleared : (w n : ℕ) → bag (number (set (bag w) n 0)) ≡ set (bag w) n 0
+bag-cleared w n =
+    let l : length (set (bag w) n 0) ≡ 13 = length-set (bag w) n 0 ∙ length-labelOf 13 w in
+    rw l at (labelOf-number (set (bag w) n 0) (small-cleared (bag w) n (small-labelOf 13 w)))
+
+pub word-cleared : (w n : ℕ) → w < 2 ^ 64 → n < 13 → number (set (bag w) n 0) + (count (bag w) n * 2 ^ (5 * n)) % 2 ^ 64 ≡ w
+word-cleared w n h k =
+    let e = number-cleared (bag w) n (rw (length-labelOf 13 w) k) ∙ number-bag w h in
+    let m : (count (bag w) n * 32 ^ n) % 2 ^ 64 ≡ count (bag w) n * 32 ^ n = mod-eq-of-lt (omega arith) in
+    rw (power n, m) e
+
+-- Whether a word lies inside another, digit by digit.
+pub fewer-digits : (k w : ℕ) → w < 32 ^ suc k → w / 32 < 32 ^ k
+fewer-digits k w h = let e = pow-suc 32 k in omega arith
+
+pub inside-none : (k large : ℕ) → inside (labelOf k 0) (labelOf k large) ≡ true
+unfolding inside labelOf
+inside-none zero large = refl
+inside-none (suc k) large = rw (leb·zero (large % 32), inside-none k (large / 32))
+
+-- The first of two words has a digit left: some number of digits holds both, and what is left after one.
+pub record Compared (small large : ℕ) (r : Bool) : Type 0 where
+  pub digits : ℕ
+  pub holds : small < 32 ^ digits
+  pub equal : inside (labelOf digits small) (labelOf digits large) ≡ r
+
+pub compared-ends : {large : ℕ} {r : Bool} → Compared 0 large r → true ≡ r
+compared-ends {large} x = sym (inside-none (x .digits) large) ∙ x .equal
+
+digits-positive : (k w : ℕ) → w < 32 ^ k → (w ≡ 0 → ⊥) → (j : ℕ) × (k ≡ suc j)
+digits-positive zero w h n = absurd (n (let k : w < 1 = h in omega arith))
+digits-positive (suc j) w h n = (j, refl)
+
+split-digit : (j small large : ℕ) (r : Bool) → inside (labelOf (suc j) small) (labelOf (suc j) large) ≡ r
+    → leb (small % 32) (large % 32) && inside (labelOf j (small / 32)) (labelOf j (large / 32)) ≡ r
+unfolding inside labelOf
+split-digit j small large r e = e
+
+one-digit : {small large : ℕ} {r : Bool} → Compared small large r → (small ≡ 0 → ⊥)
+    → (j : ℕ) × (small < 32 ^ suc j) × (leb (small % 32) (large % 32) && inside (labelOf j (small / 32)) (labelOf j (large / 32)) ≡ r)
+one-digit {small} {large} {r} x n =
+    let p = digits-positive (x .digits) small (x .holds) n in
+    (p .0, rw (p .1) at (x .holds), split-digit (p .0) small large r (rw (p .1) at (x .equal)))
+
+pub compared-fails : {small large : ℕ} {r : Bool} → Compared small large r → (small ≡ 0 → ⊥) → large % 32 < small % 32 → false ≡ r
+compared-fails {small} {large} x n h = rw (lt-leb (small % 32) (large % 32) h) at (one-digit x n .2)
+
+pub compared-goes : {small large : ℕ} {r : Bool} → Compared small large r → (small ≡ 0 → ⊥) → small % 32 ≤ large % 32
+    → Compared (small / 32) (large / 32) r
+compared-goes {small} {large} x n h =
+    let p = one-digit x n in
+    record { digits = p .0; holds = fewer-digits (p .0) small (p .1); equal = rw (le-leb (small % 32) (large % 32) h) at (p .2) }
+
+-- The label of one action, and a count, by shifts.
+pub word-several : (n : ℕ) → n < 12 → number (several 12 n 1) ≡ (1 * 2 ^ (5 * n)) % 2 ^ 64
+word-several n h =
+    let small : 2 ^ (5 * n) < 2 ^ 64 = pow-lt {j = 64} (omega arith) in
+    number-several 12 n 1 h ∙ ap (λ (x : ℕ). 1 * x) (sym (power n)) ∙ sym (mod-eq-of-lt (rw (one-mul (2 ^ (5 * n))) small))
+
+pub word-count : (w n : ℕ) → n < 13 → count (bag w) n ≡ w / 2 ^ (5 * n) % 32
+word-count w n h = count-labelOf 13 w n h ∙ ap (λ (x : ℕ). w / x % 32) (sym (power n))

@@ -1,0 +1,32 @@
+-- `labels::bags::sum` meets its contract. Assumes nothing.
+use mathlib.Core.Path.{ap}
+use borrow.Author.Needs.{needs}
+use borrow.Author.Tests.{lt-ltb, le-ltb}
+use Rattle.labels.specs.Bags.{sumOf}
+use Rattle.labels.proofs.bags.sum.Statement.{statement}
+use Rattle.labels.proofs.bags.sum.Tie as tie
+
+size-requires : tie.Need-size-requires
+size-requires c κs = search needs
+
+size-requires-2 : tie.Need-size-requires-2
+size-requires-2 c κs = search needs
+
+add-if1 : tie.Need-add-if1
+add-if1 c = search needs
+
+wrapping-add-u64-requires : tie.Need-wrapping-add-u64-requires
+wrapping-add-u64-requires c κs = search needs
+
+returns : tie.Need-returns
+unfolding sumOf
+returns c = rw (← c .before .before .size .ensures, ← c .before .size2 .ensures, lt-ltb _ _ (c .if1 .taken))
+
+returns-2 : tie.Need-returns-2
+unfolding sumOf
+returns-2 c = rw (← c .before .before .before .size .ensures, ← c .before .before .size2 .ensures, le-ltb _ _ (c .before .if1 .left), ← c .wrapping-add-u64 .ensures)
+
+pub sum-spec : {M : Type 1} → statement M
+sum-spec =
+    tie.close
+    (tie.spec size-requires size-requires-2 add-if1 wrapping-add-u64-requires returns returns-2)

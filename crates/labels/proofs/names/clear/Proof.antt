@@ -1,0 +1,65 @@
+-- `labels::names::clear` meets its contract. The loop's invariant: the names from the i-th on decide; the measure is how many
+-- they are. Assumes nothing.
+use mathlib.Core.Path.{_≡_, refl, sym, _∙_}
+use Prim.Native.Nat.{_-_}
+use native.Mathlib.Omega.{arith}
+use borrow.Author.Needs.{needs}
+use lib.ListN.{length, drop}
+use Rattle.meaning.specs.Labels.{clear}
+use Rattle.labels.specs.Bags.{bag}
+use Rattle.labels.proofs.Lists.{clear-fails, clear-goes, clear-ends}
+use Rattle.labels.proofs.names.clear.Statement.{statement}
+use Rattle.labels.proofs.names.clear.Tie as tie
+
+abbrev Inv-loop : tie.InvT-loop
+Inv-loop a names i₀ i = clear (drop i names) (bag (a .word)) ≡ clear names (bag (a .word))
+
+abbrev μ-loop : tie.MeasureT-loop
+μ-loop a names i₀ i = length names - i
+
+loop-holds : tie.Need-loop-holds Inv-loop μ-loop
+loop-holds c = refl
+
+word-at-requires : tie.Need-word-at-requires Inv-loop μ-loop
+word-at-requires c κs = search needs
+
+count-requires : tie.Need-count-requires Inv-loop μ-loop
+count-requires c κs = search needs
+
+returns : tie.Need-returns Inv-loop μ-loop
+returns c =
+    let d = c .before .before .before .before .before .before .args in
+    sym (clear-fails (d .names .now) (bag (d .a .word)) (c .before .before .before .before .loop .i) (c .before .before .word-at .result) (c .before .before .before .loop-test .taken)
+    (c .before .before .word-at .ensures) (λ z. c .if1 .taken (c .before .count .ensures .exact ∙ z))) ∙ c .before .before .before .before .loop .inv
+
+add-i : tie.Need-add-i Inv-loop μ-loop
+add-i c = omega arith
+
+loop-less : tie.Need-loop-less Inv-loop μ-loop
+loop-less c = omega arith
+
+loop-again : tie.Need-loop-again Inv-loop μ-loop
+loop-again c =
+    let d = c .before .before .before .before .before .before .args in
+    clear-goes (d .names .now) (bag (d .a .word)) (c .before .before .before .before .loop .i) (c .before .before .word-at .result) (c .before .before .before .loop-test .taken)
+    (c .before .before .word-at .ensures) (sym (c .before .count .ensures .exact) ∙ c .if1 .left) ∙ c .before .before .before .before .loop .inv
+
+returns-2 : tie.Need-returns-2 Inv-loop μ-loop
+returns-2 c =
+    let d = c .before .before .before .args in
+    sym (clear-ends (d .names .now) (bag (d .a .word)) (c .before .loop .i) (c .loop-test .left)) ∙ c .before .loop .inv
+
+pub clear-spec : {M : Type 1} → statement M
+clear-spec =
+    tie.close
+    (tie.spec
+    Inv-loop
+    μ-loop
+    loop-holds
+    word-at-requires
+    count-requires
+    returns
+    add-i
+    loop-less
+    loop-again
+    returns-2)

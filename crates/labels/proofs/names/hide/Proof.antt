@@ -1,0 +1,55 @@
+-- `labels::names::hide` meets its contract. The loop's invariant: the word stands for the bag without the names from the i-th
+-- on; the measure is i. Assumes nothing.
+use mathlib.Core.Path.{_≡_, sym, ap, _∙_}
+use mathlib.Core.List.{_∷_}
+use Prim.Native.Nat.{_≤_, _<_, _^_, suc}
+use native.Mathlib.Omega.{arith}
+use borrow.Author.Needs.{needs}
+use lib.ListN.{length, drop}
+use Rattle.meaning.specs.Labels.{without}
+use Rattle.labels.specs.Packing.{packed}
+use Rattle.labels.specs.Bags.{bag}
+use Rattle.labels.proofs.Lists.{Hidden, hidden-start, hidden-more, hidden-all}
+use Rattle.labels.proofs.names.hide.Statement.{statement}
+use Rattle.labels.proofs.names.hide.Tie as tie
+
+abbrev Inv-loop : tie.InvT-loop
+Inv-loop names left₀ i₀ left i = Hidden names (left₀ .word) i (left .word)
+
+abbrev μ-loop : tie.MeasureT-loop
+μ-loop names left₀ i₀ left i = i
+
+loop-holds : tie.Need-loop-holds Inv-loop μ-loop
+loop-holds c = hidden-start (c .before .args .names .now) (c .before .args .a .word) (omega arith)
+
+sub-i : tie.Need-sub-i Inv-loop μ-loop
+sub-i c = search needs
+
+word-at-requires : tie.Need-word-at-requires Inv-loop μ-loop
+word-at-requires c κs = search needs
+
+hide-one-requires : tie.Need-hide-one-requires Inv-loop μ-loop
+hide-one-requires c κs = search needs
+
+loop-less : tie.Need-loop-less Inv-loop μ-loop
+loop-less c = omega arith
+
+loop-again : tie.Need-loop-again Inv-loop μ-loop
+loop-again c = hidden-more (c .before .before .before .loop .inv) (c .before .before .loop-test .taken) (c .before .word-at .ensures) (ap (λ x. x .word) (c .hide-one .ensures))
+
+returns : tie.Need-returns Inv-loop μ-loop
+returns c = ap packed (hidden-all (c .before .loop .inv) (c .loop-test .left))
+
+pub hide-spec : {M : Type 1} → statement M
+hide-spec =
+    tie.close
+    (tie.spec
+    Inv-loop
+    μ-loop
+    loop-holds
+    sub-i
+    word-at-requires
+    hide-one-requires
+    loop-less
+    loop-again
+    returns)

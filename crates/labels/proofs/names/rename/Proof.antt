@@ -1,0 +1,70 @@
+-- `labels::names::rename` meets its contract. The loop's invariant is `Moved`: what the first i names weigh, and what is left;
+-- the measure is how many names are left. Assumes nothing.
+use mathlib.Core.Path.{_≡_, sym, ap, subst, _∙_}
+use Prim.Native.Nat.{ℕ, _-_, _*_, _+_, _≤_, _%_, _^_}
+use native.Mathlib.Omega.{arith}
+use borrow.Author.Needs.{needs}
+use lib.ListN.{getD}
+use Rattle.labels.specs.Packing.{packed}
+use Rattle.labels.proofs.Lists.{Moved, moved-start, moved-more, moved-all, weight-fits}
+use Rattle.labels.proofs.names.rename.Statement.{statement}
+use Rattle.labels.proofs.names.rename.Tie as tie
+
+abbrev Inv-loop : tie.InvT-loop
+Inv-loop to rest₀ word₀ i₀ rest word i = Moved (λ n. getD to n 0) rest₀ i rest word
+
+abbrev μ-loop : tie.MeasureT-loop
+μ-loop to rest₀ word₀ i₀ rest word i = 12 - i
+
+loop-holds : tie.Need-loop-holds Inv-loop μ-loop
+loop-holds c = moved-start (λ n. getD (c .args .t2) n 0) (c .args .a .word)
+
+mul-single : tie.Need-mul-single Inv-loop μ-loop
+mul-single c = omega arith
+
+array-read-single : tie.Need-array-read-single Inv-loop μ-loop
+array-read-single c = omega arith
+
+single-requires : tie.Need-single-requires Inv-loop μ-loop
+single-requires c κs = search needs
+
+-- what the i-th name adds
+added : (c : tie.After-struct-known Inv-loop μ-loop) → c .before .before .before .loop .rest % 32 * c .before .single .result .word ≤ 31 * 2 ^ 55
+added c =
+    rw (ap (λ x. x .word) (c .before .single .ensures))
+    (weight-fits (getD (c .before .before .before .before .args .t2) (c .before .before .before .loop .i) 0) (c .before .before .before .loop .rest % 32) (omega arith))
+
+mul-word : tie.Need-mul-word Inv-loop μ-loop
+mul-word c = omega (arith, added c)
+
+add-word : tie.Need-add-word Inv-loop μ-loop
+add-word c = omega (arith, added c, c .before .before .before .loop .inv .fits)
+
+add-i : tie.Need-add-i Inv-loop μ-loop
+add-i c = omega arith
+
+loop-less : tie.Need-loop-less Inv-loop μ-loop
+loop-less c = omega arith
+
+loop-again : tie.Need-loop-again Inv-loop μ-loop
+loop-again c = rw (ap (λ x. x .word) (c .before .single .ensures)) (moved-more (c .before .before .before .loop .inv) (c .before .before .loop-test .taken))
+
+returns : tie.Need-returns Inv-loop μ-loop
+returns c = ap packed (moved-all (c .before .loop .inv) (c .loop-test .left))
+
+pub rename-spec : {M : Type 1} → statement M
+rename-spec =
+    tie.close
+    (tie.spec
+    Inv-loop
+    μ-loop
+    loop-holds
+    mul-single
+    array-read-single
+    single-requires
+    mul-word
+    add-word
+    add-i
+    loop-less
+    loop-again
+    returns)

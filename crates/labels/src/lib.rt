@@ -1,0 +1,23 @@
+// A label packed in a word: name n's count stands in the five bits from bit 5n on, so that the word is the label's number.
+// The word's size is met in `packing` alone, which reads, writes and compares labels; what is made of bags of actions is
+// in `bags`, and what is made of names is in `names`. Every function answers for every word, also one that packs no label.
+pub mod bags;
+pub mod names;
+pub mod packing;
+
+// How many names there are at most, how many words a label takes, and how many actions it may have.
+pub const NAMES: usize = 12;
+
+pub const LABEL_WORDS: usize = 1;
+
+pub const MOST_ACTIONS: u64 = 31;
+
+pub struct Label {
+    pub word: u64,
+}
+
+// The sum of two labels, or that it has over 31 actions.
+pub enum Sum {
+    Over,
+    Of(Label),
+}

@@ -1,0 +1,14 @@
+-- The laws of sets in words, each file after those that it cites.
+pub mod Laid
+pub mod Halving
+pub mod Insertion
+pub mod Steps
+pub mod Closure
+pub mod Walking
+pub mod Listing
+pub mod Sorting
+pub mod Parts
+pub mod Uniting
+pub mod Meant
+pub mod Ways
+pub mod Communication

@@ -1,0 +1,213 @@
+-- Sets that are built step by step: a step never shortens a set and never takes it past the room; and what the words hold
+-- after some steps, with what is to come, is what is wanted.
+-- Assumes nothing.
+use mathlib.Core.Path.{_≡_, refl, sym, ap, ap₂, subst, _∙_}
+use mathlib.Core.Bool.{Bool, true, false}
+use mathlib.Core.List.{List, [], _∷_, _++_}
+use Prim.Native.Nat.{ℕ, zero, suc, _+_, _-_, _≤_, _<_, max, min}
+use native.Mathlib.Omega.{arith}
+use borrow.Author.Tests.{ltb-true}
+use lib.Dec.{ltb}
+use lib.ListN.{length, getD, take, drop, length-append, length-take, length-drop}
+use Rattle.labels.specs.Packing.{code}
+use Rattle.sets.specs.declared.Inserted.{Inserted}
+use Rattle.sets.specs.declared.Inserted.the-variants.{Full, Present, Added}
+use Rattle.sets.specs.declared.Built.{Built}
+use Rattle.sets.specs.declared.Built.the-variants.{TooLarge, Holds}
+use Rattle.sets.specs.declared.Offer.{Offer}
+use Rattle.sets.specs.declared.Offer.the-variants.{Nothing, TooLong, Next}
+use Rattle.sets.specs.declared.Way.{Way}
+use Rattle.sets.specs.Parts.{setAt, laid, roomAt, reachOf}
+use Rattle.sets.specs.Inserting.{placeOf, present, putIn, pickInserted, inserted, afterwards, Entered}
+use Rattle.sets.specs.Building.{Building, done, stopped, pickBuilt, answerOf, goesOn, next, each, followed, enter, taken, Exchange, exchangesIn, exchangeOf, eachRule, closed, offerOf, depthOf, imaged, Grown}
+use Rattle.sets.proofs.Laid.{Fits, length-setAt, laid-self, length-laid, setAt-laid, laid-laid}
+
+-- The length of a set under each step.
+pub length-putIn : (s : List ℕ) (w : ℕ) → length (putIn s w) ≡ suc (length s)
+length-putIn s w = simp (length-append, length-take, length-drop) (omega arith)
+
+added-room : (there roomy : Bool) → pickInserted there roomy ≡ Added → roomy ≡ true
+added-room true roomy e = cc
+added-room false true e = refl
+added-room false false e = cc
+
+pub inserted-room : (room w : ℕ) (s : List ℕ) → inserted room w s ≡ Added → length s < room
+unfolding inserted
+inserted-room room w s e = ltb-true (length s) room (added-room (present s w) (ltb (length s) room) e)
+
+unfoldable pub Steady : ℕ → (List ℕ → Building) → Type 0
+Steady room f = (s : List ℕ) → (length s ≤ length (f s .set)) × (length (f s .set) ≤ max (length s) room)
+
+module _ (room : ℕ) where
+  steady-done : Steady room done
+  unfolding Steady
+  steady-done s = omega arith
+
+  steady-next : (f g : List ℕ → Building) → Steady room f → Steady room g → Steady room (λ s. next (f s) g)
+  unfolding Steady
+  steady-next f g p q s = go (f s .whole)
+    where
+      go : (t : Bool) → (length s ≤ length (goesOn t (f s) g .set)) × (length (goesOn t (f s) g .set) ≤ max (length s) room)
+      go true = let a = p s in let b = q (f s .set) in omega arith
+      go false = p s
+
+  pub steady-each : (step : ℕ → List ℕ → Building) (ws : List ℕ) → ((w : ℕ) → Steady room (step w)) → Steady room (each step ws)
+  unfolding each
+  steady-each step [] p = steady-done
+  steady-each step (w ∷ ws) p = steady-next (step w) (each step ws) (p w) (steady-each step ws p)
+
+  steady-followed : (w : ℕ) (more : List ℕ → Building) → Steady room more → Steady room (λ s. followed (inserted room w s) w more s)
+  unfolding Steady
+  steady-followed w more p s = go (inserted room w s) refl
+    where
+      go : (o : Inserted) → inserted room w s ≡ o → (length s ≤ length (followed o w more s .set)) × (length (followed o w more s .set) ≤ max (length s) room)
+      go Full e = omega arith
+      go Present e = omega arith
+      go Added e = let l = inserted-room room w s e in let k = length-putIn s w in let q = p (putIn s w) in omega arith
+
+  pub steady-taken : (step : ℕ → List ℕ → Building) (o : Offer) → ((w : ℕ) → Steady room (step w)) → Steady room (taken step o)
+  unfolding Steady
+  steady-taken step Nothing p = steady-done
+  steady-taken step TooLong p = λ s. omega arith
+  steady-taken step (Next a) p = p (code a)
+
+  pub steady-eachRule : (step : ℕ → List ℕ → Building) (rs : List Exchange) (w : ℕ) → ((v : ℕ) → Steady room (step v)) → Steady room (eachRule step rs w)
+  unfolding eachRule
+  steady-eachRule step [] w p = steady-done
+  steady-eachRule step (r ∷ rs) w p =
+      steady-next (taken step (exchangeOf (r .left) (r .right) w)) (eachRule step rs w) (steady-taken step (exchangeOf (r .left) (r .right) w) p)
+      (steady-eachRule step rs w p)
+
+  pub steady-enter : (w : ℕ) → Steady room (enter room w)
+  steady-enter w = steady-followed w done steady-done
+
+  pub steady-closed : (rs : List Exchange) (depth w : ℕ) → Steady room (closed room rs depth w)
+  unfolding closed
+  steady-closed rs zero w = steady-enter w
+  steady-closed rs (suc depth) w = steady-followed w (eachRule (closed room rs depth) rs w) (steady-eachRule (closed room rs depth) rs w (steady-closed rs depth))
+
+  pub steady-imaged : (way : Way) (list : List ℕ) (w : ℕ) → Steady room (imaged room way list w)
+  steady-imaged way list w = steady-taken (closed room (exchangesIn list) (depthOf way)) (offerOf way list w) (steady-closed (exchangesIn list) (depthOf way))
+
+-- What an answer says of the set.
+pub built-holds : (t : Bool) (m n : ℕ) → Holds n ≡ pickBuilt t m → (t ≡ true) × (n ≡ m)
+built-holds true m n e = (refl, cc)
+built-holds false m n e = (cc, cc)
+
+pub built-large : (t : Bool) (m : ℕ) → TooLarge ≡ pickBuilt t m → t ≡ false
+built-large true m e = cc
+built-large false m e = refl
+
+pub next-holds : (b : Building) (more : List ℕ → Building) (n : ℕ) → Holds n ≡ answerOf b → (next b more ≡ more (b .set)) × (n ≡ length (b .set))
+next-holds b more n e = let p = built-holds (b .whole) (length (b .set)) n e in (ap (λ (t : Bool). goesOn t b more) (p .0), p .1)
+
+pub next-large : (b : Building) (more : List ℕ → Building) → TooLarge ≡ answerOf b → next b more ≡ b
+next-large b more e = ap (λ (t : Bool). goesOn t b more) (built-large (b .whole) (length (b .set)) e)
+
+-- The words hold a set as far as it is built; what is to come makes the goal of it.
+pub record Going (at : ℕ) (before now : List ℕ) (len : ℕ) (rest : List ℕ → Building) (goal : Building) : Type 0 where
+  pub set : List ℕ
+  pub held : now ≡ laid at set before
+  pub count : len ≡ length set
+  pub fits : Fits at set before
+  pub goes : rest set ≡ goal
+
+pub going-start : (at : ℕ) (ls : List ℕ) (len : ℕ) (build : List ℕ → Building) → len ≤ length ls - at → Going at ls ls len build (build (setAt at len ls))
+going-start at ls len build h = record {
+  set = setAt at len ls;
+  held = sym (laid-self at len ls);
+  count = let l = length-setAt at len ls in omega arith;
+  fits = let l = length-setAt at len ls in omega arith;
+  goes = refl;
+}
+
+module _ {at len : ℕ} {before now : List ℕ} {rest : List ℕ → Building} {goal : Building} where
+  pub going-length : Going at before now len rest goal → (length now ≡ length before) × (len ≤ length now - at)
+  going-length x =
+      let e = ap length (x .held) ∙ length-laid at (x .set) before (x .fits) in
+      (e, let f = x .fits in let c = x .count in omega arith)
+
+  -- the end, and a step that is stopped before any label
+  pub going-end : Going at before now len rest goal → ((s : List ℕ) → rest s ≡ done s) → (Holds len ≡ answerOf goal) × (now ≡ laid at (goal .set) before)
+  going-end x h = let e = sym (h (x .set)) ∙ x .goes in (ap Holds (x .count) ∙ ap answerOf e, x .held ∙ ap (λ (b : Building). laid at (b .set) before) e)
+
+  pub going-stop : Going at before now len rest goal → ((s : List ℕ) → rest s ≡ stopped s) → (TooLarge ≡ answerOf goal) × (now ≡ laid at (goal .set) before)
+  going-stop x h = let e = sym (h (x .set)) ∙ x .goes in (ap answerOf e, x .held ∙ ap (λ (b : Building). laid at (b .set) before) e)
+
+  -- what is to come, said otherwise
+  pub going-as : (other : List ℕ → Building) → Going at before now len rest goal → ((s : List ℕ) → rest s ≡ other s) → Going at before now len other goal
+  going-as other x h = record { set = x .set; held = x .held; count = x .count; fits = x .fits; goes = sym (h (x .set)) ∙ x .goes }
+
+-- A step that a function takes at the words as they are: whatever is to come, it is the step at the set; it leads on, or
+-- stops, or is all that was to come.
+module _ (most : ℕ) (step : ℕ → List ℕ → Building) {at len : ℕ} {before now after : List ℕ} {r : Built} {rest : List ℕ → Building} {goal : Building}
+    (steady : (room : ℕ) → Steady room (step room)) (x : Going at before now len rest goal) (g : Grown (step (roomAt at most (length now))) at len now after r) where
+  stepped : step (roomAt at most (length now)) (setAt at len now) ≡ step (roomAt at most (length before)) (x .set)
+  stepped =
+      ap₂ (λ (n : ℕ) (s : List ℕ). step (roomAt at most n) s) (going-length x .0)
+      (ap₂ (λ (n : ℕ) (l : List ℕ). setAt at n l) (x .count) (x .held) ∙ setAt-laid at (x .set) before (x .fits))
+
+  bounds : let b = step (roomAt at most (length before)) (x .set) in (length (x .set) ≤ length (b .set)) × (length (b .set) ≤ length before - at)
+  unfolding Steady
+  bounds = let p = steady (roomAt at most (length before)) (x .set) in let f = x .fits in omega arith
+
+  answers : r ≡ answerOf (step (roomAt at most (length before)) (x .set))
+  answers = g .answer ∙ ap answerOf stepped
+
+  after-is : after ≡ laid at (step (roomAt at most (length before)) (x .set) .set) before
+  after-is =
+      g .words ∙ ap₂ (λ (b : Building) (l : List ℕ). laid at (b .set) l) stepped (x .held)
+      ∙ laid-laid at (x .set) before (x .fits) (step (roomAt at most (length before)) (x .set) .set) (bounds .0)
+
+module _ (most : ℕ) (step : ℕ → List ℕ → Building) (rest : List ℕ → Building) {at len : ℕ} {before now after : List ℕ} {r : Built} {goal : Building}
+    (steady : (room : ℕ) → Steady room (step room)) (x : Going at before now len (λ s. next (step (roomAt at most (length before)) s) rest) goal)
+    (g : Grown (step (roomAt at most (length now))) at len now after r) where
+  pub going-holds : (n : ℕ) → r ≡ Holds n → Going at before after n rest goal
+  going-holds n e =
+      let b = step (roomAt at most (length before)) (x .set) in
+      let p = next-holds b rest n (sym e ∙ answers most step steady x g) in
+      record { set = b .set; held = after-is most step steady x g; count = p .1; fits = bounds most step steady x g .1; goes = sym (p .0) ∙ x .goes }
+
+  pub going-large : r ≡ TooLarge → (TooLarge ≡ answerOf goal) × (after ≡ laid at (goal .set) before)
+  going-large e =
+      let a = sym e ∙ answers most step steady x g in
+      let q = sym (next-large (step (roomAt at most (length before)) (x .set)) rest a) ∙ x .goes in
+      (a ∙ ap answerOf q, after-is most step steady x g ∙ ap (λ (b : Building). laid at (b .set) before) q)
+
+pub going-last : (most : ℕ) (step : ℕ → List ℕ → Building) {at len : ℕ} {before now after : List ℕ} {r : Built} {goal : Building}
+    → ((room : ℕ) → Steady room (step room)) → Going at before now len (step (roomAt at most (length before))) goal
+    → Grown (step (roomAt at most (length now))) at len now after r → (r ≡ answerOf goal) × (after ≡ laid at (goal .set) before)
+going-last most step {at} {before = before} steady x g =
+    (answers most step steady x g ∙ ap answerOf (x .goes), after-is most step steady x g ∙ ap (λ (b : Building). laid at (b .set) before) (x .goes))
+
+pub grown-as : {f g : List ℕ → Building} {at len : ℕ} {before after : List ℕ} {r : Built} → ((s : List ℕ) → f s ≡ g s) → Grown f at len before after r
+    → Grown g at len before after r
+grown-as {at = at} {len} {before} h x =
+    let e = h (setAt at len before) in
+    record { answer = x .answer ∙ ap answerOf e; words = x .words ∙ ap (λ (b : Building). laid at (b .set) before) e }
+
+-- What follows an insertion.
+module _ (at len most w : ℕ) (ls after : List ℕ) (within : len ≤ length ls - at) where
+  pub followed-stops : (o : Inserted) (more : List ℕ → Building) → Entered at len most w ls after o → o ≡ Full
+      → Grown (λ s. followed (inserted (roomAt at most (length ls)) w s) w more s) at len ls after TooLarge
+  followed-stops o more x e = let i = sym (x .answer) ∙ e in record { answer = rw i; words = x .words ∙ rw (e, i) }
+
+  pub followed-stays : (o : Inserted) (more : List ℕ → Building) → Entered at len most w ls after o → o ≡ Present
+      → Grown (λ s. followed (inserted (roomAt at most (length ls)) w s) w more s) at len ls after (Holds len)
+  followed-stays o more x e =
+      let i = sym (x .answer) ∙ e in
+      let l : len ≡ length (setAt at len ls) = let k = length-setAt at len ls in omega arith in
+      record { answer = rw i (ap Holds l); words = x .words ∙ rw (e, i) }
+
+  -- a label was put in: what goes on from there
+  pub followed-going : (o : Inserted) (more : List ℕ → Building) → Entered at len most w ls after o → o ≡ Added
+      → Going at ls after (len + 1) more (followed (inserted (roomAt at most (length ls)) w (setAt at len ls)) w more (setAt at len ls))
+  followed-going o more x e =
+      let i = sym (x .answer) ∙ e in
+      let k = length-putIn (setAt at len ls) w in
+      let l = length-setAt at len ls in
+      let room = inserted-room (roomAt at most (length ls)) w (setAt at len ls) i in
+      record { set = putIn (setAt at len ls) w; held = x .words ∙ rw e; count = omega arith; fits = omega arith; goes = rw i }
+
+  pub followed-ends : (o : Inserted) → Entered at len most w ls after o → o ≡ Added → Grown (enter (roomAt at most (length ls)) w) at len ls after (Holds (len + 1))
+  followed-ends o x e = let p = going-end (followed-going o done x e) (λ s. refl) in record { answer = p .0; words = p .1 }

@@ -1,0 +1,146 @@
+// The labels of a part, copied or through an operator.
+use crate::Built;
+use crate::Offer;
+use crate::Way;
+use crate::following::MOST_APPLICATIONS;
+use crate::following::close;
+use crate::placing::end_before;
+use crate::placing::reach;
+use labels::Label;
+use labels::Sum;
+use labels::bags::sum;
+use labels::names::clear;
+use labels::names::hide;
+use labels::names::rename;
+use labels::names::renaming;
+use labels::packing::labels_in;
+use labels::packing::read_label;
+use labels::packing::same;
+use labels::packing::tau;
+ghost use mathlib.Core.Path.{_≡_};
+ghost use mathlib.Core.Bool.{_||_};
+ghost use Prim.Native.Nat.{_-_, _≤_};
+ghost use lib.Dec.{eqb};
+ghost use lib.ListN.{length};
+ghost use Rattle.labels.specs.Packing.{held, code};
+ghost use Rattle.labels.specs.Names.{targets, pairsIn};
+ghost use Rattle.sets.specs.Parts.{roomAt, partBefore};
+ghost use Rattle.sets.specs.Building.{Grown, each, imaged, listedIn, offerOf, depthOf, taken, closed, exchangesIn};
+
+// Whether a label is in a list of labels, or is tau.
+fn allowed(list: &[u64], label: Label) -> bool
+    ensures { λ r. ⌜ r ≡ eqb (code label) 0 || listedIn (code label) (held (now (list .entry))) ⌝ }
+{
+    if same(label, tau()) {
+        return true;
+    }
+    let mut i = 0;
+    while i < labels_in(list) {
+        if same(label, read_label(list, i)) {
+            return true;
+        }
+        i += 1;
+    }
+    false
+}
+
+// What a way makes of a label. The map of a renaming is made of the list once for the part.
+fn made(way: Way, list: &[u64], map: [u64; 12], label: Label) -> Offer
+    requires { ⌜ map ≡ targets (pairsIn (now list)) ⌝ }
+    ensures { λ r. ⌜ r ≡ offerOf way (now (list .entry)) (code label) ⌝ }
+{
+    match way {
+        Way::Copy => Offer::Next(label),
+        Way::Plus(other) => {
+            let result = sum(other, label);
+            match result {
+                Sum::Over => Offer::TooLong,
+                Sum::Of(total) => Offer::Next(total),
+            }
+        }
+        Way::Block => {
+            if clear(label, list) {
+                Offer::Next(label)
+            } else {
+                Offer::Nothing
+            }
+        }
+        Way::Hide => Offer::Next(hide(label, list)),
+        Way::Rename => Offer::Next(rename(label, map)),
+        Way::Comm => Offer::Next(label),
+        Way::Allow => {
+            if allowed(list, label) {
+                Offer::Next(label)
+            } else {
+                Offer::Nothing
+            }
+        }
+    }
+}
+
+// How many applications of rules are followed on a way.
+fn depth(way: Way) -> usize
+    ensures { λ r. ⌜ r ≡ depthOf way ⌝ }
+{
+    match way {
+        Way::Comm => MOST_APPLICATIONS,
+        _ => 0,
+    }
+}
+
+// What is offered goes into a set, with what follows from it.
+fn take(
+    words: &mut [u64],
+    at: usize,
+    len: usize,
+    most: usize,
+    rules: &[u64],
+    offer: Offer,
+    depth: usize,
+) -> Built
+    requires { ⌜ len ≤ length (held (now words)) - at ⌝ }
+    ensures { λ r. ⌜ Grown (taken (closed (roomAt at most (length (held (now (words .entry))))) (exchangesIn (held (now (rules .entry)))) depth) offer) at len (held (now (words .entry))) (held (now (words .exit))) r ⌝ }
+{
+    match offer {
+        Offer::Nothing => Built::Holds(len),
+        Offer::TooLong => Built::TooLarge,
+        Offer::Next(label) => close(words, at, len, most, rules, label, depth),
+    }
+}
+
+// What the labels of a part that stands before a set give goes into the set.
+pub fn add_image(
+    words: &mut [u64],
+    from: usize,
+    to: usize,
+    way: Way,
+    list: &[u64],
+    at: usize,
+    len: usize,
+    most: usize,
+) -> Built
+    ensures { λ r. ⌜ Grown (each (imaged (roomAt at most (length (held (now (words .entry))))) way (now (list .entry))) (partBefore at from to (held (now (words .entry))))) at len (held (now (words .entry))) (held (now (words .exit))) r ⌝ }
+{
+    let mut count = reach(words, at, len);
+    let end = end_before(words, to, at);
+    let map = renaming(list);
+    let mut i = from;
+    while i < end {
+        let label = read_label(words, i);
+        let step = take(
+            words,
+            at,
+            count,
+            most,
+            list,
+            made(way, list, map, label),
+            depth(way),
+        );
+        let Built::Holds(n) = step else {
+            return Built::TooLarge;
+        };
+        count = n;
+        i += 1;
+    }
+    Built::Holds(count)
+}

@@ -1,0 +1,49 @@
+// Ascending sets of labels, in parts of one lent slice of words. Places are counted in labels. A set that is built stands at
+// `at` and holds `len` labels; it may grow to `most`, to 1,024 and to the end of the slice. The parts that it is built from
+// stand before it: what of such a part stands elsewhere is passed over. No function asks for ascending parts: what it says
+// holds of any words, and that ascending parts stay ascending is a law beside it.
+use labels::Label;
+
+pub mod comparing;
+mod following;
+pub mod imaging;
+pub mod inserting;
+pub mod joining;
+pub mod multiplying;
+pub mod placing;
+mod rules;
+
+// How many labels a set may have.
+pub const MOST_LABELS: usize = 1024;
+
+// Whether a label was there already, was put in, or found no room.
+pub enum Inserted {
+    Full,
+    Present,
+    Added,
+}
+
+// What a way or a rule makes of a label: nothing, a label of over 31 actions, or a label.
+pub enum Offer {
+    Nothing,
+    TooLong,
+    Next(Label),
+}
+
+// How many labels a set holds, or that it would pass a limit.
+pub enum Built {
+    TooLarge,
+    Holds(usize),
+}
+
+// What is made of the labels of a part: they are copied, are added to a label, or go through one of the five operators with
+// its list.
+pub enum Way {
+    Copy,
+    Plus(Label),
+    Block,
+    Hide,
+    Rename,
+    Comm,
+    Allow,
+}
