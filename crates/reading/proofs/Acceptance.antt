@@ -1,0 +1,167 @@
+-- The reading accepts a text exactly when it is the writing of a legal description of at most 8,192 bytes, and returns that
+-- description.
+-- Assumes nothing.
+use mathlib.Core.Path.{_≡_, refl, sym, ap, subst, subst₂, _∙_}
+use mathlib.Core.Logic.{_↔_, Iff·rfl}
+use mathlib.Core.Bool.{Bool, true, false, _&&_, not}
+use mathlib.Core.List.{List, [], _∷_, _++_}
+use Prim.Native.Nat.{ℕ, _≤_}
+use native.Mathlib.Omega.{arith}
+use lib.Dec.{T, leb, ltb, leb→le, le→leb, ltb→lt, lt→ltb, nltb→le, not-T}
+use lib.ListN.{length}
+use Rattle.meaning.specs.Bytes.{Text, ascii}
+use Rattle.meaning.specs.Descriptions.{Term, Order, Description, names, equations}
+use Rattle.meaning.specs.Descriptions as D
+use Rattle.meaning.specs.Legal.{LegalOrder, Legal}
+use Rattle.meaning.specs.Answers.{Fault, Refusal, form, name, range, operand, tooLong}
+use Rattle.meaning.proofs.Tests.{and-left, and-right, and-both}
+use Rattle.reading.specs.Forms.{countLine, nameLine}
+use Rattle.reading.specs.Faults.{worse, unless, inRange, operandsFit, termSaid, termFault}
+use Rattle.reading.specs.Reading.{takeNumber, nameCount, equationCount, termCount, isFree, takeName, takeTerm, takeBody, takeOrder, Walk, reached, halted, Reading, read, refused, allRead, Whole, wholeText, readText}
+use Rattle.reading.specs.Writing.{numberText, termText, orderText, written, LegalWords}
+use Rattle.reading.proofs.Findings.{fine-tests}
+use Rattle.reading.proofs.Onwards.{fails}
+use Rattle.reading.proofs.Writes.{inline?}
+use Rattle.reading.proofs.Atoms.{itself, faultless, Small, writes-number, writes-word}
+use Rattle.reading.proofs.LineForms.{WritesLine, line-ended, line-after, line-narrow}
+use Rattle.reading.proofs.TermLines.{writes-term, writes-order}
+use Rattle.reading.proofs.Sections.{Takes, takes, takes-if, Reaches, walk←, one-line←, LegalAfter, lines←, Ends, ends-reached, ends-walk, ends-line, ends-section}
+use Rattle.reading.proofs.LegalLines.{NewWord, NewBody, NewTerm, legal-words, legal-bodies, legal-terms}
+
+-- The lines.
+writes-count : (key : Text) → T (inline? key) → WritesLine (countLine key) itself faultless itself (λ n. key ++ numberText n) Small
+unfolding countLine
+writes-count key tested = line-after key tested (line-ended writes-number itself itself faultless itself (λ n. refl) (λ n. Iff·rfl))
+
+takes-number : (key : Text) → T (inline? key) → (test : ℕ → Bool) (f : Fault) → Takes (takeNumber key test f) itself (λ n. key ++ numberText n) (λ n. Small n × T (test n))
+unfolding takeNumber
+takes-number key tested test f = takes-if (writes-count key tested) test f itself
+
+takes-body : (terms : ℕ) (bodies : List ℕ) → Takes (takeBody terms bodies) (λ b. bodies ++ (b ∷ [])) (λ b. ascii "equation=" ++ numberText b) (NewBody terms bodies)
+unfolding takeBody
+takes-body terms bodies = takes-if (writes-count (ascii "equation=") tt) (λ b. ltb b terms) range (λ b. bodies ++ (b ∷ []))
+
+takes-name : (words : List Text) → Takes (takeName words) (λ w. words ++ (w ∷ [])) (λ w. ascii "name=" ++ w) (NewWord words)
+unfolding takeName nameLine
+takes-name words =
+    takes-if (line-after (ascii "name=") tt (line-ended writes-word itself itself faultless itself (λ w. refl) (λ w. Iff·rfl))) (isFree words) name (λ w. words ++ (w ∷ []))
+
+takes-term : (words : List Text) → LegalWords words → (references : ℕ) (terms : List Term)
+    → Takes (takeTerm words references terms) (λ t. terms ++ (t ∷ [])) (λ t. ascii "term=" ++ termText words t) (NewTerm (length words) references terms)
+unfolding takeTerm termFault
+takes-term words legal references terms =
+    takes (line-narrow (writes-term words legal)
+    (λ l. worse (unless (inRange references (length terms) (termSaid words l)) range) (unless (operandsFit terms (termSaid words l)) operand))
+    (λ t. T (inRange references (length terms) t) × T (operandsFit terms t))
+    (λ l. fine-tests (inRange references (length terms) (termSaid words l)) (operandsFit terms (termSaid words l)) range operand))
+    (λ t. terms ++ (t ∷ [])) (takeTerm words references terms) (λ l. refl)
+
+takes-order : (words : List Text) → LegalWords words → Takes (takeOrder words) itself (λ o. ascii "order=" ++ orderText words o) (LegalOrder (length words))
+unfolding takeOrder
+takes-order words legal = takes (writes-order words legal) itself (takeOrder words) (λ l. refl)
+
+-- The whole.
+pub record Accepted (d : Description) (o : Order) (t : Text) : Type 0 where
+  pub writes : t ≡ written d o
+  pub legal : Legal d o
+  pub words : LegalWords (d .words)
+
+within : (least most n : ℕ) → T (leb least n && leb n most) ↔ ((least ≤ n) × (n ≤ most))
+within least most n = (
+  λ h. (leb→le least n (and-left (leb least n) (leb n most) h), leb→le n most (and-right (leb least n) (leb n most) h)),
+  λ h. and-both (leb least n) (leb n most) (le→leb least n (h .0)) (le→leb n most (h .1)),
+)
+
+whole→ : (t : Text) → Ends (wholeText t) (λ w r. r ≡ [] → Accepted (w .given) (w .order) t)
+unfolding wholeText
+whole→ t =
+    ends-walk (ends-line (takes-number (ascii "names=") tt nameCount form) 1 t) (λ n l₁ r₁ a₁.
+    ends-walk (ends-section takes-name n l₁ r₁) (λ words l₂ r₂ a₂.
+    let good = legal-words words .0 (a₂ .2) in
+    ends-walk (ends-line (takes-number (ascii "equations=") tt equationCount form) l₂ r₂) (λ e l₃ r₃ a₃.
+    ends-walk (ends-line (takes-number (ascii "terms=") tt termCount form) l₃ r₃) (λ c l₄ r₄ a₄.
+    ends-walk (ends-section (takes-term words good e) c l₄ r₄) (λ terms l₅ r₅ a₅.
+    ends-walk (ends-section (takes-body c) e l₅ r₅) (λ bodies l₆ r₆ a₆.
+    ends-walk (ends-line (takes-number (ascii "root=") tt (λ r. ltb r c) range) l₆ r₆) (λ root l₇ r₇ a₇.
+    ends-walk (ends-line (takes-order words good) l₇ r₇) (λ order l₈ r₈ a₈.
+    let d : Description = record { words = words; terms = terms; bodies = bodies; root = root } in
+    let nameNumber = within 1 12 n .0 (a₁ .1 .1) in
+    let equationNumber = leb→le e 16 (a₃ .1 .1) in
+    let termNumber = within 1 96 c .0 (a₄ .1 .1) in
+    let below = ltb→lt root c (a₇ .1 .1) in
+    ends-reached (λ end. record {
+      writes = unfold written in (cc);
+      legal = record {
+        nameCount = (omega arith, omega arith);
+        equationCount = omega arith;
+        termsCount = (omega arith, omega arith);
+        terms = legal-terms d (omega arith) [] terms refl (omega arith) .0 (subst (λ k. LegalAfter (NewTerm (length words) k) [] terms) (sym (a₆ .1)) (a₅ .2));
+        bodies = legal-bodies (length terms) (omega arith) [] bodies .0 (subst (λ k. LegalAfter (NewBody k) [] bodies) (sym (a₅ .1)) (a₆ .2));
+        root = omega arith;
+        order = a₈ .1;
+      };
+      words = good;
+    })))))))))
+
+whole← : (d : Description) (o : Order) → Legal d o → LegalWords (d .words) → Reaches (wholeText (written d o)) (record { given = d; order = o }) []
+unfolding wholeText written
+whole← d o legal good =
+    let nameNumber = legal .nameCount in
+    let equationNumber = legal .equationCount in
+    let termNumber = legal .termsCount in
+    let below = legal .root in
+    walk← _ (one-line← (takes-number (ascii "names=") tt nameCount form) 1 (names d) _ (omega arith, within 1 12 (names d) .1 nameNumber)) (λ l₁.
+    walk← _ (lines← takes-name (d .words) [] l₁ _ (legal-words (d .words) .1 good)) (λ l₂.
+    walk← _ (one-line← (takes-number (ascii "equations=") tt equationCount form) l₂ (equations d) _ (omega arith, le→leb (equations d) 16 equationNumber)) (λ l₃.
+    walk← _ (one-line← (takes-number (ascii "terms=") tt termCount form) l₃ (D.termCount d) _ (omega arith, within 1 96 (D.termCount d) .1 termNumber)) (λ l₄.
+    walk← _ (lines← (takes-term (d .words) good (equations d)) (d .terms) [] l₄ _ (legal-terms d (omega arith) [] (d .terms) refl (omega arith) .1 (legal .terms))) (λ l₅.
+    walk← _ (lines← (takes-body (D.termCount d)) (d .bodies) [] l₅ _ (legal-bodies (D.termCount d) (omega arith) [] (d .bodies) .1 (legal .bodies))) (λ l₆.
+    walk← _ (one-line← (takes-number (ascii "root=") tt (λ r. ltb r (D.termCount d)) range) l₆ (d .root) _ (omega arith, lt→ltb (d .root) (D.termCount d) below)) (λ l₇.
+    walk← _ (one-line← (takes-order (d .words) good) l₇ o [] (legal .order)) (λ l₈. record { number = l₈; there = refl }))))))))
+
+-- The text as it is read: not too long, and nothing behind its last line.
+refused≢read : {r : Refusal} {d : Description} {o : Order} → refused r ≡ read d o → ⊥
+refused≢read e = let z : _≡_ {A = ℕ} 0 1 = cc in omega arith
+
+all-read→ : {d : Description} {o : Order} {t : Text} (m : Walk Whole) → Ends m (λ w r. r ≡ [] → Accepted (w .given) (w .order) t) → allRead (λ w. read (w .given) (w .order)) m ≡ read d o → Accepted d o t
+all-read→ {t} (reached w n []) h e =
+    let k = h .holds w [] (record { number = n; there = refl }) refl in
+    subst₂ (λ d o. Accepted d o t) (cc) (cc) k
+all-read→ (reached w n (b ∷ s)) h e = absurd (refused≢read e)
+all-read→ (halted r) h e = absurd (refused≢read e)
+
+-- A text that is accepted is the writing of the legal description that is returned, and has at most 8,192 bytes.
+pub accepted→ : (t : Text) (d : Description) (o : Order) → readText t ≡ read d o → (t ≡ written d o) × Legal d o × LegalWords (d .words) × (length t ≤ 8192)
+unfolding readText
+accepted→ t d o e = go (ltb 8192 (length t)) (nltb→le 8192 (length t)) e
+  where
+    go : (long : Bool) → (T (not long) → length t ≤ 8192)
+        → (elim long as (λ _. Reading) [ true ↦ refused tooLong | false ↦ allRead (λ w. read (w .given) (w .order)) (wholeText t) ]) ≡ read d o
+        → (t ≡ written d o) × Legal d o × LegalWords (d .words) × (length t ≤ 8192)
+    go true short e = absurd (refused≢read e)
+    go false short e = let k = all-read→ (wholeText t) (whole→ t) e in (k .writes, k .legal, k .words, short tt)
+
+-- The writing of a legal description is accepted, if it has at most 8,192 bytes, and that description is returned.
+pub written→ : (d : Description) (o : Order) → Legal d o → LegalWords (d .words) → length (written d o) ≤ 8192 → readText (written d o) ≡ read d o
+unfolding readText
+written→ d o legal good short =
+    let fits = not-T (ltb 8192 (length (written d o))) (λ h. let long = ltb→lt 8192 (length (written d o)) h in omega arith) in
+    rw (fails (ltb 8192 (length (written d o))) fits, readText) (ap (allRead (λ w. read (w .given) (w .order))) (whole← d o legal good .there))
+
+-- Both in one.
+pub accepted : (t : Text) (d : Description) (o : Order)
+    → (readText t ≡ read d o) ↔ ((t ≡ written d o) × Legal d o × LegalWords (d .words) × (length t ≤ 8192))
+accepted t d o = (
+  accepted→ t d o,
+  λ h. subst (λ s. readText s ≡ read d o) (sym (h .0)) (written→ d o (h .1) (h .2) (subst (λ s. length s ≤ 8192) (h .0) (h .3))),
+)
+
+-- Two legal descriptions with the same writing are the same, however long it is.
+pub written-injective : (d d′ : Description) (o o′ : Order) → Legal d o → LegalWords (d .words) → Legal d′ o′ → LegalWords (d′ .words)
+    → written d o ≡ written d′ o′ → (d ≡ d′) × (o ≡ o′)
+written-injective d d′ o o′ l w l′ w′ e =
+    let h = whole← d o l w in
+    let k = whole← d′ o′ l′ w′ in
+    let there = sym (h .there) ∙ ap wholeText e ∙ k .there in
+    let same : _≡_ {A = Whole} (record { given = d; order = o }) (record { given = d′; order = o′ }) = cc in
+    (ap (λ w. w .given) same, ap (λ w. w .order) same)

@@ -1,0 +1,87 @@
+-- Reading step by step: what a form's answer says of the steps that it is made of.
+-- Assumes nothing.
+use mathlib.Core.Path.{_≡_, refl, subst, subst₂}
+use mathlib.Core.Bool.{Bool, true, false, not}
+use mathlib.Core.List.{[], _∷_, _++_}
+use Prim.Native.Nat.{ℕ}
+use native.Mathlib.Omega.{arith}
+use lib.Dec.{T, eqb, eqb→eq, eqb-refl, not-T}
+use Rattle.meaning.specs.Bytes.{Text}
+use Rattle.meaning.proofs.Tests.{and-left, and-right, and-both}
+use Rattle.reading.specs.Text.{Past, past, stuck, onward, sameText, ended, literal}
+
+-- Tests.
+pub passes : (b : Bool) → T b → b ≡ true
+passes true t = refl
+passes false t = absurd t
+
+pub fails : (b : Bool) → T (not b) → b ≡ false
+fails true t = absurd t
+fails false t = refl
+
+pub same→ : (s t : Text) → T (sameText s t) → s ≡ t
+unfolding sameText
+same→ [] [] h = refl
+same→ [] (c ∷ t) h = absurd h
+same→ (b ∷ s) [] h = absurd h
+same→ (b ∷ s) (c ∷ t) h =
+    let e = eqb→eq b c (and-left (eqb b c) (sameText s t) h) in
+    let f = same→ s t (and-right (eqb b c) (sameText s t) h) in
+    cc
+
+pub same-refl : (s : Text) → T (sameText s s)
+unfolding sameText
+same-refl [] = tt
+same-refl (b ∷ s) = and-both (eqb b b) (sameText s s) (eqb-refl b) (same-refl s)
+
+-- A text that is read is none that is not read.
+pub differs : {A : Type 0} (form : Text → Past A) {a : A} {r : Text} (s t : Text) → form s ≡ past a r → (form t ≡ past a r → ⊥) → sameText s t ≡ false
+differs form {a} {r} s t e f = fails (sameText s t) (not-T (sameText s t) (λ h. f (subst (λ u. form u ≡ past a r) (same→ s t h) e)))
+
+-- What holds of that which was read and of the text left behind it, if anything was read.
+pub record When {A : Type 0} (m : Past A) (P : A → Text → Type 0) : Type 0 where
+  pub holds : (a : A) (r : Text) → m ≡ past a r → P a r
+
+pub when-past : {A : Type 0} {P : A → Text → Type 0} {a : A} {r : Text} → P a r → When (past a r) P
+when-past {P} {a} {r} h = record { holds = λ b q e. let f : a ≡ b = cc in let g : r ≡ q = cc in subst₂ P f g h }
+
+pub when-stuck : {A : Type 0} {P : A → Text → Type 0} {r : Text} → When (stuck r) P
+when-stuck = record { holds = λ a r e. let z : _≡_ {A = ℕ} 0 1 = cc in absurd (omega arith) }
+
+pub when-weaken : {A : Type 0} {m : Past A} {P Q : A → Text → Type 0} → When m P → ((a : A) (r : Text) → P a r → Q a r) → When m Q
+when-weaken h k = record { holds = λ a r e. k a r (h .holds a r e) }
+
+pub when-branch : {A : Type 0} (t : Bool) {m n : Past A} {P : A → Text → Type 0} → (T t → When m P) → (T (not t) → When n P)
+    → When (elim t as (λ _. Past A) [ true ↦ m | false ↦ n ]) P
+when-branch true h k = h tt
+when-branch false h k = k tt
+
+-- Two steps, looking back and looking ahead.
+pub onward→ : {A B : Type 0} {m : Past A} {f : A → Text → Past B} {P : A → Text → Type 0} {Q : B → Text → Type 0}
+    → When m P → ((a : A) (r : Text) → P a r → When (f a r) Q) → When (onward m f) Q
+onward→ {m = past a r} h k = k a r (h .holds a r refl)
+onward→ {m = stuck r} h k = when-stuck
+
+pub onward← : {A B : Type 0} {a : A} {s : Text} {m : Past A} (f : A → Text → Past B) → m ≡ past a s → onward m f ≡ f a s
+onward← f e = rw e
+
+-- The end, and a word that must stand there.
+pub ended→ : (s : Text) → When (ended s) (λ _ r. (s ≡ []) × (r ≡ []))
+unfolding ended
+ended→ [] = when-past (refl, refl)
+ended→ (b ∷ s) = when-stuck
+
+pub ended← : ended [] ≡ past tt []
+unfolding ended
+ended← = refl
+
+pub literal→ : (w s : Text) → When (literal w s) (λ _ r. s ≡ w ++ r)
+unfolding literal
+literal→ [] s = when-past refl
+literal→ (c ∷ w) [] = when-stuck
+literal→ (c ∷ w) (b ∷ s) = when-branch (eqb c b) (λ h. when-weaken (literal→ w s) (λ _ r q. let p = eqb→eq c b h in cc)) (λ _. when-stuck)
+
+pub literal← : (w r : Text) → literal w (w ++ r) ≡ past tt r
+unfolding literal
+literal← [] r = refl
+literal← (c ∷ w) r = rw (passes (eqb c c) (eqb-refl c), literal) (literal← w r)

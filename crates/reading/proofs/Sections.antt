@@ -1,0 +1,206 @@
+-- Whole lines: one, and so many that are read alike, against their writings.
+-- Assumes nothing.
+use mathlib.Core.Path.{_≡_, refl, sym, ap, ap₂, subst, subst₂, _∙_}
+use mathlib.Core.Bool.{Bool, true, false}
+use mathlib.Core.List.{List, [], _∷_, _++_, append-nil, append-assoc}
+use Prim.Native.Nat.{ℕ, zero, suc}
+use native.Mathlib.Omega.{arith}
+use lib.Dec.{T, eqb, eqb→eq}
+use lib.ListN.{length}
+use Rattle.meaning.specs.Bytes.{Text}
+use Rattle.meaning.specs.Answers.{Fault, Refusal}
+use Rattle.reading.specs.Text.{Past, past, stuck}
+use Rattle.reading.specs.Forms.{lf}
+use Rattle.reading.specs.Faults.{Found, fine, fault, unless}
+use Rattle.reading.specs.Reading.{Taken, taken, faulty, takenIf, takenUnless, formed, Cut, cut, noLine, withByte, firstLine, Walk, reached, halted, walk, afterLine, lineWalk, oneLine, lines}
+use Rattle.reading.specs.Writing.{line, eachLine}
+use Rattle.reading.proofs.Findings.{IsFine, fine-unless}
+use Rattle.reading.proofs.Onwards.{fails, When}
+use Rattle.reading.proofs.Writes.{Inline}
+use Rattle.reading.proofs.LineForms.{Made, WritesLine, line-narrow}
+
+-- What is taken of a line.
+pub record Takes {Y B : Type 0} (take : Text → Taken B) (make : Y → B) (text : Y → Text) (Legal : Y → Type 0) : Type 0 where
+  pub sound : (l : Text) (b : B) → take l ≡ taken b → Made make text Legal b l
+  pub complete : (y : Y) → Legal y → take (text y) ≡ taken (make y)
+  pub inline : (y : Y) → Legal y → Inline (text y)
+
+faulty≢taken : {B : Type 0} {f : Fault} {b : B} → faulty f ≡ taken b → ⊥
+faulty≢taken e = let z : _≡_ {A = ℕ} 0 1 = cc in omega arith
+
+unless→ : {B : Type 0} {a b : B} (f : Found) → takenUnless f a ≡ taken b → IsFine f × (a ≡ b)
+unless→ fine e = (tt, cc)
+unless→ (fault x) e = absurd (faulty≢taken e)
+
+unless← : {B : Type 0} {a : B} (f : Found) → IsFine f → takenUnless f a ≡ taken a
+unless← fine h = refl
+unless← (fault x) h = absurd h
+
+formed-if : {A B : Type 0} (test : A → Bool) (f : Fault) (make : A → B) (m : Past A) → formed m (λ a. takenIf (test a) f (make a)) ≡ formed m (λ a. takenUnless (unless (test a) f) (make a))
+formed-if {B} test f make (past a r) = same (test a)
+  where
+    same : (t : Bool) → takenIf t f (make a) ≡ takenUnless (unless t f) (make a)
+    same true = refl
+    same false = refl
+formed-if test f make (stuck r) = refl
+
+pub takes : {X Y Z B : Type 0} {form : Text → Past X} {says : X → Z} {fault : X → Found} {build : Y → Z} {text : Y → Text} {Legal : Y → Type 0}
+    → WritesLine form says fault build text Legal → (make : Z → B) (take : Text → Taken B) → ((l : Text) → take l ≡ formed (form l) (λ x. takenUnless (fault x) (make (says x))))
+    → Takes take (λ y. make (build y)) text Legal
+takes {X} {B} {form} {says} {fault} {build} {text} {Legal} w make take same = record {
+  sound = λ l b e. go l b (form l) (w .sound l) (sym (same l) ∙ e);
+  complete = λ y l.
+      let c = w .complete y l in
+      same (text y) ∙ rw (c .reads) (unless← (fault (c .value)) (c .faultless) ∙ ap (λ z. taken (make z)) (c .said));
+  inline = w .inline;
+}
+  where
+    go : (l : Text) (b : B) (m : Past X) → When m (λ x r. IsFine (fault x) → Made build text Legal (says x) l) → formed m (λ x. takenUnless (fault x) (make (says x))) ≡ taken b
+        → Made (λ y. make (build y)) text Legal b l
+    go l b (past x r) h e =
+        let k = unless→ (fault x) e in
+        let m = h .holds x r refl (k .0) in
+        record { source = m .source; builds = sym (k .1) ∙ ap make (m .builds); writes = m .writes; legal = m .legal }
+    go l b (stuck r) h e = absurd (faulty≢taken e)
+
+-- A line that has no fault but one, which a test finds.
+pub takes-if : {A B : Type 0} {form : Text → Past A} {text : A → Text} {Legal : A → Type 0} → WritesLine form (λ a. a) (λ a. fine) (λ a. a) text Legal
+    → (test : A → Bool) (f : Fault) (make : A → B) → Takes (λ l. formed (form l) (λ a. takenIf (test a) f (make a))) make text (λ a. Legal a × T (test a))
+takes-if {form} w test f make =
+    takes (line-narrow w (λ a. unless (test a) f) (λ a. T (test a)) (λ a. fine-unless (test a) f)) make (λ l. formed (form l) (λ a. takenIf (test a) f (make a)))
+    (λ l. formed-if test f make (form l))
+
+-- The first line of a text.
+abbrev CutOf : Text → Cut → Type 0
+CutOf s (cut l r) = s ≡ line l r
+CutOf s noLine = Unit {0}
+
+first-line→ : (s : Text) → CutOf s (firstLine s)
+unfolding firstLine
+first-line→ [] = tt
+first-line→ (b ∷ s) = pick (eqb b lf) (eqb→eq b lf) (first-line→ s)
+  where
+    with-byte : (c : Cut) → CutOf s c → CutOf (b ∷ s) (withByte b c)
+    with-byte (cut l r) k = ap {B = Text} (λ t. b ∷ t) k
+    with-byte noLine k = tt
+
+    pick : (e : Bool) → (T e → b ≡ lf) → CutOf s (firstLine s) → CutOf (b ∷ s) (elim e as (λ _. Cut) [ true ↦ cut [] s | false ↦ withByte b (firstLine s) ])
+    pick true h k = ap {B = Text} (λ c. c ∷ s) (h tt)
+    pick false h k = with-byte (firstLine s) k
+
+first-line← : (l r : Text) → Inline l → firstLine (line l r) ≡ cut l r
+unfolding firstLine
+first-line← [] r h = refl
+first-line← (b ∷ l) r h = rw (fails (eqb b lf) (h .0), firstLine) (ap (withByte b) (first-line← l r (h .1)))
+
+-- A walk that came to its end, and the steps that it is made of.
+pub record Reaches {A : Type 0} (m : Walk A) (a : A) (s : Text) : Type 0 where
+  pub number : ℕ
+  pub there : m ≡ reached a number s
+
+not-halted : {A : Type 0} {r : Refusal} {a : A} {s : Text} → Reaches (halted r) a s → ⊥
+not-halted h = let e = h .there in let z : _≡_ {A = ℕ} 0 1 = cc in omega arith
+
+pub record Walked {A B : Type 0} (m : Walk A) (f : A → ℕ → Text → Walk B) (b : B) (s : Text) : Type 0 where
+  pub value : A
+  pub number : ℕ
+  pub rest : Text
+  pub first : Reaches m value rest
+  pub second : Reaches (f value number rest) b s
+
+pub walk→ : {A B : Type 0} {b : B} {s : Text} (m : Walk A) (f : A → ℕ → Text → Walk B) → Reaches (walk m f) b s → Walked m f b s
+walk→ (reached a n t) f h = record { value = a; number = n; rest = t; first = record { number = n; there = refl }; second = h }
+walk→ (halted r) f h = absurd (not-halted h)
+
+pub walk← : {A B : Type 0} {a : A} {b : B} {s t : Text} {m : Walk A} (f : A → ℕ → Text → Walk B) → Reaches m a t → ((n : ℕ) → Reaches (f a n t) b s) → Reaches (walk m f) b s
+walk← {a} {b} {s} {t} f h k = subst (λ w. Reaches (walk w f) b s) (sym (h .there)) (k (h .number))
+
+-- One line.
+after→ : {B : Type 0} {b : B} {r q : Text} (n : ℕ) (t : Taken B) → Reaches (afterLine n t q) b r → (t ≡ taken b) × (q ≡ r)
+after→ n (taken a) h = let e = h .there in (cc, cc)
+after→ n (faulty f) h = absurd (not-halted h)
+
+module _ {Y B : Type 0} {take : Text → Taken B} {make : Y → B} {text : Y → Text} {Legal : Y → Type 0} (w : Takes take make text Legal) where
+  pub one-line→ : (n : ℕ) (s : Text) (b : B) (r : Text) → Reaches (oneLine take n s) b r → Made make (λ y. line (text y) r) Legal b s
+  one-line→ n s b r h = go (firstLine s) (first-line→ s) h
+    where
+      go : (c : Cut) → CutOf s c → Reaches (lineWalk take n c) b r → Made make (λ y. line (text y) r) Legal b s
+      go (cut l q) e h =
+          let k = after→ n (take l) h in
+          let m = w .sound l b (k .0) in
+          record { source = m .source; builds = m .builds; writes = e ∙ ap₂ line (m .writes) (k .1); legal = m .legal }
+      go noLine e h = absurd (not-halted h)
+
+  pub one-line← : (n : ℕ) (y : Y) (r : Text) → Legal y → Reaches (oneLine take n (line (text y) r)) (make y) r
+  one-line← n y r l = record {
+    number = suc n;
+    there = ap (lineWalk take n) (first-line← (text y) r (w .inline y l)) ∙ ap (λ t. afterLine n t r) (w .complete y l);
+  }
+
+-- Lines that are read alike, each legal after those before it.
+module _ {A : Type 0} (Legal : List A → A → Type 0) where
+  abbrev pub LegalAfter : List A → List A → Type 0
+  LegalAfter xs [] = Unit {0}
+  LegalAfter xs (z ∷ zs) = Legal xs z × LegalAfter (xs ++ (z ∷ [])) zs
+
+pub record Section {A : Type 0} (Legal : List A → A → Type 0) (text : A → Text) (before : List A) (all : List A) (count : ℕ) (s r : Text) : Type 0 where
+  pub entries : List A
+  pub adds : all ≡ before ++ entries
+  pub counted : length entries ≡ count
+  pub writes : s ≡ eachLine text entries r
+  pub legal : LegalAfter Legal before entries
+
+module _ {A : Type 0} {take : List A → Text → Taken (List A)} {text : A → Text} {Legal : List A → A → Type 0}
+    (w : (xs : List A) → Takes (take xs) (λ y. xs ++ (y ∷ [])) text (Legal xs)) where
+  pub lines→ : (count : ℕ) (xs : List A) (n : ℕ) (s : Text) (ys : List A) (r : Text) → Reaches (lines take count xs n s) ys r → Section Legal text xs ys count s r
+  unfolding lines eachLine
+  lines→ zero xs n s ys r h = let e = h .there in let p : xs ≡ ys = cc in let q : s ≡ r = cc in
+      record { entries = []; adds = sym p ∙ sym (append-nil xs); counted = refl; writes = q; legal = tt }
+  lines→ (suc count) xs n s ys r h =
+      let k = walk→ (oneLine (take xs) n s) (lines take count) h in
+      let m = one-line→ (w xs) n s (k .value) (k .rest) (k .first) in
+      let y = m .source in
+      let i = lines→ count (k .value) (k .number) (k .rest) ys r (k .second) in
+      record {
+        entries = y ∷ i .entries;
+        adds = i .adds ∙ ap (λ v. v ++ i .entries) (m .builds) ∙ append-assoc xs (y ∷ []) (i .entries);
+        counted = ap suc (i .counted);
+        writes = m .writes ∙ ap (line (text y)) (i .writes);
+        legal = (m .legal, subst (λ v. LegalAfter Legal v (i .entries)) (m .builds) (i .legal));
+      }
+
+  pub lines← : (zs xs : List A) (n : ℕ) (r : Text) → LegalAfter Legal xs zs → Reaches (lines take (length zs) xs n (eachLine text zs r)) (xs ++ zs) r
+  unfolding lines eachLine
+  lines← [] xs n r l = record { number = n; there = ap (λ v. reached v n r) (sym (append-nil xs)) }
+  lines← (z ∷ zs) xs n r l =
+      walk← (lines take (length zs)) (one-line← (w xs) n z (eachLine text zs r) (l .0))
+      (λ m. subst (λ v. Reaches (lines take (length zs) (xs ++ (z ∷ [])) m (eachLine text zs r)) v r) (append-assoc xs (z ∷ []) zs) (lines← zs (xs ++ (z ∷ [])) m r (l .1)))
+
+-- What holds of that which a walk comes to, if it comes to an end.
+pub record Ends {A : Type 0} (m : Walk A) (P : A → Text → Type 0) : Type 0 where
+  pub holds : (a : A) (s : Text) → Reaches m a s → P a s
+
+pub ends-reached : {A : Type 0} {P : A → Text → Type 0} {a : A} {n : ℕ} {s : Text} → P a s → Ends (reached a n s) P
+ends-reached {P} {a} {s} h = record { holds = λ b t k. let e = k .there in let p : a ≡ b = cc in let q : s ≡ t = cc in subst₂ P p q h }
+
+pub ends-walk : {A B : Type 0} {m : Walk A} {f : A → ℕ → Text → Walk B} {P : A → Text → Type 0} {Q : B → Text → Type 0} → Ends m P
+    → ((a : A) (n : ℕ) (s : Text) → P a s → Ends (f a n s) Q) → Ends (walk m f) Q
+ends-walk {m} {f} h k = record { holds = λ b s r. let w = walk→ m f r in k (w .value) (w .number) (w .rest) (h .holds (w .value) (w .rest) (w .first)) .holds b s (w .second) }
+
+-- (where nothing else is made of a line, and where a section starts from nothing)
+pub ends-line : {B : Type 0} {take : Text → Taken B} {text : B → Text} {Legal : B → Type 0} → Takes take (λ b. b) text Legal
+    → (n : ℕ) (s : Text) → Ends (oneLine take n s) (λ b r. (s ≡ line (text b) r) × Legal b)
+ends-line {text} {Legal} w n s = record {
+  holds = λ b r h.
+      let m = one-line→ w n s b r h in
+      subst (λ c. (s ≡ line (text c) r) × Legal c) (sym (m .builds)) (m .writes, m .legal);
+}
+
+pub ends-section : {A : Type 0} {take : List A → Text → Taken (List A)} {text : A → Text} {Legal : List A → A → Type 0}
+    → ((xs : List A) → Takes (take xs) (λ y. xs ++ (y ∷ [])) text (Legal xs))
+    → (count n : ℕ) (s : Text) → Ends (lines take count [] n s) (λ ys r. (s ≡ eachLine text ys r) × (length ys ≡ count) × LegalAfter Legal [] ys)
+ends-section {text} {Legal} w count n s = record {
+  holds = λ ys r h.
+      let m = lines→ w count [] n s ys r h in
+      subst (λ zs. (s ≡ eachLine text zs r) × (length zs ≡ count) × LegalAfter Legal [] zs) (sym (m .adds)) (m .writes, m .counted, m .legal);
+}

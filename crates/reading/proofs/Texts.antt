@@ -1,0 +1,88 @@
+-- Document 01's listing, which reads as the description itself, and texts for each refusal number, as one table of cases that
+-- the checker computes.
+-- Assumes nothing.
+use mathlib.Core.Path.{_≡_, refl, subst⁻¹}
+use mathlib.Core.Logic.{inl, inr}
+use mathlib.Core.List.{List, [], _∷_, _++_}
+use Prim.Native.Nat.{ℕ}
+use Prim.Native.String.{String}
+use lib.ListN.{replicate}
+use Rattle.meaning.specs.Bytes.{Text, ascii}
+use Rattle.meaning.specs.Labels.{plus}
+use Rattle.meaning.specs.Sets.{_∈_}
+use Rattle.meaning.specs.Descriptions.{Description, act, ref, seq, merge, comm, wrap, all}
+use Rattle.meaning.specs.Answers.{form, name, range, amount, operand, tooLong, inLine}
+use Rattle.reading.specs.Text.{sameText, ended, literal, isDigit, isLower, secondDigit, number, wordOn, word, separatedOn}
+use Rattle.reading.specs.Forms.{part, pair, rule, labelList, alone, ofName, ofOne, ofTwo, ofList, kinds, ofKind, countLine, nameLine, termLine, orderLine}
+use Rattle.reading.specs.Faults.{worst, rising, nameNumber, nameFault, labelSaid, actions, labelFault, wordsFault, pairsFault, rulesFault, labelsFault, wordsOfFault, termFault, orderFault}
+use Rattle.reading.specs.Reading.{Reading, read, refused, takeNumber, isFree, takeName, takeTerm, takeBody, takeOrder, firstLine, lines, wholeText, readText}
+
+-- lines, each ended by LF
+abbrev pub text : List String → Text
+text [] = []
+text (l ∷ ls) = ascii l ++ (10 ∷ text ls)
+
+abbrev pub listing : List String
+listing =
+    "names=2" ∷ "name=done" ∷ "name=close" ∷ "equations=1" ∷ "terms=5" ∷ "term=act done" ∷ "term=ref 0" ∷ "term=seq 0 1" ∷ "term=merge 1 1"
+    ∷ "term=comm 3 done:2>close" ∷ "equation=2" ∷ "root=4" ∷ "order=all" ∷ []
+
+-- the listing with another line for its tenth
+abbrev tenth : String → List String
+tenth l =
+    "names=2" ∷ "name=done" ∷ "name=close" ∷ "equations=1" ∷ "terms=5" ∷ "term=act done" ∷ "term=ref 0" ∷ "term=seq 0 1" ∷ "term=merge 1 1" ∷ l
+    ∷ "equation=2" ∷ "root=4" ∷ "order=all" ∷ []
+
+-- what the listing describes
+abbrev stripe : Description
+stripe =
+    record {
+      words = ascii "done" ∷ ascii "close" ∷ [];
+      terms = act 0 ∷ ref 0 ∷ seq 0 1 ∷ merge 1 1 ∷ wrap (comm (record { left = 2 ∷ 0 ∷ []; right = 1 } ∷ [])) 3 ∷ [];
+      bodies = 2 ∷ [];
+      root = 4;
+    }
+
+-- A text with its reading.
+pub record Case : Type 0 where
+  pub given : Text
+  pub reading : Reading
+
+abbrev case : List String → Reading → Case
+case t r = record { given = text t; reading = r }
+
+-- 8,192 bytes are read, and have no line; one more is too long.
+abbrev pub table : List Case
+table =
+    case listing (read stripe all)
+    ∷ record { given = replicate 8193 10; reading = refused tooLong }
+    ∷ record { given = replicate 8192 10; reading = refused (inLine form 1) }
+    ∷ case [] (refused (inLine form 1))
+    ∷ case (tenth "term=comm 3 done:2>close,") (refused (inLine form 10))
+    ∷ case (tenth "term=comm 3 done:02>close") (refused (inLine form 10))
+    ∷ case (tenth "term=block 99 zz") (refused (inLine name 10))
+    ∷ case (tenth "term=sync 1 99") (refused (inLine range 10))
+    ∷ case (tenth "term=comm 3 done:1>close") (refused (inLine amount 10))
+    ∷ case (tenth "term=block 3 done,done") (refused (inLine amount 10))
+    ∷ case (tenth "term=sync 0 1") (refused (inLine operand 10))
+    ∷ case ("names=1" ∷ "name=a" ∷ "equations=0" ∷ "terms=2" ∷ "term=delta" ∷ "term=sync 0 0" ∷ []) (refused (inLine operand 6))
+    ∷ case (listing ++ ("x" ∷ [])) (refused (inLine form 14))
+    ∷ []
+
+abbrev Holds : Case → Type 0
+Holds c = readText (c .given) ≡ c .reading
+
+abbrev All : List Case → Type 0
+All [] = Unit {0}
+All (c ∷ cs) = Holds c × All cs
+
+computed : All table
+unfolding plus sameText ended literal isDigit isLower secondDigit number wordOn word separatedOn part pair rule labelList alone ofName ofOne ofTwo ofList kinds ofKind countLine nameLine termLine orderLine worst rising nameNumber nameFault labelSaid actions labelFault wordsFault pairsFault rulesFault labelsFault wordsOfFault termFault orderFault takeNumber isFree takeName takeTerm takeBody takeOrder firstLine lines wholeText readText
+computed = (refl, (refl, (refl, (refl, (refl, (refl, (refl, (refl, (refl, (refl, (refl, (refl, (refl, tt)))))))))))))
+
+each : (cs : List Case) → All cs → (c : Case) → c ∈ cs → Holds c
+each (b ∷ cs) h c (inl e) = subst⁻¹ Holds e (h .0)
+each (b ∷ cs) h c (inr m) = each cs (h .1) c m
+
+pub cases : (c : Case) → c ∈ table → readText (c .given) ≡ c .reading
+cases = each table computed

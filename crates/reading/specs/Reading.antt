@@ -1,0 +1,128 @@
+-- Reading a whole description: its lines in their fixed order, the first bad line deciding.
+-- Assumes nothing.
+use mathlib.Core.Bool.{Bool, true, false, _&&_, not}
+use mathlib.Core.List.{List, [], _∷_, _++_}
+use Prim.Native.Nat.{ℕ, zero, suc}
+use lib.Dec.{leb, ltb, eqb}
+use lib.ListN.{length}
+use Rattle.meaning.specs.Bytes.{Text, ascii}
+use Rattle.meaning.specs.Descriptions.{Term, Order, Description}
+use Rattle.meaning.specs.Answers.{Fault, form, name, range, Refusal, tooLong, inLine}
+use Rattle.reading.specs.Text.{Past, past, stuck, sameText}
+use Rattle.reading.specs.Forms.{lf, countLine, nameLine, termLine, orderLine}
+use Rattle.reading.specs.Faults.{Found, fine, fault, nameNumber, termSaid, termFault, orderSaid, orderFault}
+
+-- What a line makes of that which was read before it, or its fault. A line that has no form is 2, whatever else it is.
+pub data Taken (A : Type 0) : Type 0 where
+  taken : A → Taken A
+  faulty : Fault → Taken A
+
+abbrev pub takenIf : {A : Type 0} → Bool → Fault → A → Taken A
+takenIf true f a = taken a
+takenIf false f a = faulty f
+
+abbrev pub takenUnless : {A : Type 0} → Found → A → Taken A
+takenUnless fine a = taken a
+takenUnless (fault f) a = faulty f
+
+abbrev pub formed : {A B : Type 0} → Past A → (A → Taken B) → Taken B
+formed (past a r) f = f a
+formed (stuck r) f = faulty form
+
+-- A number that passes a test: a count, or the number of a term.
+unfoldable pub takeNumber : Text → (ℕ → Bool) → Fault → Text → Taken ℕ
+takeNumber key test f line = formed (countLine key line) (λ n. takenIf (test n) f n)
+
+abbrev pub nameCount : ℕ → Bool
+nameCount n = leb 1 n && leb n 12
+
+abbrev pub equationCount : ℕ → Bool
+equationCount n = leb n 16
+
+abbrev pub termCount : ℕ → Bool
+termCount n = leb 1 n && leb n 96
+
+-- A name is no earlier one, and none of the words tau, none and all.
+unfoldable pub isFree : List Text → Text → Bool
+isFree words w =
+    not (ltb (nameNumber words w) (length words)) && not (sameText w (ascii "tau")) && not (sameText w (ascii "none")) && not (sameText w (ascii "all"))
+
+unfoldable pub takeName : List Text → Text → Taken (List Text)
+takeName words line = formed (nameLine line) (λ w. takenIf (isFree words w) name (words ++ (w ∷ [])))
+
+unfoldable pub takeTerm : List Text → ℕ → List Term → Text → Taken (List Term)
+takeTerm words equations terms line =
+    formed (termLine line) (λ l. takenUnless (termFault words equations terms l) (terms ++ (termSaid words l ∷ [])))
+
+unfoldable pub takeBody : ℕ → List ℕ → Text → Taken (List ℕ)
+takeBody terms bodies line =
+    formed (countLine (ascii "equation=") line) (λ t. takenIf (ltb t terms) range (bodies ++ (t ∷ [])))
+
+unfoldable pub takeOrder : List Text → Text → Taken Order
+takeOrder words line = formed (orderLine line) (λ l. takenUnless (orderFault words l) (orderSaid words l))
+
+-- The text's first line, without its LF, and the text after it. Without LF there is no line.
+pub data Cut : Type 0 where
+  cut : Text → Text → Cut
+  noLine : Cut
+
+abbrev pub withByte : ℕ → Cut → Cut
+withByte b (cut line rest) = cut (b ∷ line) rest
+withByte b noLine = noLine
+
+unfoldable pub firstLine : Text → Cut
+firstLine [] = noLine
+firstLine (b ∷ s) = elim (eqb b lf) [ true ↦ cut [] s | false ↦ withByte b (firstLine s) ]
+
+-- How far reading has come: what was read, the number of the next line and the text from there on; or a refusal.
+pub data Walk (A : Type 0) : Type 0 where
+  reached : A → (line : ℕ) → Text → Walk A
+  halted : Refusal → Walk A
+
+abbrev pub walk : {A B : Type 0} → Walk A → (A → ℕ → Text → Walk B) → Walk B
+walk (reached a line s) f = f a line s
+walk (halted r) f = halted r
+
+abbrev pub afterLine : {A : Type 0} → ℕ → Taken A → Text → Walk A
+afterLine line (taken a) rest = reached a (suc line) rest
+afterLine line (faulty f) rest = halted (inLine f line)
+
+abbrev pub lineWalk : {A : Type 0} → (Text → Taken A) → ℕ → Cut → Walk A
+lineWalk take line (cut l rest) = afterLine line (take l) rest
+lineWalk take line noLine = halted (inLine form line)
+
+abbrev pub oneLine : {A : Type 0} → (Text → Taken A) → ℕ → Text → Walk A
+oneLine take line s = lineWalk take line (firstLine s)
+
+-- So many lines that are read alike, each adding to what was read before.
+unfoldable pub lines : {A : Type 0} → (A → Text → Taken A) → ℕ → A → ℕ → Text → Walk A
+lines take zero a line s = reached a line s
+lines take (suc more) a line s = walk (oneLine (take a) line s) (lines take more)
+
+pub data Reading : Type 0 where
+  read : Description → Order → Reading
+  refused : Refusal → Reading
+
+abbrev pub allRead : {A : Type 0} → (A → Reading) → Walk A → Reading
+allRead make (reached a line []) = make a
+allRead make (reached a line (b ∷ s)) = refused (inLine form line)
+allRead make (halted r) = refused r
+
+pub record Whole : Type 0 where
+  pub given : Description
+  pub order : Order
+
+unfoldable pub wholeText : Text → Walk Whole
+wholeText text =
+    walk (oneLine (takeNumber (ascii "names=") nameCount form) 1 text) (λ n line s.
+    walk (lines takeName n [] line s) (λ words line s.
+    walk (oneLine (takeNumber (ascii "equations=") equationCount form) line s) (λ e line s.
+    walk (oneLine (takeNumber (ascii "terms=") termCount form) line s) (λ t line s.
+    walk (lines (takeTerm words e) t [] line s) (λ terms line s.
+    walk (lines (takeBody t) e [] line s) (λ bodies line s.
+    walk (oneLine (takeNumber (ascii "root=") (λ r. ltb r t) range) line s) (λ root line s.
+    walk (oneLine (takeOrder words) line s) (λ order line s.
+    reached (record { given = record { words = words; terms = terms; bodies = bodies; root = root }; order = order }) line s))))))))
+
+unfoldable pub readText : Text → Reading
+readText text = elim (ltb 8192 (length text)) [ true ↦ refused tooLong | false ↦ allRead (λ w. read (w .given) (w .order)) (wholeText text) ]

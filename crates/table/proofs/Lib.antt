@@ -1,0 +1,2 @@
+-- Laws of parts of the list store.
+pub mod Parts

@@ -1,0 +1,119 @@
+-- Which table and list store stand for a description, as reading makes them: the list of term t from word 32 t on, the order's
+-- from word 3,072 on, 3,104 words in all, and everything that is not used 0 or deadlock.
+-- Assumes nothing.
+use mathlib.Core.List.{List, [], _∷_, _++_, map}
+use Prim.Native.Nat.{ℕ, zero, suc, _+_, _*_}
+use lib.ListN.{length, take, replicate}
+use Rattle.table.specs.declared.Place.{Place}
+use Rattle.table.specs.declared.Operator.{Operator}
+use Rattle.table.specs.declared.Operator.the-variants.{Block, Hide, Rename, Comm, Allow}
+use Rattle.table.specs.declared.Term.{Term}
+use Rattle.table.specs.declared.Term.the-variants.{Delta, Tau, Act, Ref, Sum, Cond, Choice, IfElse, Seq, Merge, LMerge, Sync, Wrap}
+use Rattle.table.specs.declared.Slot.{Slot}
+use Rattle.table.specs.declared.Order.{Order}
+use Rattle.table.specs.declared.Order.the-variants.{All, Only}
+use Rattle.table.specs.declared.Table.{Table}
+use Rattle.meaning.specs.Bytes.{Text}
+use Rattle.meaning.specs.Labels.{number}
+use Rattle.meaning.specs.Descriptions as D
+
+-- the first so many of a list, with a filler where it has fewer
+unfoldable pub filled : {A : Type 0} → ℕ → A → List A → List A
+filled zero x xs = []
+filled (suc n) x [] = x ∷ filled n x []
+filled (suc n) x (y ∷ ys) = y ∷ filled n x ys
+
+unfoldable pub wordOf : Text → ℕ
+wordOf [] = 0
+wordOf (b ∷ s) = b + 256 * wordOf s
+
+abbrev pub pairWord : D.Pair → ℕ
+pairWord p = p .left + 32 * p .right
+
+unfoldable pub ruleWords : List D.Rule → List ℕ
+ruleWords [] = []
+ruleWords (r ∷ rs) = number (r .left) ∷ r .right ∷ ruleWords rs
+
+-- The words of a term's list.
+abbrev pub operatorWords : D.Operator → List ℕ
+operatorWords (D.block ns) = ns
+operatorWords (D.hide ns) = ns
+operatorWords (D.rename ps) = map pairWord ps
+operatorWords (D.comm rs) = ruleWords rs
+operatorWords (D.allow ls) = map number ls
+
+abbrev pub termWords : D.Term → List ℕ
+termWords (D.act n) = []
+termWords D.tau = []
+termWords D.delta = []
+termWords (D.ref e) = []
+termWords (D.sum t) = []
+termWords (D.cond t) = []
+termWords (D.choice t u) = []
+termWords (D.ifelse t u) = []
+termWords (D.seq t u) = []
+termWords (D.merge t u) = []
+termWords (D.lmerge t u) = []
+termWords (D.sync t u) = []
+termWords (D.wrap o t) = operatorWords o
+
+abbrev pub orderWords : D.Order → List ℕ
+orderWords D.all = []
+orderWords (D.only ls) = map number ls
+
+unfoldable pub termsWords : List D.Term → List ℕ
+termsWords [] = []
+termsWords (t ∷ ts) = filled 32 0 (termWords t) ++ termsWords ts
+
+unfoldable pub storeOf : D.Description → D.Order → List ℕ
+storeOf d o = filled 3072 0 (termsWords (d .terms)) ++ filled 32 0 (orderWords o)
+
+-- The table.
+abbrev pub placeOf : {A : Type 0} → ℕ → List A → Place
+placeOf n xs = record { at = 32 * n; entries = length xs }
+
+abbrev pub operatorFor : ℕ → D.Operator → Operator
+operatorFor n (D.block ns) = Block (placeOf n ns)
+operatorFor n (D.hide ns) = Hide (placeOf n ns)
+operatorFor n (D.rename ps) = Rename (placeOf n ps)
+operatorFor n (D.comm rs) = Comm (placeOf n rs)
+operatorFor n (D.allow ls) = Allow (placeOf n ls)
+
+abbrev pub termFor : ℕ → D.Term → Term
+termFor n (D.act a) = Act a
+termFor n D.tau = Tau
+termFor n D.delta = Delta
+termFor n (D.ref e) = Ref e
+termFor n (D.sum t) = Sum t
+termFor n (D.cond t) = Cond t
+termFor n (D.choice t u) = Choice t u
+termFor n (D.ifelse t u) = IfElse t u
+termFor n (D.seq t u) = Seq t u
+termFor n (D.merge t u) = Merge t u
+termFor n (D.lmerge t u) = LMerge t u
+termFor n (D.sync t u) = Sync t u
+termFor n (D.wrap o t) = Wrap (operatorFor n o) t
+
+unfoldable pub slotsFrom : ℕ → List D.Term → List Slot
+slotsFrom n [] = []
+slotsFrom n (t ∷ ts) = record { term = termFor n t } ∷ slotsFrom (suc n) ts
+
+abbrev pub orderFor : D.Order → Order
+orderFor D.all = All
+orderFor (D.only ls) = Only (placeOf 96 ls)
+
+unfoldable pub tableOf : D.Description → Table
+tableOf d =
+    record {
+      names = filled 12 0 (map wordOf (d .words));
+      named = length (d .words);
+      bodies = filled 16 0 (d .bodies);
+      equations = length (d .bodies);
+      slots = filled 96 (record { term = Delta }) (slotsFrom 0 (d .terms));
+      terms = length (d .terms);
+      root = d .root;
+    }
+
+-- nothing described: what stands in the table after a refusal
+abbrev pub blank : D.Description
+blank = record { words = []; terms = []; bodies = []; root = 0 }
