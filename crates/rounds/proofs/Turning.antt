@@ -1,0 +1,70 @@
+-- A round begins and ends; what the numbers of labels tell of two rounds.
+-- Assumes nothing.
+use mathlib.Core.Path.{_≡_, refl, sym, ap, ap₂, subst, _∙_, fun-ext}
+use mathlib.Core.List.{List, [], _∷_, _++_, map}
+use Prim.Native.Nat.{ℕ, zero, suc, pred, _+_, _-_, _≤_, _<_, zero-le}
+use native.Mathlib.Nat.{le-refl, min-eq-left, add-zero}
+use native.Mathlib.Numerals.{add-one}
+use native.Mathlib.Omega.{arith}
+use lib.Dec.{T}
+use lib.ListN.{length, getD, take, drop, length-append, length-take, length-drop}
+use lib.Seq.{take-all, take-append-le, take-append-seam, drop-append-seam, drop-append-add, drop-drop}
+use Rattle.meaning.specs.Labels.{Label, number}
+use Rattle.meaning.specs.Sets.{at}
+use Rattle.meaning.specs.Descriptions.{Description, termCount, all}
+use Rattle.meaning.specs.Rounds.{worked, next, bodySets, roundSets, equationSets}
+use Rattle.meaning.specs.Limits.{total, someOver, over}
+use Rattle.meaning.proofs.Carried.{length-worked}
+use Rattle.meaning.proofs.Sorted.{once-count}
+use Rattle.meaning.proofs.Members.{ascending-unique}
+use Rattle.meaning.proofs.Growth.{round-grows, round-ascends}
+use Rattle.meaning.proofs.Stable.{Stable, once-round}
+use Rattle.meaning.proofs.Outcomes.{worked-over}
+use Rattle.rounds.specs.Laid.{flat, Begins, Laid}
+use Rattle.rounds.specs.Working.{half, whole, partly, setOf, Ready, Kept, TermDone, TermOver, RoundDone, RoundOver, Between}
+use Rattle.rounds.proofs.Areas.{length-flat, total-take}
+use Rattle.rounds.proofs.Passing.{kept-trans, at-most}
+
+none-over : T (over []) → ⊥
+unfolding over someOver total
+none-over t = t
+
+pub ready-start : (d : Description) (k : ℕ) (older before this work : List ℕ) → Between d k older before work → getD this 0 0 ≡ 0
+    → Ready d k 0 older before this work
+unfolding worked flat total
+ready-start d k older before this work b z =
+    record {
+      legal = b .legal;
+      room = b .room;
+      old = b .old;
+      lower = b .lower;
+      upper = record { words = refl; begins = λ i. elim i [ zero ↦ λ h. z | suc j ↦ λ h. absurd (omega arith) ] };
+      few = b .few;
+      fewer = none-over;
+    }
+
+pub round-done : (d : Description) (k n : ℕ) (older before this work work′ : List ℕ) → Ready d k n older before this work′ → n ≡ termCount d → Kept work work′
+    → RoundDone d k before this work work′
+unfolding roundSets next
+round-done d k n older before this work work′ r e kept =
+    let whole-round : partly d k n ≡ roundSets d (suc k) = ap (worked d (equationSets d k)) e in
+    record {
+      upper = subst (λ (m : ℕ). Laid half m (roundSets d (suc k)) this work′) e (subst (λ (sets : List (List Label)). Laid half n sets this work′) whole-round (r .upper));
+      few = subst (λ (sets : List (List Label)). T (over sets) → ⊥) whole-round (r .fewer);
+      kept = kept;
+    }
+
+pub round-over : (d : Description) (k n : ℕ) (work now work′ : List ℕ) → n < termCount d → Kept work now → TermOver d k n now work′ → RoundOver d k work work′
+round-over d k n work now work′ h kept t =
+    record { passed = worked-over d k (suc n) h (t .passed); kept = kept-trans work now work′ kept (t .kept) }
+
+-- The number of labels of a set, from where it begins.
+pub size-of : (n : ℕ) (sets : List (List Label)) (starts : List ℕ) → Begins n sets starts → (i : ℕ) → i < n
+    → getD starts (i + 1) 0 ≡ getD starts i 0 + length (at sets i)
+size-of n sets starts b i h = rw (add-one i) (b (suc i) h ∙ total-take sets i ∙ ap (λ (m : ℕ). m + length (at sets i)) (sym (b i (omega arith))))
+
+-- A set that has as many labels as in the round before is the same.
+pub same-size : (d : Description) (k i : ℕ) → length (at (roundSets d (suc k)) i) ≡ length (at (roundSets d k) i) → at (roundSets d (suc k)) i ≡ at (roundSets d k) i
+same-size d k i e =
+    let back = once-count (at (roundSets d k) i) (at (roundSets d (suc k)) i) (once-round d k i) (round-grows d k i) .1 (omega arith) in
+    ascending-unique (at (roundSets d (suc k)) i) (at (roundSets d k) i) (round-ascends d (suc k) i) (round-ascends d k i) back (round-grows d k i)

@@ -1,0 +1,75 @@
+-- `rounds::cutting::cut` meets its contract: the words that the order allows are put one after the other.
+-- Assumes nothing.
+use mathlib.Core.Path.{_≡_, refl, sym, ap, _∙_}
+use mathlib.Core.Logic.{⊎-elim}
+use Prim.Native.Nat.{_-_, _≤_}
+use native.Mathlib.Omega.{arith}
+use lib.ListN.{length, drop}
+use borrow.Author.Needs.{needs}
+use Rattle.rounds.proofs.Keeping.{Cut, cut-start, cut-room, cut-keep, cut-skip, cut-end}
+use Rattle.rounds.proofs.cutting.cut.Statement.{statement}
+use Rattle.rounds.proofs.cutting.cut.Tie as tie
+use Rattle.rounds.proofs.cutting.cut.Reads as reads
+use Rattle.rounds.proofs.cutting.cut.Lts as lts
+use Rattle.rounds.proofs.cutting.allowed.Reads as allowed-reads
+
+abbrev Inv-loop : tie.InvT-loop
+Inv-loop all list set answer₀ n₀ i₀ answer n i = Cut all list set answer₀ i n answer
+
+abbrev μ-loop : tie.MeasureT-loop
+μ-loop all list set answer₀ n₀ i₀ answer n i = length set - i
+
+loop-holds : tie.Need-loop-holds Inv-loop μ-loop
+loop-holds c = cut-start (c .before .before .before .args .all) (c .before .before .before .args .list .now) (c .before .before .before .args .set .now) (c .before .before .before .args .answer .now) (omega arith)
+
+mul-word : tie.Need-mul-word Inv-loop μ-loop
+mul-word c = omega arith
+
+shared-slice-read-word : tie.Need-shared-slice-read-word Inv-loop μ-loop
+shared-slice-read-word c = omega arith
+
+allowed-requires : tie.Need-allowed-requires Inv-loop μ-loop
+allowed-requires c κs = tt
+
+mul-answer : tie.Need-mul-answer Inv-loop μ-loop
+mul-answer c = let room = cut-room (c .before .before .before .before .before .before .before .before .args .all) (c .before .before .before .before .before .before .before .before .args .list .now) (c .before .before .before .before .before .before .before .before .args .set .now) (c .before .before .before .before .before .before .before .before .args .answer .now) (c .before .before .before .before .loop .i) (c .before .before .before .before .loop .n) (c .before .before .before .before .loop .answer) (c .before .before .before .before .loop .inv) (c .before .before .before .loop-test .taken) (sym (c .before .allowed .ensures) ∙ c .if1 .taken) in omega arith
+
+slice-write-answer : tie.Need-slice-write-answer Inv-loop μ-loop
+slice-write-answer c = cut-room (c .before .before .before .before .before .before .before .before .args .all) (c .before .before .before .before .before .before .before .before .args .list .now) (c .before .before .before .before .before .before .before .before .args .set .now) (c .before .before .before .before .before .before .before .before .args .answer .now) (c .before .before .before .before .loop .i) (c .before .before .before .before .loop .n) (c .before .before .before .before .loop .answer) (c .before .before .before .before .loop .inv) (c .before .before .before .loop-test .taken) (sym (c .before .allowed .ensures) ∙ c .if1 .taken)
+
+add-n : tie.Need-add-n Inv-loop μ-loop
+add-n c = let room = cut-room (c .before .before .before .before .before .before .before .before .args .all) (c .before .before .before .before .before .before .before .before .args .list .now) (c .before .before .before .before .before .before .before .before .args .set .now) (c .before .before .before .before .before .before .before .before .args .answer .now) (c .before .before .before .before .loop .i) (c .before .before .before .before .loop .n) (c .before .before .before .before .loop .answer) (c .before .before .before .before .loop .inv) (c .before .before .before .loop-test .taken) (sym (c .before .allowed .ensures) ∙ c .if1 .taken) in omega arith
+
+add-i : tie.Need-add-i Inv-loop μ-loop
+add-i c = omega arith
+
+loop-less : tie.Need-loop-less Inv-loop μ-loop
+loop-less c = omega arith
+
+loop-again : tie.Need-loop-again Inv-loop μ-loop
+loop-again c = ⊎-elim (λ w. rw (w .1, w .2) (cut-keep (c .before .before .before .before .before .before .before .before .args .all) (c .before .before .before .before .before .before .before .before .args .list .now) (c .before .before .before .before .before .before .before .before .args .set .now) (c .before .before .before .before .before .before .before .before .args .answer .now) (c .before .before .before .before .loop .i) (c .before .before .before .before .loop .n) (c .before .before .before .before .loop .answer) (c .before .before .before .before .loop .inv) (c .before .before .before .loop-test .taken) (sym (c .before .allowed .ensures) ∙ w .0 .taken))) (λ w. rw (w .1, w .2) (cut-skip (c .before .before .before .before .before .before .before .before .args .all) (c .before .before .before .before .before .before .before .before .args .list .now) (c .before .before .before .before .before .before .before .before .args .set .now) (c .before .before .before .before .before .before .before .before .args .answer .now) (c .before .before .before .before .loop .i) (c .before .before .before .before .loop .n) (c .before .before .before .before .loop .answer) (c .before .before .before .before .loop .inv) (c .before .before .before .loop-test .taken) (sym (c .before .allowed .ensures) ∙ w .0 .left))) (c .if1 .came)
+
+same-length : tie.Need-same-length Inv-loop μ-loop
+same-length c = c .before .loop .inv .fill .same
+
+returns : tie.Need-returns Inv-loop μ-loop
+returns c = cut-end (c .before .before .before .before .before .args .all) (c .before .before .before .before .before .args .list .now) (c .before .before .before .before .before .args .set .now) (c .before .before .before .before .before .args .answer .now) (c .before .loop .i) (c .before .loop .n) (c .before .loop .answer) (c .before .loop .inv) (omega arith)
+
+pub cut-spec : {M : Type 1} → statement M
+cut-spec =
+    tie.close
+    (tie.spec
+    Inv-loop
+    μ-loop
+    loop-holds
+    mul-word
+    shared-slice-read-word
+    allowed-requires
+    mul-answer
+    slice-write-answer
+    add-n
+    add-i
+    loop-less
+    loop-again
+    same-length
+    returns)

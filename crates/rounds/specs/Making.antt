@@ -1,0 +1,23 @@
+-- The set of a term built in words, by the shape of the term.
+-- Assumes nothing.
+use mathlib.Core.List.{List, [], _∷_}
+use Prim.Native.Nat.{ℕ}
+use Rattle.sets.specs.declared.Way.{Way}
+use Rattle.sets.specs.declared.Way.the-variants.{Copy}
+use Rattle.sets.specs.Building.{Building, next, each, enter, imaged, multiplied}
+use Rattle.sets.specs.Joining.{united}
+
+abbrev pub leafBuilt : ℕ → ℕ → List ℕ → Building
+leafBuilt room w s = enter room w s
+
+abbrev pub throughBuilt : ℕ → Way → List ℕ → List ℕ → List ℕ → Building
+throughBuilt room way list a s = each (imaged room way list) a s
+
+abbrev pub eitherBuilt : ℕ → List ℕ → List ℕ → List ℕ → Building
+eitherBuilt room a b s = united room a b
+
+abbrev pub jointBuilt : ℕ → List ℕ → List ℕ → List ℕ → Building
+jointBuilt room a b s = multiplied room a b s
+
+abbrev pub bothBuilt : ℕ → List ℕ → List ℕ → List ℕ → Building
+bothBuilt room a b s = next (united room a b) (multiplied room a b)

@@ -1,0 +1,5 @@
+// The sets of all terms, worked out round by round in a lent work area, and the root's set cut to the order.
+mod clearing;
+mod cutting;
+mod exchanging;
+pub mod making;
