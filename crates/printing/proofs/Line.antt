@@ -1,0 +1,38 @@
+-- A line: its key, its value and its end, one behind the other.
+-- Assumes nothing.
+use mathlib.Core.Path.{_≡_, sym}
+use mathlib.Core.List.{[], _∷_, _++_, append-assoc}
+use Prim.Native.Nat.{ℕ, _+_, _≤_, _<_}
+use native.Mathlib.Omega.{arith}
+use lib.ListN.{length, set, length-append}
+use Rattle.meaning.specs.Bytes.{Text}
+use Rattle.printing.specs.Printed.{decimal, line}
+use Rattle.printing.specs.Areas.{Written}
+use Rattle.printing.specs.Steps.{headText}
+use Rattle.printing.proofs.Decimal.{length-decimal}
+use Rattle.printing.proofs.Writing.{Underway, first, lent, back, step, step-byte, end, kept, room, same-size}
+
+pub length-line : (key value : Text) → length (line key value) ≡ length key + length value + 1
+length-line key value = rw (length-append (key ++ value) (10 ∷ []), length-append key value)
+
+pub keyed : (key value : Text) {before mid : Text} {k : ℕ} → length (line key value) ≤ length before → Written key before mid k → Underway (line key value) (value ++ (10 ∷ [])) before mid k
+keyed key value h u = first (sym (append-assoc key value (10 ∷ []))) h u
+
+-- A line whose key and value are written and whose end is stored behind them: what the writers of lines have to show.
+pub record Ended (key value before mid part : Text) (k r : ℕ) : Type 0 where
+  pub below : k + r < length before
+  pub inside : k + r < length (back k mid part)
+  pub written : Written (line key value) before (set (back k mid part) (k + r) 10) (k + r + 1)
+  pub same : length (set (back k mid part) (k + r) 10) ≡ length before
+
+pub ended : (key value : Text) {before mid part : Text} {k r : ℕ} → length (line key value) ≤ length before → Written key before mid k →
+    Written value (lent k mid) part r → Ended key value before mid part k r
+ended key value h u v =
+    let w = step (keyed key value h u) v in
+    let e = end (step-byte w) in
+    record { below = omega (arith, room w, kept w); inside = omega (arith, room w); written = e; same = same-size h e }
+
+pub length-head : (said key : Text) (n : ℕ) (next : Text) (m : ℕ) → length said + length key + length next ≤ 38 → length (headText said key n next m) ≤ 80
+length-head said key n next m h =
+    rw (length-append said (line key (decimal n) ++ line next (decimal m)), length-append (line key (decimal n)) (line next (decimal m)), length-line key (decimal n), length-line next (decimal m))
+    (omega (arith, length-decimal n, length-decimal m))

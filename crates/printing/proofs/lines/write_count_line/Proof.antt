@@ -1,0 +1,74 @@
+-- `printing::lines::write_count_line` meets its contract: the key, the number and the line's end.
+-- Assumes nothing.
+use mathlib.Core.List.{[], _∷_, _++_}
+use native.Mathlib.Nat.{le-refl}
+use native.Mathlib.Omega.{arith}
+use Rattle.meaning.specs.Bytes.{Text}
+use Rattle.printing.specs.Printed.{decimal, line}
+use Rattle.printing.proofs.Writing.{Underway, copied, room, next-room}
+use Rattle.printing.proofs.Line.{length-line, keyed, Ended, ended}
+use Rattle.printing.proofs.lines.write_count_line.Statement.{statement}
+use Rattle.printing.proofs.lines.write_count_line.Tie as tie
+
+abbrev value : tie.Start → Text
+value s = decimal (s .args .n)
+
+copy-requires : tie.Need-copy-requires
+copy-requires c κs =
+    let s = c .before .before .before in
+    omega (arith, length-line (s .args .key .now) (value s))
+
+-- the key is written, and the value is to come
+abbrev entry : tie.After-slice-known2 → tie.Start
+entry c = c .before .before .before .before .before .before
+
+key-written : (c : tie.After-slice-known2) →
+    let w = c .before .before .copy in
+    Underway (line (entry c .args .key .now) (value (entry c))) (value (entry c) ++ (10 ∷ [])) (entry c .args .text .now) (w .last .1 .0) (w .result)
+key-written c =
+    let w = c .before .before .copy .ensures in
+    keyed (entry c .args .key .now) (value (entry c)) (entry c .pre) (copied (w .0) (w .1))
+
+sub-write-number : tie.Need-sub-write-number
+sub-write-number c = omega (arith, room (key-written c))
+
+part-write-number-start : tie.Need-part-write-number-start
+part-write-number-start c = sub-write-number c
+
+part-write-number-end : tie.Need-part-write-number-end
+part-write-number-end c = le-refl _
+
+write-number-requires : tie.Need-write-number-requires
+write-number-requires c κs = next-room (value (entry (c .before))) (10 ∷ []) (key-written (c .before))
+
+-- the value is written too
+line-written : (c : tie.After-slice-known3) →
+    let k = c .before .before .before .before in
+    let w = k .before .before .copy in
+    let v = c .before .before .write-number in
+    Ended (entry k .args .key .now) (value (entry k)) (entry k .args .text .now) (w .last .1 .0) (v .last .0) (w .result) (v .result)
+line-written c =
+    let k = c .before .before .before .before in
+    let w = k .before .before .copy .ensures in
+    ended (entry k .args .key .now) (value (entry k)) (entry k .pre) (copied (w .0) (w .1)) (c .before .before .write-number .ensures)
+
+add-end : tie.Need-add-end
+add-end c = omega (arith, line-written c .below)
+
+slice-write-text : tie.Need-slice-write-text
+slice-write-text c = line-written c .inside
+
+add-result : tie.Need-add-result
+add-result c = omega (arith, line-written c .below)
+
+same-length : tie.Need-same-length
+same-length c = line-written c .same
+
+returns : tie.Need-returns
+returns c = line-written c .written
+
+pub write-count-line-spec : {M : Type 1} → statement M
+write-count-line-spec =
+    tie.close
+    (tie.spec copy-requires sub-write-number part-write-number-start part-write-number-end write-number-requires add-end
+    slice-write-text add-result same-length returns)

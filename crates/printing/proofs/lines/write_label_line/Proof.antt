@@ -1,0 +1,77 @@
+-- `printing::lines::write_label_line` meets its contract: the key, the label and the line's end.
+-- Assumes nothing.
+use mathlib.Core.Path.{refl}
+use mathlib.Core.List.{[], _∷_, _++_}
+use native.Mathlib.Nat.{le-refl}
+use native.Mathlib.Omega.{arith}
+use Rattle.meaning.specs.Bytes.{Text, ascii}
+use Rattle.printing.specs.Printed.{labelText, line}
+use Rattle.printing.specs.Areas.{wordsOf, countsOf}
+use Rattle.printing.proofs.Writing.{Underway, copied, room, next-room}
+use Rattle.printing.proofs.Line.{keyed, Ended, ended}
+use Rattle.printing.proofs.lines.write_label_line.Statement.{statement}
+use Rattle.printing.proofs.lines.write_label_line.Tie as tie
+
+abbrev value : tie.Start → Text
+value s = labelText (wordsOf (s .args .names)) (countsOf (s .args .label))
+
+slice-aggregate-copy : tie.Need-slice-aggregate-copy
+slice-aggregate-copy c = refl
+
+copy-requires : tie.Need-copy-requires
+copy-requires c κs = omega arith
+
+-- the key is written, and the value is to come
+abbrev entry : tie.After-slice-known2 → tie.Start
+entry c = c .before .before .before .before .before .before
+
+key-written : (c : tie.After-slice-known2) →
+    let w = c .before .before .copy in
+    Underway (line (ascii "label=") (value (entry c))) (value (entry c) ++ (10 ∷ [])) (entry c .args .text .now) (w .last .1 .0) (w .result)
+key-written c =
+    let w = c .before .before .copy .ensures in
+    keyed (ascii "label=") (value (entry c)) (entry c .pre) (copied (w .0) (w .1))
+
+-- the value is written too
+line-written : (c : tie.After-slice-known3) →
+    let k = c .before .before .before .before in
+    let w = k .before .before .copy in
+    let v = c .before .before .write-label in
+    Ended (ascii "label=") (value (entry k)) (entry k .args .text .now) (w .last .1 .0) (v .last .0) (w .result) (v .result)
+line-written c =
+    let k = c .before .before .before .before in
+    let w = k .before .before .copy .ensures in
+    ended (ascii "label=") (value (entry k)) (entry k .pre) (copied (w .0) (w .1)) (c .before .before .write-label .ensures)
+
+sub-write-label : tie.Need-sub-write-label
+sub-write-label c = omega (arith, room (key-written c))
+
+part-write-label-start : tie.Need-part-write-label-start
+part-write-label-start c = sub-write-label c
+
+part-write-label-end : tie.Need-part-write-label-end
+part-write-label-end c = le-refl _
+
+write-label-requires : tie.Need-write-label-requires
+write-label-requires c κs = next-room (value (entry (c .before))) (10 ∷ []) (key-written (c .before))
+
+returns : tie.Need-returns
+returns c = line-written c .written
+
+same-length : tie.Need-same-length
+same-length c = line-written c .same
+
+slice-write-text : tie.Need-slice-write-text
+slice-write-text c = line-written c .inside
+
+add-end : tie.Need-add-end
+add-end c = omega (arith, line-written c .below)
+
+add-result : tie.Need-add-result
+add-result c = omega (arith, line-written c .below)
+
+pub write-label-line-spec : {M : Type 1} → statement M
+write-label-line-spec =
+    tie.close
+    (tie.spec slice-aggregate-copy copy-requires sub-write-label part-write-label-start part-write-label-end write-label-requires
+    add-end slice-write-text add-result same-length returns)

@@ -1,0 +1,92 @@
+// The lines of a text: what was answered and two counts, then a line for each label.
+use crate::labels::label_length;
+use crate::labels::write_label;
+use crate::numbers::write_number;
+use table::NAMES;
+ghost use mathlib.Core.Path.{_≡_};
+ghost use mathlib.Core.List.{map};
+ghost use Prim.Native.Nat.{_+_, _≤_};
+ghost use lib.Dec.{leb};
+ghost use lib.ListN.{length};
+ghost use Rattle.meaning.specs.Bytes.{ascii};
+ghost use Rattle.printing.specs.Printed.{decimal, line, labelText, labelLines};
+ghost use Rattle.printing.specs.Areas.{Written, wordsOf, countsOf};
+ghost use Rattle.printing.specs.Steps.{headText};
+
+fn write_count_line(text: &mut [u8], key: &[u8], n: usize) -> usize
+    requires { ⌜ length (line (now key) (decimal n)) ≤ length (now text) ⌝ }
+    ensures { λ r. ⌜ Written (line (now (key .entry)) (decimal n)) (now (text .entry)) (now (text .exit)) r ⌝ }
+{
+    let at = bytes::copy(key, text);
+    let end = at + write_number(&mut text[at..], n);
+    text[end] = b'\n';
+    end + 1
+}
+
+// The line of an answer or a refusal, and the lines of its two numbers.
+pub(crate) fn write_head(
+    text: &mut [u8],
+    said: &[u8],
+    key: &[u8],
+    n: usize,
+    next_key: &[u8],
+    m: usize,
+) -> usize
+    requires { ⌜ length (headText (now said) (now key) n (now «next_key») m) ≤ length (now text) ⌝ }
+    ensures { λ r. ⌜ Written (headText (now (said .entry)) (now (key .entry)) n (now («next_key» .entry)) m) (now (text .entry)) (now (text .exit)) r ⌝ }
+{
+    let first = bytes::copy(said, text);
+    let second = first + write_count_line(&mut text[first..], key, n);
+    second + write_count_line(&mut text[second..], next_key, m)
+}
+
+// Two numbers of at most twenty digits, two line ends, and at most 38 bytes of words.
+const LONGEST_HEAD: usize = 80;
+
+pub(crate) fn head_length(said: &[u8], key: &[u8], n: usize, next_key: &[u8], m: usize) -> usize
+    requires { ⌜ length (now said) + length (now key) + length (now «next_key») ≤ 38 ⌝ }
+    ensures { λ r. ⌜ r ≡ length (headText (now (said .entry)) (now (key .entry)) n (now («next_key» .entry)) m) ⌝ }
+{
+    let mut scratch = [0u8; LONGEST_HEAD];
+    write_head(&mut scratch, said, key, n, next_key, m)
+}
+
+fn write_label_line(text: &mut [u8], names: [u64; NAMES], label: u64) -> usize
+    requires { ⌜ length (line (ascii "label=") (labelText (wordsOf names) (countsOf label))) ≤ length (now text) ⌝ }
+    ensures { λ r. ⌜ Written (line (ascii "label=") (labelText (wordsOf names) (countsOf label))) (now (text .entry)) (now (text .exit)) r ⌝ }
+{
+    let at = bytes::copy(b"label=", text);
+    let end = at + write_label(&mut text[at..], names, label);
+    text[end] = b'\n';
+    end + 1
+}
+
+pub(crate) fn write_label_lines(text: &mut [u8], names: [u64; NAMES], labels: &[u64]) -> usize
+    requires { ⌜ length (labelLines (wordsOf names) (map countsOf (now labels))) ≤ length (now text) ⌝ }
+    ensures { λ r. ⌜ Written (labelLines (wordsOf names) (map countsOf (now (labels .entry)))) (now (text .entry)) (now (text .exit)) r ⌝ }
+{
+    let mut at = 0;
+    let mut i = 0;
+    while i < labels.len() {
+        at += write_label_line(&mut text[at..], names, labels[i]);
+        i += 1;
+    }
+    at
+}
+
+// The room goes down line by line: the lengths of all lines together could pass a word.
+pub(crate) fn label_lines_fit(names: [u64; NAMES], labels: &[u64], room: usize) -> bool
+    ensures { λ r. ⌜ r ≡ leb (length (labelLines (wordsOf names) (map countsOf (now (labels .entry))))) room ⌝ }
+{
+    let mut left = room;
+    let mut i = 0;
+    while i < labels.len() {
+        let size = label_length(names, labels[i]) + 7;
+        if left < size {
+            return false;
+        }
+        left = left - size;
+        i += 1;
+    }
+    true
+}
