@@ -15,8 +15,8 @@ use Rattle.meaning.specs.Descriptions as D
 use Rattle.meaning.specs.Legal.{LegalOrder, Legal}
 use Rattle.meaning.specs.Answers.{Fault, Refusal, form, name, range, operand, tooLong}
 use Rattle.meaning.proofs.Tests.{and-left, and-right, and-both}
-use Rattle.reading.specs.Forms.{countLine, nameLine}
-use Rattle.reading.specs.Faults.{worse, unless, inRange, operandsFit, termSaid, termFault}
+use Rattle.forms.specs.Forms.{countLine, nameLine}
+use Rattle.forms.specs.Faults.{worse, unless, inRange, operandsFit, termSaid, termFault}
 use Rattle.reading.specs.Reading.{takeNumber, nameCount, equationCount, termCount, isFree, takeName, takeTerm, takeBody, takeOrder, Walk, reached, halted, Reading, read, refused, allRead, Whole, wholeText, readText}
 use Rattle.reading.specs.Writing.{numberText, termText, orderText, written, LegalWords}
 use Rattle.reading.proofs.Findings.{fine-tests}

@@ -13,9 +13,9 @@ use Rattle.meaning.specs.Sets.{_∈_}
 use Rattle.meaning.specs.Legal.{Each}
 use Rattle.meaning.specs.Answers.{name}
 use Rattle.meaning.proofs.Tests.{and-left, and-right, and-both, or-cases, or-left, decided-by}
-use Rattle.reading.specs.Text.{past, sameText, isDigit, isLower, secondDigit, number, wordOn, word}
-use Rattle.reading.specs.Forms.{lf}
-use Rattle.reading.specs.Faults.{Found, fine, nameNumber, nameFault}
+use Rattle.forms.specs.Text.{past, sameText, isDigit, isLower, secondDigit, number, wordOn, word}
+use Rattle.forms.specs.Forms.{lf}
+use Rattle.forms.specs.Faults.{Found, fine, nameNumber, nameFault}
 use Rattle.reading.specs.Writing.{numberText, nameText, inName, NameForm, Distinct, LegalWords}
 use Rattle.reading.proofs.Findings.{IsFine, fine-unless}
 use Rattle.reading.proofs.Onwards.{passes, fails, same→, same-refl, When, when-past, when-stuck, when-branch, onward→, onward←}

@@ -14,8 +14,8 @@ use Rattle.meaning.specs.Descriptions.{Term, act, tau, delta, ref, sum, cond, c
 use Rattle.meaning.specs.Legal.{Each, isMultiAction, MultiAction, LegalTwo, LegalTerm, LegalTerms}
 use Rattle.meaning.proofs.Tests.{and-left, and-right, and-both}
 use Rattle.meaning.proofs.Members.{in-append}
-use Rattle.reading.specs.Text.{sameText}
-use Rattle.reading.specs.Faults.{nameNumber, bothBelow, inRange, operandsFit}
+use Rattle.forms.specs.Text.{sameText}
+use Rattle.forms.specs.Faults.{nameNumber, bothBelow, inRange, operandsFit}
 use Rattle.reading.specs.Reading.{isFree}
 use Rattle.reading.specs.Writing.{NameForm, Unreserved, Distinct, LegalWords}
 use Rattle.reading.proofs.Onwards.{same→, same-refl}

@@ -12,17 +12,4 @@ pub mod TermLines
 pub mod Sections
 pub mod LegalLines
 pub mod Acceptance
-pub mod Rests
-pub mod Words
-pub mod Steps
-pub mod Ranks
-pub mod Tallied
-pub mod Looked
-pub mod Seen
-pub mod Gathered
-pub mod Parts
-pub mod Listed
-pub mod Operands
-pub mod Contents
 pub mod Ends
-pub mod Wraps

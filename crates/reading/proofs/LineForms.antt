@@ -7,8 +7,8 @@ use mathlib.Core.List.{[], _++_, append-nil}
 use Prim.Native.Nat.{ℕ}
 use lib.Dec.{T}
 use Rattle.meaning.specs.Bytes.{Text}
-use Rattle.reading.specs.Text.{Past, past, onward, ended, literal}
-use Rattle.reading.specs.Faults.{Found, fine, worse}
+use Rattle.forms.specs.Text.{Past, past, onward, ended, literal}
+use Rattle.forms.specs.Faults.{Found, fine, worse}
 use Rattle.reading.proofs.Findings.{IsFine, fine-worse}
 use Rattle.reading.proofs.Onwards.{When, when-past, when-weaken, onward→, onward←, ended→, ended←, literal→, literal←}
 use Rattle.reading.proofs.Writes.{Stops, Inline, inline?, inline-tested, inline-append, Writes}

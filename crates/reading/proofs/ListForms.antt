@@ -17,9 +17,9 @@ use Rattle.meaning.specs.Legal.{LegalLabel, LegalNames, LegalPair, LegalPairs, 
 use Rattle.meaning.specs.Answers.{name, amount}
 use Rattle.meaning.proofs.Tests.{and-left, and-right, and-both}
 use Rattle.meaning.proofs.Bags.{size-plus, size-empty}
-use Rattle.reading.specs.Text.{past, sameText, isDigit, isLower, literal, number, word, wordOn, separatedOn, separated}
-use Rattle.reading.specs.Forms.{Part, Parts, comma, dot, colon, greater, part, label, wordList, pair, rule, labelList}
-use Rattle.reading.specs.Faults.{worse, unless, worst, above, rising, nameNumber, nameFault, labelSaid, actions, partFault, labelFault, wordsFault, pairFault, pairsFault, ruleFault, rulesFault, labelsFault, pairSaid, ruleSaid, numberSaid}
+use Rattle.forms.specs.Text.{past, sameText, isDigit, isLower, literal, number, word, wordOn, separatedOn, separated}
+use Rattle.forms.specs.Forms.{Part, Parts, comma, dot, colon, greater, part, label, wordList, pair, rule, labelList}
+use Rattle.forms.specs.Faults.{worse, unless, worst, above, rising, nameNumber, nameFault, labelSaid, actions, partFault, labelFault, wordsFault, pairFault, pairsFault, ruleFault, rulesFault, labelsFault, pairSaid, ruleSaid, numberSaid}
 use Rattle.reading.specs.Writing.{numberText, nameText, joined, Entry, entriesFrom, entryText, labelText, pairText, ruleText, listText, labelsText, inName, LegalWords}
 use Rattle.reading.proofs.Findings.{IsFine, fine-worse, fine-unless}
 use Rattle.reading.proofs.Onwards.{same→, differs, when-past, when-weaken, when-branch}

@@ -9,9 +9,9 @@ use lib.Dec.{T, eqb, eqb→eq}
 use lib.ListN.{length}
 use Rattle.meaning.specs.Bytes.{Text}
 use Rattle.meaning.specs.Answers.{Fault, Refusal}
-use Rattle.reading.specs.Text.{Past, past, stuck}
-use Rattle.reading.specs.Forms.{lf}
-use Rattle.reading.specs.Faults.{Found, fine, fault, unless}
+use Rattle.forms.specs.Text.{Past, past, stuck}
+use Rattle.forms.specs.Forms.{lf}
+use Rattle.forms.specs.Faults.{Found, fine, fault, unless}
 use Rattle.reading.specs.Reading.{Taken, taken, faulty, takenIf, takenUnless, formed, Cut, cut, noLine, withByte, firstLine, Walk, reached, halted, walk, afterLine, lineWalk, oneLine, lines}
 use Rattle.reading.specs.Writing.{line, eachLine}
 use Rattle.reading.proofs.Findings.{IsFine, fine-unless}

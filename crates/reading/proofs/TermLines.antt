@@ -13,10 +13,10 @@ use Rattle.meaning.specs.Descriptions as D
 use Rattle.meaning.specs.Descriptions.{Operator, block, hide, rename, comm, allow, Term, act, tau, delta, ref, sum, cond, choice, ifelse, seq, merge, lmerge, sync, wrap, Order}
 use Rattle.meaning.specs.Legal.{LegalLabels, LegalOperator, LegalOrder}
 use Rattle.meaning.proofs.Tests.{and-left, and-right}
-use Rattle.reading.specs.Text.{Past, past, stuck, onward, sameText, ended, literal, word, wordOn, separatedOn, isLower, isDigit}
-use Rattle.reading.specs.Forms as F
-use Rattle.reading.specs.Forms.{space, Listed, Line, plain, acts, wraps, OrderLine, part, Kind, kinds, labelList, alone, ofName, ofOne, ofTwo, ofList, farther, ofKind, termLine, orderLine}
-use Rattle.reading.specs.Faults.{Found, termSaid, wordsOfFault, operatorSaid, listFault, orderSaid, orderFault}
+use Rattle.forms.specs.Text.{Past, past, stuck, onward, sameText, ended, literal, word, wordOn, separatedOn, isLower, isDigit}
+use Rattle.forms.specs.Forms as F
+use Rattle.forms.specs.Forms.{space, Listed, Line, plain, acts, wraps, OrderLine, part, Kind, kinds, labelList, alone, ofName, ofOne, ofTwo, ofList, farther, ofKind, termLine, orderLine}
+use Rattle.forms.specs.Faults.{Found, termSaid, wordsOfFault, operatorSaid, listFault, orderSaid, orderFault}
 use Rattle.reading.specs.Writing.{numberText, nameText, labelsText, after, two, withList, termText, orderText, LegalWords}
 use Rattle.reading.proofs.Findings.{IsFine}
 use Rattle.reading.proofs.Onwards.{same→, differs, When, when-past, when-stuck, when-weaken, when-branch, onward→, onward←, ended→, ended←, literal→, literal←}

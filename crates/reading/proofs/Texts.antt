@@ -12,9 +12,9 @@ use Rattle.meaning.specs.Labels.{plus}
 use Rattle.meaning.specs.Sets.{_∈_}
 use Rattle.meaning.specs.Descriptions.{Description, act, ref, seq, merge, comm, wrap, all}
 use Rattle.meaning.specs.Answers.{form, name, range, amount, operand, tooLong, inLine}
-use Rattle.reading.specs.Text.{sameText, ended, literal, isDigit, isLower, secondDigit, number, wordOn, word, separatedOn}
-use Rattle.reading.specs.Forms.{part, pair, rule, labelList, alone, ofName, ofOne, ofTwo, ofList, kinds, ofKind, countLine, nameLine, termLine, orderLine}
-use Rattle.reading.specs.Faults.{worst, rising, nameNumber, nameFault, labelSaid, actions, labelFault, wordsFault, pairsFault, rulesFault, labelsFault, wordsOfFault, termFault, orderFault}
+use Rattle.forms.specs.Text.{sameText, ended, literal, isDigit, isLower, secondDigit, number, wordOn, word, separatedOn}
+use Rattle.forms.specs.Forms.{part, pair, rule, labelList, alone, ofName, ofOne, ofTwo, ofList, kinds, ofKind, countLine, nameLine, termLine, orderLine}
+use Rattle.forms.specs.Faults.{worst, rising, nameNumber, nameFault, labelSaid, actions, labelFault, wordsFault, pairsFault, rulesFault, labelsFault, wordsOfFault, termFault, orderFault}
 use Rattle.reading.specs.Reading.{Reading, read, refused, takeNumber, isFree, takeName, takeTerm, takeBody, takeOrder, firstLine, lines, wholeText, readText}
 
 -- lines, each ended by LF

@@ -12,9 +12,9 @@ use lib.ListN.{length, length-append, length-map}
 use Rattle.meaning.specs.Bytes.{Text}
 use Rattle.meaning.specs.Legal.{Each}
 use Rattle.meaning.proofs.Tests.{and-left, and-right}
-use Rattle.reading.specs.Text.{Past, past, onward, byte, starts, separatedOn, separated}
-use Rattle.reading.specs.Forms.{lf}
-use Rattle.reading.specs.Faults.{Found, fine, worse, worst}
+use Rattle.forms.specs.Text.{Past, past, onward, byte, starts, separatedOn, separated}
+use Rattle.forms.specs.Forms.{lf}
+use Rattle.forms.specs.Faults.{Found, fine, worse, worst}
 use Rattle.reading.specs.Writing.{followed, joined}
 use Rattle.reading.proofs.Findings.{IsFine, fine-worse}
 use Rattle.reading.proofs.Onwards.{passes, fails, When, when-past, when-stuck, when-weaken, when-branch, onward→, onward←, literal→, literal←}

@@ -6,7 +6,7 @@ use Prim.Native.String.{String}
 use lib.Dec.{T}
 use Rattle.meaning.specs.Bytes.{ascii}
 use Rattle.meaning.specs.Descriptions.{act, tau, delta, ref, choice, seq, merge, sync, wrap, block, hide, rename, comm, allow, Order, all, only, Description}
-use Rattle.reading.specs.Text.{sameText}
+use Rattle.forms.specs.Text.{sameText}
 use Rattle.reading.proofs.Texts as Texts
 use Rattle.reading.proofs.Texts.{text}
 use Rattle.reading.specs.Writing.{numberText, followed, joined, entriesFrom, eachLine, written}

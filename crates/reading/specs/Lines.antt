@@ -1,4 +1,4 @@
--- Lines as the code finds and ends them.
+-- Lines as the code finds them.
 -- Assumes nothing.
 use mathlib.Core.Path.{_≡_}
 use mathlib.Core.Bool.{Bool, true, false}
@@ -8,17 +8,6 @@ use lib.Dec.{ltb}
 use lib.ListN.{length, take, drop}
 use Rattle.meaning.specs.Bytes.{Text}
 use Rattle.reading.specs.Reading.{Cut, cut, noLine}
-use Rattle.reading.specs.declared.bytes.Step.{Step}
-use Rattle.reading.specs.declared.bytes.Step.the-variants.{To, Stuck}
-
--- A step after which the line ends.
-abbrev pub pastEnd : Bool → ℕ → ℕ → Step
-pastEnd true v next = Stuck next
-pastEnd false v next = To v next
-
-abbrev pub endedStep : ℕ → Step → Step
-endedStep size (To v next) = pastEnd (ltb next size) v next
-endedStep size (Stuck p) = Stuck p
 
 -- The line from a place to its LF, and the text after it.
 abbrev pub cutIf : Bool → Text → Text → Cut

@@ -8,9 +8,9 @@ use lib.ListN.{length}
 use Rattle.meaning.specs.Bytes.{Text, ascii}
 use Rattle.meaning.specs.Descriptions.{Term, Order, Description}
 use Rattle.meaning.specs.Answers.{Fault, form, name, range, Refusal, tooLong, inLine}
-use Rattle.reading.specs.Text.{Past, past, stuck, sameText}
-use Rattle.reading.specs.Forms.{lf, countLine, nameLine, termLine, orderLine}
-use Rattle.reading.specs.Faults.{Found, fine, fault, nameNumber, termSaid, termFault, orderSaid, orderFault}
+use Rattle.forms.specs.Text.{Past, past, stuck, sameText}
+use Rattle.forms.specs.Forms.{lf, countLine, nameLine, termLine, orderLine}
+use Rattle.forms.specs.Faults.{Found, fine, fault, nameNumber, termSaid, termFault, orderSaid, orderFault}
 
 -- What a line makes of that which was read before it, or its fault. A line that has no form is 2, whatever else it is.
 pub data Taken (A : Type 0) : Type 0 where

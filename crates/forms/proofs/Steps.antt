@@ -1,0 +1,80 @@
+-- Steps one after the other: where a step is stuck the whole is stuck there, and where it goes on the next step decides.
+-- Assumes nothing.
+use mathlib.Core.Path.{_≡_, refl, sym, ap, _∙_}
+use Prim.Native.Nat.{ℕ, _≤_}
+use native.Mathlib.Nat.{le-trans, le-refl}
+use lib.ListN.{length, drop}
+use Rattle.meaning.specs.Bytes.{Text}
+use Rattle.forms.specs.Text.{Past, past, stuck, onward}
+use Rattle.forms.specs.declared.Step.{Step}
+use Rattle.forms.specs.declared.Step.the-variants.{To, Stuck}
+use Rattle.forms.specs.declared.labels.Said as C
+use Rattle.forms.specs.declared.labels.SaidStep.{SaidStep}
+use Rattle.forms.specs.declared.labels.SaidStep.the-variants as S
+use Rattle.forms.specs.Tallies.{Said}
+use Rattle.forms.specs.Places.{placeOf, stepOf, Stands, Steps, saidPlace, saidOf, saidStep, Says}
+
+-- Said of any answer.
+module _ {A B : Type 0} {line : Text} {at place : ℕ} {due : Past A} (k : A → Text → Past B) where
+  stops : {t : Text} → Stands line at place (stuck t) due → Stands line at place (stuck t) (onward due k)
+  stops s = record { says = ap (λ d. onward d k) (s .says); after = s .after; within = s .within }
+
+  goes : {a : A} {next : ℕ} {answer : Past B} → Stands line at place (past a (drop place line)) due → Stands line place next answer (k a (drop place line))
+      → Stands line at next answer (onward due k)
+  goes s t = record { says = t .says ∙ ap (λ d. onward d k) (s .says); after = le-trans (s .after) (t .after); within = t .within }
+
+-- Said of a step with a number, and of one with an entry.
+pub went : {A : Type 0} {f : ℕ → ℕ → A} {line : Text} {at v next : ℕ} {r : Step} {due : Past A} → Steps f line at r due → r ≡ To v next
+    → Stands line at next (past (f v next) (drop next line)) due
+went s e = rw e at (s .stands)
+
+pub said-went : {line : Text} {at next : ℕ} {e : C.Said} {r : SaidStep} {due : Past Said} → Says line at r due → r ≡ S.To e next
+    → Stands line at next (past (saidOf e) (drop next line)) due
+said-went s e = rw e at (s .stands)
+
+stood : {A : Type 0} {line : Text} {at p q : ℕ} {due : Past A} → q ≡ p → Stands line at p (stuck (drop p line)) due → Stands line at q (stuck (drop q line)) due
+stood h s = rw h s
+
+pub stays : {A : Type 0} {f : ℕ → ℕ → A} {line : Text} {at p q : ℕ} {r : Step} {due : Past A} → Steps f line at r due → r ≡ Stuck p → q ≡ placeOf r
+    → Stands line at q (stuck (drop q line)) due
+stays s e h = stood (h ∙ ap placeOf e) (rw e at (s .stands))
+
+pub said-stays : {line : Text} {at p q : ℕ} {r : SaidStep} {due : Past Said} → Says line at r due → r ≡ S.Stuck p → q ≡ saidPlace r
+    → Stands line at q (stuck (drop q line)) due
+said-stays s e h = stood (h ∙ ap saidPlace e) (rw e at (s .stands))
+
+module _ {A B : Type 0} {f : ℕ → ℕ → A} {line : Text} {at : ℕ} {r : Step} {due : Past A} (k : A → Text → Past B) (s : Steps f line at r due) where
+  pub halts : {p q : ℕ} → r ≡ Stuck p → q ≡ placeOf r → Stands line at q (stuck (drop q line)) (onward due k)
+  halts e h = stops k (stays s e h)
+
+  pub onwards : {v next place : ℕ} {answer : Past B} → r ≡ To v next
+      → Stands line next place answer (k (f v next) (drop next line)) → Stands line at place answer (onward due k)
+  onwards e t = goes k (went s e) t
+
+module _ {B : Type 0} {line : Text} {at : ℕ} {r : SaidStep} {due : Past Said} (k : Said → Text → Past B) (s : Says line at r due) where
+  pub said-halts : {p q : ℕ} → r ≡ S.Stuck p → q ≡ saidPlace r → Stands line at q (stuck (drop q line)) (onward due k)
+  said-halts e h = stops k (said-stays s e h)
+
+  pub said-onwards : {e : C.Said} {next place : ℕ} {answer : Past B} → r ≡ S.To e next
+      → Stands line next place answer (k (saidOf e) (drop next line)) → Stands line at place answer (onward due k)
+  said-onwards e t = goes k (said-went s e) t
+
+-- the same step, its number read in another way
+pub otherwise : {A : Type 0} {line : Text} {at next : ℕ} {t : Text} {a b : A} {due : Past A} → Stands line at next (past a t) due → b ≡ a → Stands line at next (past b t) due
+otherwise s h = rw h s
+
+-- nothing more is asked
+pub arrived : {A : Type 0} {line : Text} {at : ℕ} (a : A) → at ≤ length line → Stands line at at (past a (drop at line)) (past a (drop at line))
+arrived {at = at} a h = record { says = refl; after = le-refl at; within = h }
+
+-- two steps in one
+pub regrouped : {A B C : Type 0} (x : Past A) (f : A → Text → Past B) (g : B → Text → Past C) → onward (onward x f) g ≡ onward x (λ a r. onward (f a r) g)
+regrouped (past a r) f g = refl
+regrouped (stuck r) f g = refl
+
+pub inner : {A B C : Type 0} {line : Text} {at place : ℕ} {answer : Past C} (x : Past A) (f : A → Text → Past B) (g : B → Text → Past C)
+    → Stands line at place answer (onward (onward x f) g) → Stands line at place answer (onward x (λ a r. onward (f a r) g))
+inner x f g s = rw regrouped at s
+
+pub says-stuck : {A : Type 0} {f : ℕ → ℕ → A} {line : Text} {at p : ℕ} {r : Step} {due : Past A} → Steps f line at r due → r ≡ Stuck p → stuck (drop p line) ≡ due
+says-stuck s e = (rw e at (s .stands)) .says

@@ -1,0 +1,139 @@
+-- The kinds with a list: what follows their word, and what the list says.
+-- Assumes nothing.
+use mathlib.Core.Path.{_≡_, refl, sym, ap, subst, _∙_}
+use mathlib.Core.Bool.{Bool, true, false}
+use mathlib.Core.List.{List, [], _∷_, map}
+use Prim.Native.Nat.{ℕ, suc, _*_}
+use lib.ListN.{length, drop, length-map}
+use Rattle.meaning.specs.Bytes.{Text, ascii}
+use Rattle.table.specs.Encoded.{operatorWords, operatorFor}
+use Rattle.forms.specs.Text.{Past, past, stuck, onward, sameText, ended, literal, word, separated}
+use Rattle.forms.specs.Forms.{Line, wraps, Parts, comma, space, pair, rule, label, labelList, ofList}
+use Rattle.forms.specs.Faults.{fine, worse, unless, worst, rising, labelFault, ruleFault, rulesFault, labelsFault, listFault, operatorSaid, nameNumber, pairSaid, ruleSaid, labelSaid}
+use Rattle.forms.specs.Tallies.{Said}
+use Rattle.forms.specs.Places.{Stands, saidOf}
+use Rattle.forms.specs.Entries.{nameEntry, pairEntry, ruleEntry, labelEntry}
+use Rattle.forms.specs.Lists.{listFaults, listEntry, listWords, listOf, unlessNone, wholeList, over, ListRead}
+use Rattle.forms.specs.Terms.{listKind, ContentsOf, contents, listed, wrappedOf}
+use Rattle.forms.specs.declared.labels.Said as C
+use Rattle.forms.specs.declared.labels.SaidStep.{SaidStep}
+use Rattle.forms.specs.declared.labels.SaidStep.the-variants as S
+use Rattle.forms.specs.declared.terms.WrapKind.{WrapKind}
+use Rattle.forms.specs.declared.terms.WrapKind.the-variants.{Block, Hide, Rename, Comm, Allow}
+use Rattle.forms.specs.declared.lists.ListKind.the-variants.{Labels}
+use Rattle.forms.proofs.Steps.{regrouped, said-went, said-stays}
+use Rattle.forms.proofs.Seen.{carried}
+use Rattle.forms.proofs.Gathered.{all-too}
+use Rattle.forms.proofs.Parts.{worse-none}
+use Rattle.forms.proofs.Operands.{operand}
+use Rattle.forms.proofs.Contents.{names-faults, pairs-faults, rules-faults, labels-faults, names-words, pairs-words, rules-words, labels-words}
+
+abbrev pub entries : (w : WrapKind) → List Text → ContentsOf w → List Said
+entries Block words ws = map (nameEntry words) ws
+entries Hide words ws = map (nameEntry words) ws
+entries Rename words ps = map (pairEntry words) ps
+entries Comm words rs = map (ruleEntry words) rs
+entries Allow words ls = map (labelEntry words) ls
+
+labels-too : (words : List Text) (s : Text) (t : Bool) → sameText s (ascii "none") ≡ t
+    → unlessNone t (listOf words Labels s) ≡ onward (labelList s) (λ ls o. past (map (labelEntry words) ls) o)
+unfolding labelList
+labels-too words s true e = rw (e, labelList)
+labels-too words s false e = rw (e, labelList) (all-too (labelEntry words) comma label (suc (length s)) s)
+
+listed-entries : (w : WrapKind) (words : List Text) (s : Text) → wholeList words (listKind w) s ≡ onward (contents w s) (λ c o. past (entries w words c) o)
+listed-entries Block words s = all-too (nameEntry words) comma word (suc (length s)) s
+listed-entries Hide words s = all-too (nameEntry words) comma word (suc (length s)) s
+listed-entries Rename words s = all-too (pairEntry words) comma pair (suc (length s)) s
+listed-entries Comm words s = all-too (ruleEntry words) comma rule (suc (length s)) s
+listed-entries Allow words s = labels-too words s (sameText s (ascii "none")) refl
+
+pub listed-faults : (w : WrapKind) (words : List Text) (c : ContentsOf w) → listFaults (listKind w) (entries w words c) ≡ listFault words (listed w c)
+listed-faults Block words c = sym (names-faults words c)
+listed-faults Hide words c = sym (names-faults words c)
+listed-faults Rename words c = sym (pairs-faults words c)
+listed-faults Comm words c = sym (rules-faults words c)
+listed-faults Allow words c = sym (labels-faults words c)
+
+rules-fine : (words : List Text) (rs : ContentsOf Comm) → rulesFault words rs ≡ fine → worst (ruleFault words) rs ≡ fine
+unfolding rulesFault
+rules-fine words rs e = worse-none (worst (ruleFault words) rs) _ e .0
+
+labels-fine : (words : List Text) (ls : List Parts) → labelsFault words ls ≡ fine → worst (labelFault words) ls ≡ fine
+unfolding labelsFault
+labels-fine words ls e = worse-none (worst (labelFault words) ls) _ e .0
+
+pub listed-words : (w : WrapKind) (words : List Text) (c : ContentsOf w) → listFault words (listed w c) ≡ fine
+    → listWords (listKind w) (entries w words c) ≡ operatorWords (operatorSaid words (listed w c))
+listed-words Block words c e = names-words words c
+listed-words Hide words c e = names-words words c
+listed-words Rename words c e = pairs-words words c
+listed-words Comm words c e = rules-words words c (rules-fine words c e)
+listed-words Allow words c e = labels-words words c (labels-fine words c e)
+
+same-length : {A B D : Type 0} (f : A → B) (g : A → D) (xs : List A) → length (map f xs) ≡ length (map g xs)
+same-length f g xs = length-map xs f ∙ sym (length-map xs g)
+
+pub listed-operator : (w : WrapKind) (words : List Text) (n : ℕ) (c : ContentsOf w)
+    → wrappedOf w (record { at = 32 * n; entries = length (entries w words c) }) ≡ operatorFor n (operatorSaid words (listed w c))
+listed-operator Block words n c = rw (same-length (nameEntry words) (nameNumber words) c)
+listed-operator Hide words n c = rw (same-length (nameEntry words) (nameNumber words) c)
+listed-operator Rename words n c = rw (same-length (pairEntry words) (pairSaid words) c)
+listed-operator Comm words n c = rw (same-length (ruleEntry words) (ruleSaid words) c)
+listed-operator Allow words n c = rw (same-length (labelEntry words) (labelSaid words) c)
+
+-- What was read, back from what it says.
+abbrev textIn : {A : Type 0} → Past A → Text
+textIn (past a r) = r
+textIn (stuck r) = r
+
+abbrev IsStuck : {A : Type 0} → Past A → Type 0
+IsStuck (past a r) = ⊥
+IsStuck (stuck r) = Unit {0}
+
+abbrev valueOr : {A : Type 0} → A → Past A → A
+valueOr b (past a r) = a
+valueOr b (stuck r) = b
+
+back-stuck : {A B : Type 0} (g : A → B) (x : Past A) {t : Text} → stuck t ≡ onward x (λ a o. past (g a) o) → stuck t ≡ x
+back-stuck g (past a r) h = absurd (subst IsStuck h tt)
+back-stuck g (stuck r) h = ap stuck (ap textIn h)
+
+back-past : {A B : Type 0} (g : A → B) (x : Past A) {b : B} {r : Text} → past b r ≡ onward x (λ a o. past (g a) o) → (a : A) × (past a r ≡ x) × (b ≡ g a)
+back-past g (past a o) {b} h = (a, ap (past a) (ap textIn h), ap (valueOr b) h)
+back-past g (stuck o) h = absurd (subst IsStuck (sym h) tt)
+
+module _ (w : WrapKind) (words : List Text) (line : Text) (from : ℕ) {before after : List ℕ} {r : SaidStep}
+    (h : ListRead (listKind w) line from (wholeList words (listKind w) (drop from line)) before after r) where
+  flat : onward (wholeList words (listKind w) (drop from line)) (λ es p. past (listEntry (listKind w) es) p)
+      ≡ onward (contents w (drop from line)) (λ c p. past (listEntry (listKind w) (entries w words c)) p)
+  flat =
+      ap (λ d. onward d (λ es p. past (listEntry (listKind w) es) p)) (listed-entries w words (drop from line))
+      ∙ carried (entries w words) (λ es p. past (listEntry (listKind w) es) p) (contents w (drop from line))
+
+  pub wrap-stuck : {q : ℕ} {t : Text} → Stands line from q (stuck t) (onward (wholeList words (listKind w) (drop from line)) (λ es p. past (listEntry (listKind w) es) p))
+      → stuck t ≡ contents w (drop from line)
+  wrap-stuck s = back-stuck (λ c. listEntry (listKind w) (entries w words c)) (contents w (drop from line)) (s .says ∙ flat)
+
+  pub wrap-went : {e : C.Said} {next : ℕ} → r ≡ S.To e next
+      → (c : ContentsOf w) × (past c (drop next line) ≡ contents w (drop from line)) × (saidOf e ≡ listEntry (listKind w) (entries w words c))
+      × (after ≡ over (listWords (listKind w) (entries w words c)) before)
+  wrap-went e =
+      let s = said-went (h .read) e in
+      let b = back-past (λ c. listEntry (listKind w) (entries w words c)) (contents w (drop from line)) (s .says ∙ flat) in
+      (b .0, b .1, b .2, h .stored (entries w words (b .0)) _ (ap (λ d. onward d (λ c o. past (entries w words c) o)) (b .1) ∙ sym (listed-entries w words (drop from line))))
+
+-- What follows the word.
+module _ (w : WrapKind) where
+  abbrev pub after-list : ℕ → ContentsOf w → Text → Past Line
+  after-list t l o = onward (ended o) (λ _ m. past (wraps (listed w l) t) m)
+
+  abbrev pub after-space : ℕ → Unit {0} → Text → Past Line
+  after-space t u p = onward (contents w p) (after-list t)
+
+  abbrev pub after-operand : ℕ → Text → Past Line
+  after-operand t q = onward (literal (space ∷ []) q) (after-space t)
+
+  pub wrap-seen : (s : Text) → onward (operand s) after-operand ≡ ofList (contents w) (listed w) s
+  unfolding ofList
+  wrap-seen s = regrouped (literal (space ∷ []) s) (λ _ q. Rattle.forms.specs.Text.number q) after-operand

@@ -1,0 +1,39 @@
+-- `forms::bytes::number_after` meets its contract: one step after the other.
+-- Assumes nothing.
+use borrow.Author.Needs.{needs}
+use Rattle.forms.proofs.Steps.{went, halts, onwards}
+use Rattle.forms.proofs.bytes.number_after.Statement.{statement}
+use Rattle.forms.proofs.bytes.number_after.Tie as tie
+
+read-literal-requires : tie.Need-read-literal-requires
+read-literal-requires c κs = search needs
+
+enum-known-first : tie.Need-enum-known-first
+enum-known-first c = c .match .keys1
+
+enum-told : tie.Need-enum-told
+enum-told c = c .match .keys2
+
+stuck-at-requires : tie.Need-stuck-at-requires
+stuck-at-requires c κs = tt
+
+returns : tie.Need-returns
+returns c = record { stands = halts _ (c .before .before .before .read-literal .ensures) (c .before .enum-told .given .1) (c .stuck-at .ensures) }
+
+read-number-requires : tie.Need-read-number-requires
+read-number-requires c κs = went (c .before .before .before .read-literal .ensures) (c .before .first .given .1) .within
+
+returns-2 : tie.Need-returns-2
+returns-2 c = record { stands = onwards _ (c .before .before .before .before .read-literal .ensures) (c .before .before .first .given .1) (c .read-number .ensures .stands) }
+
+pub number-after-spec : {M : Type 1} → statement M
+number-after-spec =
+    tie.close
+    (tie.spec
+    read-literal-requires
+    enum-known-first
+    enum-told
+    stuck-at-requires
+    returns
+    read-number-requires
+    returns-2)

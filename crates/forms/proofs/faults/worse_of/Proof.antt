@@ -1,0 +1,72 @@
+use borrow.Author.Needs.{needs}
+use mathlib.Core.Path.{_≡_, refl, sym, _∙_}
+use native.Mathlib.Omega.{arith}
+use borrow.Author.Tests.{le-leb, lt-leb}
+use Rattle.meaning.specs.Answers.{faultNumber}
+use Rattle.forms.specs.Tallies.{faultOf}
+use Rattle.forms.proofs.faults.worse_of.Statement.{statement}
+use Rattle.forms.proofs.faults.worse_of.Tie as tie
+use Rattle.forms.proofs.faults.worse_of.Reads as reads
+use Rattle.forms.proofs.faults.worse_of.Lts as lts
+use Rattle.forms.proofs.faults.number_of.Reads as number-of-reads
+
+-- src/faults.rt:36:23
+enum-known-a : tie.Need-enum-known-a
+enum-known-a c = c .match .keys1
+
+-- src/faults.rt:37:9
+enum-told : tie.Need-enum-told
+enum-told c = c .match .keys2
+
+-- src/faults.rt:37:9
+returns : tie.Need-returns
+returns c = search needs
+
+-- src/faults.rt:39:23
+enum-known-b : tie.Need-enum-known-b
+enum-known-b c = c .match2 .keys1
+
+-- src/faults.rt:40:9
+enum-told-2 : tie.Need-enum-told-2
+enum-told-2 c = c .match2 .keys2
+
+-- src/faults.rt:40:9
+returns-2 : tie.Need-returns-2
+returns-2 c = rw (c .before .before .before .a .given .1, c .enum-told2 .given .1)
+
+-- src/faults.rt:42:8
+number-of-requires : tie.Need-number-of-requires
+number-of-requires c κs = tt
+
+-- src/faults.rt:42:24
+number-of-requires-2 : tie.Need-number-of-requires-2
+number-of-requires-2 c κs = tt
+
+-- src/faults.rt:43:9
+returns-3 : tie.Need-returns-3
+returns-3 c =
+    let h = c .before .number-of2 .ensures in
+    let g = c .before .before .number-of .ensures in
+    rw (c .before .before .before .before .before .before .before .a .given .1, c .before .before .before .before .b .given .1, le-leb (faultNumber (faultOf (c .before .before .before .before .before .before .before .a .given .0 .0))) (faultNumber (faultOf (c .before .before .before .before .b .given .0 .0))) (omega arith))
+
+-- src/faults.rt:33:1
+returns-4 : tie.Need-returns-4
+returns-4 c =
+    let h = c .before .number-of2 .ensures in
+    let g = c .before .before .number-of .ensures in
+    rw (c .before .before .before .before .before .before .before .a .given .1, c .before .before .before .before .b .given .1, lt-leb (faultNumber (faultOf (c .before .before .before .before .before .before .before .a .given .0 .0))) (faultNumber (faultOf (c .before .before .before .before .b .given .0 .0))) (omega arith))
+
+pub worse-of-spec : {M : Type 1} → statement M
+worse-of-spec =
+    tie.close
+    (tie.spec
+    enum-known-a
+    enum-told
+    returns
+    enum-known-b
+    enum-told-2
+    returns-2
+    number-of-requires
+    number-of-requires-2
+    returns-3
+    returns-4)

@@ -1,0 +1,55 @@
+-- `forms::lists::read_name` meets its contract: a name and its number.
+-- Assumes nothing.
+use borrow.Author.Needs.{needs}
+use mathlib.Core.Path.{_≡_, refl, sym, ap, ap₂, _∙_}
+use mathlib.Core.List.{map}
+use lib.ListN.{drop}
+use Rattle.table.specs.Decoded.{nameOf}
+use Rattle.forms.specs.Faults.{worse}
+use Rattle.forms.proofs.Steps.{went, halts, onwards, arrived, otherwise}
+use Rattle.forms.proofs.Seen.{said-same, name-faulted}
+use Rattle.forms.proofs.lists.read_name.Statement.{statement}
+use Rattle.forms.proofs.lists.read_name.Tie as tie
+
+read-word-requires : tie.Need-read-word-requires
+read-word-requires c κs = search needs
+
+enum-known-name : tie.Need-enum-known-name
+enum-known-name c = c .match .keys1
+
+enum-told : tie.Need-enum-told
+enum-told c = c .match .keys2
+
+stuck-at-requires : tie.Need-stuck-at-requires
+stuck-at-requires c κs = tt
+
+returns : tie.Need-returns
+returns c = record { stands = halts _ (c .before .before .before .read-word .ensures) (c .before .enum-told .given .1) (c .stuck-at .ensures) }
+
+find-name-requires : tie.Need-find-name-requires
+find-name-requires c κs = tt
+
+name-fault-requires : tie.Need-name-fault-requires
+name-fault-requires c κs = tt
+
+returns-2 : tie.Need-returns-2
+returns-2 c =
+    record {
+      stands =
+          onwards _ (c .before .before .before .before .before .read-word .ensures) (c .before .before .before .name .given .1)
+          (otherwise (arrived _ (went (c .before .before .before .before .before .read-word .ensures) (c .before .before .before .name .given .1) .within))
+          (said-same (name-faulted (c .before .before .before .before .before .before .before .before .args .names .now) _ (c .name-fault .ensures) (c .before .find-name .ensures)) (c .before .find-name .ensures) refl));
+    }
+
+pub read-name-spec : {M : Type 1} → statement M
+read-name-spec =
+    tie.close
+    (tie.spec
+    read-word-requires
+    enum-known-name
+    enum-told
+    stuck-at-requires
+    returns
+    find-name-requires
+    name-fault-requires
+    returns-2)

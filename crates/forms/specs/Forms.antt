@@ -1,0 +1,158 @@
+-- The form of each line (document 01, "The description, line by line"): what can be seen without knowing the names, the counts
+-- or the other terms.
+-- Assumes nothing.
+use mathlib.Core.Bool.{Bool, true, false}
+use mathlib.Core.List.{List, [], _∷_}
+use Prim.Native.Nat.{ℕ}
+use lib.Dec.{ltb}
+use lib.ListN.{length}
+use Rattle.meaning.specs.Descriptions.{Term, tau, delta, ref, sum, cond, choice, ifelse, seq, merge, lmerge, sync}
+use Rattle.meaning.specs.Bytes.{Text, ascii}
+use Rattle.forms.specs.Text.{Past, past, stuck, onward, sameText, ended, literal, byte, number, word, separated}
+
+-- the signs: LF, space, comma, dot, colon and greater-than
+abbrev pub lf : ℕ
+lf = 10
+
+abbrev pub space : ℕ
+space = 32
+
+abbrev pub comma : ℕ
+comma = 44
+
+abbrev pub dot : ℕ
+dot = 46
+
+abbrev pub colon : ℕ
+colon = 58
+
+abbrev pub greater : ℕ
+greater = 62
+
+-- What a line says before its names are looked up.
+pub record Part : Type 0 where
+  pub name : Text
+  pub times : ℕ
+
+abbrev pub Parts : Type 0
+Parts = List Part
+
+pub record WordPair : Type 0 where
+  pub left : Text
+  pub right : Text
+
+pub record WordRule : Type 0 where
+  pub left : Parts
+  pub right : Text
+
+pub data Listed : Type 0 where
+  block hide : List Text → Listed
+  rename : List WordPair → Listed
+  comm : List WordRule → Listed
+  allow : List Parts → Listed
+
+pub data Line : Type 0 where
+  plain : Term → Line
+  acts : Text → Line
+  wraps : Listed → ℕ → Line
+
+pub data OrderLine : Type 0 where
+  all : OrderLine
+  only : List Parts → OrderLine
+
+-- `name:count` parts joined by `.`
+unfoldable pub part : Text → Past Part
+part s = onward (word s) (λ w r. onward (byte colon r) (λ _ q. onward (number q) (λ n p. past (record { name = w; times = n }) p)))
+
+abbrev pub label : Text → Past Parts
+label = separated dot part
+
+-- LIST, PAIRS, RULES and LABELS
+abbrev pub wordList : Text → Past (List Text)
+wordList = separated comma word
+
+unfoldable pub pair : Text → Past WordPair
+pair s = onward (word s) (λ a r. onward (byte greater r) (λ _ q. onward (word q) (λ b p. past (record { left = a; right = b }) p)))
+
+unfoldable pub rule : Text → Past WordRule
+rule s = onward (label s) (λ a r. onward (byte greater r) (λ _ q. onward (word q) (λ b p. past (record { left = a; right = b }) p)))
+
+unfoldable pub labelList : Text → Past (List Parts)
+labelList s = elim (sameText s (ascii "none")) [ true ↦ past [] [] | false ↦ separated comma label s ]
+
+-- What follows a kind: its operands and its list.
+unfoldable pub alone : Term → Text → Past Line
+alone t s = onward (ended s) (λ _ r. past (plain t) r)
+
+unfoldable pub ofName : Text → Past Line
+ofName s = onward (byte space s) (λ _ r. onward (word r) (λ w q. onward (ended q) (λ _ p. past (acts w) p)))
+
+unfoldable pub ofOne : (ℕ → Term) → Text → Past Line
+ofOne make s = onward (byte space s) (λ _ r. onward (number r) (λ t q. onward (ended q) (λ _ p. past (plain (make t)) p)))
+
+unfoldable pub ofTwo : (ℕ → ℕ → Term) → Text → Past Line
+ofTwo make s = onward (byte space s) (λ _ r. onward (number r) (λ t q. ofOne (make t) q))
+
+unfoldable pub ofList : {A : Type 0} → (Text → Past A) → (A → Listed) → Text → Past Line
+ofList list make s =
+    onward (byte space s) (λ _ r. onward (number r) (λ t q. onward (byte space q) (λ _ p. onward (list p) (λ l o.
+    onward (ended o) (λ _ n. past (wraps (make l) t) n)))))
+
+pub record Kind : Type 0 where
+  pub word : Text
+  pub rest : Text → Past Line
+
+abbrev kind : Text → (Text → Past Line) → Kind
+kind w r = record { word = w; rest = r }
+
+-- No kind's word begins with another's.
+unfoldable pub kinds : List Kind
+kinds =
+    kind (ascii "act") ofName
+    ∷ kind (ascii "tau") (alone tau)
+    ∷ kind (ascii "delta") (alone delta)
+    ∷ kind (ascii "ref") (ofOne ref)
+    ∷ kind (ascii "sum") (ofOne sum)
+    ∷ kind (ascii "cond") (ofOne cond)
+    ∷ kind (ascii "choice") (ofTwo choice)
+    ∷ kind (ascii "ifelse") (ofTwo ifelse)
+    ∷ kind (ascii "seq") (ofTwo seq)
+    ∷ kind (ascii "merge") (ofTwo merge)
+    ∷ kind (ascii "lmerge") (ofTwo lmerge)
+    ∷ kind (ascii "sync") (ofTwo sync)
+    ∷ kind (ascii "block") (ofList wordList block)
+    ∷ kind (ascii "hide") (ofList wordList hide)
+    ∷ kind (ascii "rename") (ofList (separated comma pair) rename)
+    ∷ kind (ascii "comm") (ofList (separated comma rule) comm)
+    ∷ kind (ascii "allow") (ofList labelList allow)
+    ∷ []
+
+-- the farther of two places in one text
+abbrev shorter : Bool → Text → Text → Text
+shorter true s t = s
+shorter false s t = t
+
+abbrev pub farther : Text → Past Line → Past Line
+farther s (past l r) = past l r
+farther s (stuck t) = stuck (shorter (ltb (length s) (length t)) s t)
+
+unfoldable pub ofKind : List Kind → Text → Past Line
+ofKind [] s = stuck s
+ofKind (k ∷ ks) s = elim (literal (k .word) s) [ past _ r ↦ k .rest r | stuck r ↦ farther r (ofKind ks s) ]
+
+-- The keys, and the lines.
+unfoldable pub countLine : Text → Text → Past ℕ
+countLine key s = onward (literal key s) (λ _ r. onward (number r) (λ n q. onward (ended q) (λ _ p. past n p)))
+
+unfoldable pub nameLine : Text → Past Text
+nameLine s = onward (literal (ascii "name=") s) (λ _ r. onward (word r) (λ w q. onward (ended q) (λ _ p. past w p)))
+
+unfoldable pub termLine : Text → Past Line
+termLine s = onward (literal (ascii "term=") s) (λ _ r. ofKind kinds r)
+
+unfoldable pub orderLine : Text → Past OrderLine
+orderLine s =
+    onward (literal (ascii "order=") s) (λ _ r. elim (sameText r (ascii "all")) [
+      | true ↦ past all []
+      | false ↦ onward (labelList r) (λ ls q. onward (ended q) (λ _ p. past (only ls) p))
+    ])

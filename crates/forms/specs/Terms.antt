@@ -1,0 +1,101 @@
+-- Term lines as the code reads them.
+-- Assumes nothing.
+use mathlib.Core.Path.{_≡_}
+use mathlib.Core.Bool.{Bool, true, false}
+use mathlib.Core.List.{List, [], _∷_}
+use Prim.Native.Nat.{ℕ}
+use lib.Dec.{eqb}
+use lib.ListN.{drop}
+use Rattle.meaning.specs.Bytes.{Text}
+use Rattle.meaning.specs.Descriptions as D
+use Rattle.table.specs.Terms.{IsPlain, bareTerm}
+use Rattle.table.specs.declared.Term.{Term}
+use Rattle.forms.specs.Text.{Past, past, stuck, separated}
+use Rattle.forms.specs.Forms as F
+use Rattle.forms.specs.Forms.{Line, plain, Listed, Parts, WordPair, WordRule, comma, wordList, pair, rule, labelList}
+use Rattle.table.specs.declared.Place.{Place}
+use Rattle.table.specs.declared.Operator.{Operator}
+use Rattle.table.specs.declared.Operator.the-variants as O
+use Rattle.forms.specs.declared.lists.ListKind.{ListKind}
+use Rattle.forms.specs.declared.lists.ListKind.the-variants.{Names, Pairs, Rules, Labels}
+use Rattle.forms.specs.declared.terms.WrapKind.{WrapKind}
+use Rattle.forms.specs.declared.terms.WrapKind.the-variants.{Block, Hide, Rename, Comm, Allow}
+use Rattle.table.specs.Encoded.{termWords, termFor}
+use Rattle.forms.specs.Faults.{fine, termSaid, wordsOfFault}
+use Rattle.forms.specs.Tallies.{foundOf}
+use Rattle.forms.specs.Lists.{over}
+use Rattle.forms.specs.declared.Found.the-variants.{Fine}
+use Rattle.forms.specs.declared.TermStep.{TermStep}
+use Rattle.forms.specs.declared.TermStep.the-variants as T
+use Rattle.forms.specs.declared.Found as G
+
+-- A term of numbers alone: there is no name and no list in it that could have a fault.
+pub record PlainTerm (due : Past Line) (x : Term) (f : G.Found) : Type 0 where
+  pub says : past (plain (bareTerm x)) [] ≡ due
+  pub fault-free : f ≡ Fine
+  pub plainly : IsPlain x
+
+abbrev pub PlainRead : Text → Past Line → TermStep → Type 0
+PlainRead line due (T.To x f) = PlainTerm due x f
+PlainRead line due (T.Stuck p) = stuck (drop p line) ≡ due
+
+-- The kinds with one number and with two, by their places among all kinds.
+abbrev pub either : {A : Type 0} → Bool → A → A → A
+either true a b = a
+either false a b = b
+
+abbrev pub oneOf : ℕ → ℕ → D.Term
+oneOf k t = either (eqb k 3) (D.ref t) (either (eqb k 4) (D.sum t) (D.cond t))
+
+abbrev pub twoOf : ℕ → ℕ → ℕ → D.Term
+twoOf k t u =
+    either (eqb k 6) (D.choice t u) (either (eqb k 7) (D.ifelse t u) (either (eqb k 8) (D.seq t u) (either (eqb k 9) (D.merge t u) (either (eqb k 10) (D.lmerge t u) (D.sync t u)))))
+
+-- A line with its names looked up: the term at its number, the fault of its names and its list, and the list's words over the
+-- start of the store.
+pub record LineTerm (words : List Text) (n : ℕ) (due : Past Line) (before after : List ℕ) (x : Term) (f : G.Found) : Type 0 where
+  pub line : Line
+  pub says : past line [] ≡ due
+  pub term : x ≡ termFor n (termSaid words line)
+  pub faults : foundOf f ≡ wordsOfFault words line
+  pub stored : wordsOfFault words line ≡ fine → after ≡ over (termWords (termSaid words line)) before
+
+abbrev pub LineRead : List Text → ℕ → Text → Past Line → List ℕ → List ℕ → TermStep → Type 0
+LineRead words n line due before after (T.To x f) = LineTerm words n due before after x f
+LineRead words n line due before after (T.Stuck p) = stuck (drop p line) ≡ due
+
+-- The kinds with a list.
+abbrev pub listKind : WrapKind → ListKind
+listKind Block = Names
+listKind Hide = Names
+listKind Rename = Pairs
+listKind Comm = Rules
+listKind Allow = Labels
+
+abbrev pub ContentsOf : WrapKind → Type 0
+ContentsOf Block = List Text
+ContentsOf Hide = List Text
+ContentsOf Rename = List WordPair
+ContentsOf Comm = List WordRule
+ContentsOf Allow = List Parts
+
+abbrev pub contents : (w : WrapKind) → Text → Past (ContentsOf w)
+contents Block = wordList
+contents Hide = wordList
+contents Rename = separated comma pair
+contents Comm = separated comma rule
+contents Allow = labelList
+
+abbrev pub listed : (w : WrapKind) → ContentsOf w → Listed
+listed Block ws = F.block ws
+listed Hide ws = F.hide ws
+listed Rename ps = F.rename ps
+listed Comm rs = F.comm rs
+listed Allow ls = F.allow ls
+
+abbrev pub wrappedOf : WrapKind → Place → Operator
+wrappedOf Block p = O.Block p
+wrappedOf Hide p = O.Hide p
+wrappedOf Rename p = O.Rename p
+wrappedOf Comm p = O.Comm p
+wrappedOf Allow p = O.Allow p

@@ -1,0 +1,181 @@
+// The forms at the bottom of every line: words that stand as they are, numbers and names.
+//
+// A line is read from a place on. An answer says how far a form went, or the place of the first byte with which nothing
+// that is due there goes on.
+ghost use Prim.Native.Nat.{_-_, _≤_};
+ghost use lib.ListN.{length, take, drop};
+ghost use mathlib.Core.Bool.{_&&_, _||_};
+ghost use mathlib.Core.Path.{_≡_};
+ghost use lib.Dec.{leb};
+ghost use Rattle.table.specs.Decoded.{nameOf};
+ghost use Rattle.table.specs.Encoded.{wordOf};
+ghost use Rattle.forms.specs.Text.{onward, literal, starts, sameText, isLower, isDigit, number, word};
+ghost use Rattle.forms.specs.Places.{placeOf, Steps};
+use crate::Step;
+
+pub fn stuck_at(s: Step) -> usize
+    ensures { λ r. ⌜ r ≡ placeOf s ⌝ }
+{
+    match s {
+        Step::To(_, next) => next,
+        Step::Stuck(next) => next,
+    }
+}
+
+pub fn read_literal(line: &[u8], at: usize, due: &[u8]) -> Step
+    requires { ⌜ at ≤ length (now line) ⌝ }
+    ensures { λ r. ⌜ Steps (λ v next. tt) (now (line .entry)) at r (literal (now (due .entry)) (drop at (now (line .entry)))) ⌝ }
+{
+    let mut next = at;
+    let mut i = 0;
+    while i < due.len() {
+        if line.len() <= next {
+            return Step::Stuck(next);
+        }
+        if line[next] != due[i] {
+            return Step::Stuck(next);
+        }
+        next += 1;
+        i += 1;
+    }
+    Step::To(0, next)
+}
+
+fn between(b: u8, low: u8, high: u8) -> bool
+    ensures { λ r. ⌜ r ≡ (leb low b && leb b high) ⌝ }
+{
+    low <= b && b <= high
+}
+
+// A decimal number: one or two digits, no leading zero.
+pub fn read_number(line: &[u8], at: usize) -> Step
+    requires { ⌜ at ≤ length (now line) ⌝ }
+    ensures { λ r. ⌜ Steps (λ n next. n) (now (line .entry)) at r (number (drop at (now (line .entry)))) ⌝ }
+{
+    if line.len() <= at {
+        return Step::Stuck(at);
+    }
+    let first = line[at];
+    if !between(first, 48, 57) {
+        return Step::Stuck(at);
+    }
+    let next = at + 1;
+    if first == 48 {
+        return Step::To(0, next);
+    }
+    let tens = (first - 48) as u64;
+    if line.len() <= next {
+        return Step::To(tens, next);
+    }
+    let second = line[next];
+    if !between(second, 48, 57) {
+        return Step::To(tens, next);
+    }
+    let ones = (second - 48) as u64;
+    let both = 10 * tens + ones;
+    let after = next + 1;
+    Step::To(both, after)
+}
+
+// A letter or a digit, as a name has them after its first letter.
+fn goes_on(b: u8) -> bool
+    ensures { λ r. ⌜ r ≡ (isLower b || isDigit b) ⌝ }
+{
+    between(b, 97, 122) || between(b, 48, 57)
+}
+
+// Where a name ends: a lower-case letter, then up to seven letters or digits.
+fn word_end(line: &[u8], at: usize) -> Step
+    requires { ⌜ at ≤ length (now line) ⌝ }
+    ensures { λ r. ⌜ Steps (λ v next. take (next - at) (drop at (now (line .entry)))) (now (line .entry)) at r (word (drop at (now (line .entry)))) ⌝ }
+{
+    if line.len() <= at {
+        return Step::Stuck(at);
+    }
+    if !between(line[at], 97, 122) {
+        return Step::Stuck(at);
+    }
+    let mut next = at + 1;
+    let mut room: usize = 7;
+    while 0 < room {
+        if line.len() <= next {
+            return Step::To(0, next);
+        }
+        if !goes_on(line[next]) {
+            return Step::To(0, next);
+        }
+        next += 1;
+        room -= 1;
+    }
+    Step::To(0, next)
+}
+
+// Up to eight bytes in a word, the first byte lowest.
+fn packed(text: &[u8]) -> u64
+    requires { ⌜ length (now text) ≤ 8 ⌝ }
+    ensures { λ r. ⌜ r ≡ wordOf (now (text .entry)) ⌝ }
+{
+    let mut w: u64 = 0;
+    let mut i = text.len();
+    while 0 < i {
+        i -= 1;
+        let b = text[i] as u64;
+        w = w * 256 + b;
+    }
+    w
+}
+
+pub fn read_word(line: &[u8], at: usize) -> Step
+    requires { ⌜ at ≤ length (now line) ⌝ }
+    ensures { λ r. ⌜ Steps (λ w next. nameOf 8 w) (now (line .entry)) at r (word (drop at (now (line .entry)))) ⌝ }
+{
+    let end = word_end(line, at);
+    let Step::To(_, next) = end else {
+        return Step::Stuck(stuck_at(end));
+    };
+    Step::To(packed(&line[at..next]), next)
+}
+
+// A number after a sign, and a name after one.
+pub fn number_after(line: &[u8], at: usize, sign: &[u8]) -> Step
+    requires { ⌜ at ≤ length (now line) ⌝ }
+    ensures { λ r. ⌜ Steps (λ n next. n) (now (line .entry)) at r (onward (literal (now (sign .entry)) (drop at (now (line .entry)))) (λ _ s. number s)) ⌝ }
+{
+    let first = read_literal(line, at, sign);
+    let Step::To(_, from) = first else {
+        return Step::Stuck(stuck_at(first));
+    };
+    read_number(line, from)
+}
+
+pub fn word_after(line: &[u8], at: usize, sign: &[u8]) -> Step
+    requires { ⌜ at ≤ length (now line) ⌝ }
+    ensures { λ r. ⌜ Steps (λ w next. nameOf 8 w) (now (line .entry)) at r (onward (literal (now (sign .entry)) (drop at (now (line .entry)))) (λ _ s. word s)) ⌝ }
+{
+    let first = read_literal(line, at, sign);
+    let Step::To(_, from) = first else {
+        return Step::Stuck(stuck_at(first));
+    };
+    read_word(line, from)
+}
+
+pub fn sign_at(line: &[u8], at: usize, sign: u8) -> bool
+    ensures { λ r. ⌜ r ≡ starts sign (drop at (now (line .entry))) ⌝ }
+{
+    if line.len() <= at {
+        return false;
+    }
+    sign == line[at]
+}
+
+// Whether the rest of the line is this word.
+pub fn rest_is(line: &[u8], at: usize, due: &[u8]) -> bool
+    requires { ⌜ at ≤ length (now line) ⌝ }
+    ensures { λ r. ⌜ r ≡ sameText (drop at (now (line .entry))) (now (due .entry)) ⌝ }
+{
+    let p = read_literal(line, at, due);
+    let Step::To(_, next) = p else {
+        return false;
+    };
+    next == line.len()
+}

@@ -1,0 +1,38 @@
+// The lines that hold a number or a name after their key.
+ghost use Prim.Native.Nat.{_≤_};
+ghost use mathlib.Core.Path.{_≡_};
+ghost use lib.ListN.{length, drop};
+ghost use Rattle.table.specs.Decoded.{nameOf};
+ghost use Rattle.forms.specs.Forms.{countLine, nameLine};
+ghost use Rattle.forms.specs.Places.{Steps};
+ghost use Rattle.forms.specs.Lines.{endedStep};
+use crate::Step;
+use crate::bytes::number_after;
+use crate::bytes::word_after;
+
+// Nothing follows what was read.
+fn at_end(line: &[u8], s: Step) -> Step
+    ensures { λ r. ⌜ r ≡ endedStep (length (now (line .entry))) s ⌝ }
+{
+    let Step::To(_, next) = s else {
+        return s;
+    };
+    if next < line.len() {
+        return Step::Stuck(next);
+    }
+    s
+}
+
+pub fn read_count(line: &[u8], key: &[u8]) -> Step
+    ensures { λ r. ⌜ Steps (λ n next. n) (now (line .entry)) 0 r (countLine (now (key .entry)) (now (line .entry))) ⌝ }
+{
+    let s = number_after(line, 0, key);
+    at_end(line, s)
+}
+
+pub fn read_name_line(line: &[u8]) -> Step
+    ensures { λ r. ⌜ Steps (λ w next. nameOf 8 w) (now (line .entry)) 0 r (nameLine (now (line .entry))) ⌝ }
+{
+    let s = word_after(line, 0, b"name=");
+    at_end(line, s)
+}

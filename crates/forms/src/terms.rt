@@ -1,0 +1,232 @@
+// Term lines: what follows a kind's word.
+ghost use Prim.Native.Nat.{_≤_, _<_};
+ghost use mathlib.Core.Path.{_≡_};
+ghost use mathlib.Core.List.{[], map};
+ghost use Rattle.table.specs.Decoded.{nameOf};
+ghost use lib.ListN.{length, drop};
+ghost use Rattle.table.specs.Terms.{IsPlain, bareTerm};
+ghost use Rattle.meaning.specs.Legal.{isMultiAction};
+ghost use Rattle.forms.specs.Text.{past, onward, ended};
+ghost use Rattle.forms.specs.Forms.{plain, ofName, ofOne, ofTwo, ofList};
+ghost use Rattle.forms.specs.Faults.{bothBelow, inRange};
+ghost use Rattle.forms.specs.Terms.{PlainRead, oneOf, twoOf, LineRead, listKind, contents, listed, wrappedOf};
+use crate::Found;
+use crate::Step;
+use crate::TermStep;
+use crate::bytes::number_after;
+use crate::bytes::read_literal;
+use crate::bytes::stuck_at;
+use crate::bytes::word_after;
+use crate::labels::SaidStep;
+use crate::labels::said_stuck_at;
+use crate::lists::ListKind;
+use crate::lists::read_whole;
+use crate::names::find_name;
+use crate::names::name_fault;
+use table::Operator;
+use table::Place;
+use table::Term;
+
+// A term with nothing after it.
+fn finish(line: &[u8], at: usize, x: Term) -> TermStep
+    requires { ⌜ (at ≤ length (now line)) × IsPlain x ⌝ }
+    ensures { λ r. ⌜ PlainRead (now (line .entry)) (onward (ended (drop at (now (line .entry)))) (λ _ s. past (plain (bareTerm x)) s)) r ⌝ }
+{
+    if at < line.len() {
+        return TermStep::Stuck(at);
+    }
+    TermStep::To(x, Found::Fine)
+}
+
+// The kinds with one number, and those with two, by their places among the kinds.
+fn one_of(k: usize, t: usize) -> Term
+    ensures { λ r. ⌜ (bareTerm r ≡ oneOf k t) × IsPlain r ⌝ }
+{
+    if k == 3 {
+        return Term::Ref(t);
+    }
+    if k == 4 {
+        return Term::Sum(t);
+    }
+    Term::Cond(t)
+}
+
+fn two_of(k: usize, t: usize, u: usize) -> Term
+    ensures { λ r. ⌜ (bareTerm r ≡ twoOf k t u) × IsPlain r ⌝ }
+{
+    if k == 6 {
+        return Term::Choice(t, u);
+    }
+    if k == 7 {
+        return Term::IfElse(t, u);
+    }
+    if k == 8 {
+        return Term::Seq(t, u);
+    }
+    if k == 9 {
+        return Term::Merge(t, u);
+    }
+    if k == 10 {
+        return Term::LMerge(t, u);
+    }
+    Term::Sync(t, u)
+}
+
+fn read_one(k: usize, line: &[u8], at: usize) -> TermStep
+    requires { ⌜ at ≤ length (now line) ⌝ }
+    ensures { λ r. ⌜ PlainRead (now (line .entry)) (ofOne (oneOf k) (drop at (now (line .entry)))) r ⌝ }
+{
+    let first = number_after(line, at, b" ");
+    let Step::To(t, next) = first else {
+        return TermStep::Stuck(stuck_at(first));
+    };
+    finish(line, next, one_of(k, t as usize))
+}
+
+fn read_two(k: usize, line: &[u8], at: usize) -> TermStep
+    requires { ⌜ at ≤ length (now line) ⌝ }
+    ensures { λ r. ⌜ PlainRead (now (line .entry)) (ofTwo (twoOf k) (drop at (now (line .entry)))) r ⌝ }
+{
+    let first = number_after(line, at, b" ");
+    let Step::To(t, after) = first else {
+        return TermStep::Stuck(stuck_at(first));
+    };
+    let second = number_after(line, after, b" ");
+    let Step::To(u, next) = second else {
+        return TermStep::Stuck(stuck_at(second));
+    };
+    finish(line, next, two_of(k, t as usize, u as usize))
+}
+
+fn read_act(line: &[u8], at: usize, names: &[u64], n: usize) -> TermStep
+    requires { ⌜ at ≤ length (now line) ⌝ }
+    ensures { λ r. ⌜ LineRead (map (nameOf 8) (now (names .entry))) n (now (line .entry)) (ofName (drop at (now (line .entry)))) [] [] r ⌝ }
+{
+    let name = word_after(line, at, b" ");
+    let Step::To(w, next) = name else {
+        return TermStep::Stuck(stuck_at(name));
+    };
+    if next < line.len() {
+        return TermStep::Stuck(next);
+    }
+    let a = find_name(names, w);
+    TermStep::To(Term::Act(a), name_fault(a, names.len()))
+}
+
+// The kinds with one operand and a list.
+pub enum WrapKind {
+    Block,
+    Hide,
+    Rename,
+    Comm,
+    Allow,
+}
+
+fn list_kind(w: WrapKind) -> ListKind
+    ensures { λ r. ⌜ r ≡ listKind w ⌝ }
+{
+    match w {
+        WrapKind::Block => ListKind::Names,
+        WrapKind::Hide => ListKind::Names,
+        WrapKind::Rename => ListKind::Pairs,
+        WrapKind::Comm => ListKind::Rules,
+        WrapKind::Allow => ListKind::Labels,
+    }
+}
+
+fn wrapped(w: WrapKind, place: Place) -> Operator
+    ensures { λ r. ⌜ r ≡ wrappedOf w place ⌝ }
+{
+    match w {
+        WrapKind::Block => Operator::Block(place),
+        WrapKind::Hide => Operator::Hide(place),
+        WrapKind::Rename => Operator::Rename(place),
+        WrapKind::Comm => Operator::Comm(place),
+        WrapKind::Allow => Operator::Allow(place),
+    }
+}
+
+fn read_wrap(
+    w: WrapKind,
+    line: &[u8],
+    at: usize,
+    names: &[u64],
+    n: usize,
+    store: &mut [u64],
+) -> TermStep
+    requires { ⌜ (at ≤ length (now line)) × (length (now names) ≤ 12) × (length (now line) ≤ 8192) × (n < 96) ⌝ }
+    ensures { λ r. ⌜ LineRead (map (nameOf 8) (now (names .entry))) n (now (line .entry)) (ofList (contents w) (listed w) (drop at (now (line .entry)))) (now (store .entry)) (now (store .exit)) r ⌝ }
+{
+    let operand = number_after(line, at, b" ");
+    let Step::To(t, after) = operand else {
+        return TermStep::Stuck(stuck_at(operand));
+    };
+    let space = read_literal(line, after, b" ");
+    let Step::To(_, from) = space else {
+        return TermStep::Stuck(stuck_at(space));
+    };
+    let kind = list_kind(w);
+    let list = read_whole(kind, line, from, names, store);
+    let SaidStep::To(said, next) = list else {
+        return TermStep::Stuck(said_stuck_at(list));
+    };
+    if next < line.len() {
+        return TermStep::Stuck(next);
+    }
+    let first = 32 * n;
+    let place = Place {
+        at: first,
+        entries: said.first as usize,
+    };
+    let fault = said.fault;
+    let operator = wrapped(w, place);
+    TermStep::To(Term::Wrap(operator, t as usize), fault)
+}
+
+fn both_below(t: usize, u: usize, n: usize) -> bool
+    ensures { λ r. ⌜ r ≡ bothBelow n t u ⌝ }
+{
+    t < n && u < n
+}
+
+// Operands have smaller numbers than the term, references one below the number of equations.
+fn in_range(x: Term, n: usize, equations: usize) -> bool
+    ensures { λ r. ⌜ r ≡ inRange equations n (bareTerm x) ⌝ }
+{
+    match x {
+        Term::Delta => true,
+        Term::Tau => true,
+        Term::Act(_) => true,
+        Term::Ref(e) => e < equations,
+        Term::Sum(t) => t < n,
+        Term::Cond(t) => t < n,
+        Term::Choice(t, u) => both_below(t, u, n),
+        Term::IfElse(t, u) => both_below(t, u, n),
+        Term::Seq(t, u) => both_below(t, u, n),
+        Term::Merge(t, u) => both_below(t, u, n),
+        Term::LMerge(t, u) => both_below(t, u, n),
+        Term::Sync(t, u) => both_below(t, u, n),
+        Term::Wrap(_, t) => t < n,
+    }
+}
+
+// An operand of sync is act, tau or such a sync.
+fn is_multi(x: Term) -> bool
+    ensures { λ r. ⌜ r ≡ isMultiAction (bareTerm x) ⌝ }
+{
+    match x {
+        Term::Delta => false,
+        Term::Tau => true,
+        Term::Act(_) => true,
+        Term::Ref(_) => false,
+        Term::Sum(_) => false,
+        Term::Cond(_) => false,
+        Term::Choice(_, _) => false,
+        Term::IfElse(_, _) => false,
+        Term::Seq(_, _) => false,
+        Term::Merge(_, _) => false,
+        Term::LMerge(_, _) => false,
+        Term::Sync(_, _) => true,
+        Term::Wrap(_, _) => false,
+    }
+}
