@@ -1,2 +1,3 @@
--- Laws of parts of the list store.
+-- Laws of the list store and of areas of words.
 pub mod Parts
+pub mod Zeroed

@@ -2,3 +2,4 @@
 pub mod Decoded
 pub mod Encoded
 pub mod Terms
+pub mod Areas

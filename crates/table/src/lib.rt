@@ -3,6 +3,7 @@
 // A term is an enum; the five operators with a list are an inner enum, each with the place of its list in a list
 // store that stands beside the table. The order is kept beside the table too.
 
+pub mod areas;
 pub mod lists;
 
 ghost use mathlib.Core.Path.{_≡_};
