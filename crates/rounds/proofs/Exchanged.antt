@@ -6,7 +6,7 @@ use Prim.Native.Nat.{ℕ, zero, suc, _+_, _-_, _≤_, _<_, zero-le, suc-le-suc}
 use native.Mathlib.Nat.{sub-zero, zero-sub, suc-sub-suc}
 use native.Mathlib.Numerals.{add-one, add-two}
 use native.Mathlib.Omega.{arith}
-use lib.ListN.{length, getD, take, drop, set, replicate, length-drop, drop-of-length-le}
+use lib.ListN.{length, getD, take, drop, set, replicate, length-append, length-take, length-drop, drop-of-length-le}
 use lib.Seq.{drop-cons}
 use Rattle.meaning.specs.Labels.{number, single}
 use Rattle.rounds.specs.Cutting.{put}
@@ -70,3 +70,14 @@ over-end ws list i o h =
     let none : drop i (exchangeWords ws) ≡ [] = o .left ∙ odd-end ws i h in
     let most : n ≤ i = omega (arith, ap length none, length-drop i (exchangeWords ws)) in
     filling-end (exchangeWords ws) n (replicate 16 0) list i (o .fill) most ∙ ap (λ (t : List ℕ). exchangeWords ws ++ t) (drop-zeros 16 n)
+
+-- The words that are lent of the sixteen: as many as the rules have.
+pub first-few : (ws rs : List ℕ) → rs ≡ take 16 ws → length rs ≤ 16
+first-few ws rs e = omega (arith, ap length e, length-take 16 ws)
+
+pub lent-within : (rs list : List ℕ) → length rs ≤ 16 → list ≡ exchangeList rs → length rs ≤ length list
+lent-within rs list h e =
+    omega (arith, ap length e, length-append (exchangeWords rs) (replicate (16 - length (exchangeWords rs)) 0), length-zeros (16 - length (exchangeWords rs)), exchange-shorter rs)
+
+pub lent-length : (rs list : List ℕ) → length rs ≤ 16 → list ≡ exchangeList rs → length rs ≡ length (take (length rs) list)
+lent-length rs list h e = omega (arith, length-take (length rs) list, lent-within rs list h e)

@@ -8,12 +8,13 @@ use native.Mathlib.Omega.{arith}
 use borrow.Author.Tests.{leb-true}
 use lib.Dec.{leb}
 use lib.ListN.{length}
+use lib.Seq.{paste-zero}
 use Rattle.labels.specs.Packing.{packed}
 use Rattle.sets.specs.declared.Built.{Built}
 use Rattle.sets.specs.declared.Built.the-variants.{TooLarge, Holds}
 use Rattle.sets.specs.declared.Way.the-variants.{Plus}
 use Rattle.sets.specs.Parts.{setAt, laid, partBefore, roomAt}
-use Rattle.sets.specs.Building.{Building, answerOf, next, each, imaged, row, multiplied, Grown}
+use Rattle.sets.specs.Building.{Building, done, answerOf, next, each, imaged, row, multiplied, Grown}
 use Rattle.sets.specs.Joining.{joined, ascent, fitting, united}
 use Rattle.sets.proofs.Steps.{Steady, steady-each, steady-imaged, Going, going-last, grown-as, next-holds, next-large, built-holds}
 use Rattle.sets.proofs.Walking.{part-stays}
@@ -63,3 +64,8 @@ module _ (at most from to by-from by-to : ℕ) (before now : List ℕ) where
       let p = going-last most (λ m. multiplied m left right) (λ m. steady-multiplied m left right) x
       (grown-as (λ s. ap₂ (λ (a b : List ℕ). multiplied (roomAt at most (length now)) a b s) (part-stays from to x) (part-stays by-from by-to x)) h) in
       record { answer = p .0; words = p .1 }
+
+-- No label: nothing is laid.
+pub nothing-grown : (at : ℕ) (ls : List ℕ) → Grown done at 0 ls ls (Holds 0)
+unfolding laid
+nothing-grown at ls = record { answer = refl; words = paste-zero ls at [] }

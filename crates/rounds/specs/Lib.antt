@@ -5,3 +5,4 @@ pub mod Exchanging
 pub mod Working
 pub mod Steady
 pub mod Making
+pub mod Terms

@@ -2,8 +2,18 @@
 use labels::bags::single;
 ghost use mathlib.Core.Path.{_≡_};
 ghost use Prim.Native.Nat.{_≤_};
-ghost use lib.ListN.{length};
+ghost use lib.ListN.{length, take};
 ghost use Rattle.rounds.specs.Exchanging.{exchangeList};
+
+// A term has at most eight rules, of two words each.
+pub fn first_rules(rules: &[u64]) -> &[u64]
+    ensures { λ r. ⌜ now r ≡ take 16 (now (rules .entry)) ⌝ }
+{
+    if 16 < rules.len() {
+        return &rules[..16];
+    }
+    rules
+}
 
 // A rule's right side is a name; the closure wants the label of that one action.
 pub fn exchanges(rules: &[u64]) -> [u64; 16]

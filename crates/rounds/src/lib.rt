@@ -2,4 +2,7 @@
 mod clearing;
 mod cutting;
 mod exchanging;
-pub mod making;
+mod making;
+mod operators;
+mod starts;
+mod terms;

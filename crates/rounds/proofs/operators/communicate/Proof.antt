@@ -1,0 +1,44 @@
+-- `rounds::operators::communicate` meets its contract: the rules are taken over, and no more words than they have are lent.
+-- Assumes nothing.
+use Rattle.rounds.proofs.Exchanged.{first-few, lent-within, lent-length}
+use borrow.Author.Needs.{needs}
+use Rattle.rounds.proofs.operators.communicate.Statement.{statement}
+use Rattle.rounds.proofs.operators.communicate.Tie as tie
+use Rattle.rounds.proofs.operators.communicate.Reads as reads
+use Rattle.rounds.proofs.operators.communicate.Lts as lts
+use Rattle.rounds.proofs.exchanging.exchanges.Reads as exchanges-reads
+use Rattle.rounds.proofs.exchanging.first_rules.Reads as first-rules-reads
+use Rattle.sets.proofs.imaging.add_image.Reads as add-image-reads
+
+first-rules-requires : tie.Need-first-rules-requires
+first-rules-requires c κs = search needs
+
+exchanges-requires : tie.Need-exchanges-requires
+exchanges-requires c κs = first-few (c .before .before .before .args .rules .now) (c .first-rules .result .now) (c .first-rules .ensures)
+
+array-share-prefix-list : tie.Need-array-share-prefix-list
+array-share-prefix-list c = lent-within (c .before .before .first-rules .result .now) (c .before .exchanges .result) (first-few (c .before .before .before .before .before .args .rules .now) (c .before .before .first-rules .result .now) (c .before .before .first-rules .ensures)) (c .before .exchanges .ensures)
+
+slice-aggregate-add-image : tie.Need-slice-aggregate-add-image
+slice-aggregate-add-image c = lent-length (c .before .before .before .first-rules .result .now) (c .before .before .exchanges .result) (first-few (c .before .before .before .before .before .before .args .rules .now) (c .before .before .before .first-rules .result .now) (c .before .before .before .first-rules .ensures)) (c .before .before .exchanges .ensures)
+
+add-image-requires : tie.Need-add-image-requires
+add-image-requires c κs = search needs
+
+same-length : tie.Need-same-length
+same-length c = search needs
+
+returns : tie.Need-returns
+returns c = rw (c .before .before .before .before .before .exchanges .ensures, c .before .before .before .before .before .before .first-rules .ensures) at (c .before .before .add-image .ensures)
+
+pub communicate-spec : {M : Type 1} → statement M
+communicate-spec =
+    tie.close
+    (tie.spec
+    first-rules-requires
+    exchanges-requires
+    array-share-prefix-list
+    slice-aggregate-add-image
+    add-image-requires
+    same-length
+    returns)

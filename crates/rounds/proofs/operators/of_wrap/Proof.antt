@@ -1,0 +1,121 @@
+-- `rounds::operators::of_wrap` meets its contract: each operator goes its way, with its list.
+-- Assumes nothing.
+use borrow.Author.Needs.{needs}
+use Rattle.rounds.proofs.operators.of_wrap.Statement.{statement}
+use Rattle.rounds.proofs.operators.of_wrap.Tie as tie
+use Rattle.rounds.proofs.operators.of_wrap.Reads as reads
+use Rattle.rounds.proofs.operators.of_wrap.Lts as lts
+use Rattle.rounds.proofs.operators.communicate.Reads as communicate-reads
+use Rattle.rounds.proofs.starts.part_at.Reads as part-at-reads
+use Rattle.sets.proofs.imaging.add_image.Reads as add-image-reads
+use Rattle.table.proofs.lists.rule_words_of.Reads as rule-words-of-reads
+use Rattle.table.proofs.lists.words_of.Reads as words-of-reads
+
+part-at-requires : tie.Need-part-at-requires
+part-at-requires c κs = search needs
+
+enum-known-operator : tie.Need-enum-known-operator
+enum-known-operator c = search needs
+
+words-of-requires : tie.Need-words-of-requires
+words-of-requires c κs = search needs
+
+add-image-requires : tie.Need-add-image-requires
+add-image-requires c κs = search needs
+
+enum-known-operator-2 : tie.Need-enum-known-operator-2
+enum-known-operator-2 c = search needs
+
+words-of-requires-2 : tie.Need-words-of-requires-2
+words-of-requires-2 c κs = search needs
+
+add-image-requires-2 : tie.Need-add-image-requires-2
+add-image-requires-2 c κs = search needs
+
+enum-known-operator-3 : tie.Need-enum-known-operator-3
+enum-known-operator-3 c = search needs
+
+words-of-requires-3 : tie.Need-words-of-requires-3
+words-of-requires-3 c κs = search needs
+
+add-image-requires-3 : tie.Need-add-image-requires-3
+add-image-requires-3 c κs = search needs
+
+enum-known-operator-4 : tie.Need-enum-known-operator-4
+enum-known-operator-4 c = search needs
+
+rule-words-of-requires : tie.Need-rule-words-of-requires
+rule-words-of-requires c κs = search needs
+
+communicate-requires : tie.Need-communicate-requires
+communicate-requires c κs = search needs
+
+enum-known-operator-5 : tie.Need-enum-known-operator-5
+enum-known-operator-5 c = search needs
+
+words-of-requires-4 : tie.Need-words-of-requires-4
+words-of-requires-4 c κs = search needs
+
+add-image-requires-4 : tie.Need-add-image-requires-4
+add-image-requires-4 c κs = search needs
+
+same-length : tie.Need-same-length
+same-length c = search needs
+
+returns : tie.Need-returns
+returns c = rw (c .before .before .before .before .before .before .operator .given .1) (rw (c .before .before .before .before .before .before .before .before .part-at .ensures, c .before .before .before .words-of .ensures) at (c .before .before .add-image .ensures))
+
+same-length-2 : tie.Need-same-length-2
+same-length-2 c = search needs
+
+returns-2 : tie.Need-returns-2
+returns-2 c = rw (c .before .before .before .before .before .before .operator2 .given .1) (rw (c .before .before .before .before .before .before .before .before .part-at .ensures, c .before .before .before .words-of2 .ensures) at (c .before .before .add-image2 .ensures))
+
+same-length-3 : tie.Need-same-length-3
+same-length-3 c = search needs
+
+returns-3 : tie.Need-returns-3
+returns-3 c = rw (c .before .before .before .before .before .before .operator3 .given .1) (rw (c .before .before .before .before .before .before .before .before .part-at .ensures, c .before .before .before .words-of3 .ensures) at (c .before .before .add-image3 .ensures))
+
+same-length-4 : tie.Need-same-length-4
+same-length-4 c = search needs
+
+returns-4 : tie.Need-returns-4
+returns-4 c = rw (c .before .before .before .before .before .before .operator4 .given .1) (rw (c .before .before .before .before .before .before .before .before .part-at .ensures, c .before .before .before .rule-words-of .ensures) at (c .before .before .communicate .ensures))
+
+same-length-5 : tie.Need-same-length-5
+same-length-5 c = search needs
+
+returns-5 : tie.Need-returns-5
+returns-5 c = rw (c .before .before .before .before .before .before .operator5 .given .1) (rw (c .before .before .before .before .before .before .before .before .part-at .ensures, c .before .before .before .words-of4 .ensures) at (c .before .before .add-image4 .ensures))
+
+pub of-wrap-spec : {M : Type 1} → statement M
+of-wrap-spec =
+    tie.close
+    (tie.spec
+    part-at-requires
+    enum-known-operator
+    words-of-requires
+    add-image-requires
+    enum-known-operator-2
+    words-of-requires-2
+    add-image-requires-2
+    enum-known-operator-3
+    words-of-requires-3
+    add-image-requires-3
+    enum-known-operator-4
+    rule-words-of-requires
+    communicate-requires
+    enum-known-operator-5
+    words-of-requires-4
+    add-image-requires-4
+    same-length
+    returns
+    same-length-2
+    returns-2
+    same-length-3
+    returns-3
+    same-length-4
+    returns-4
+    same-length-5
+    returns-5)

@@ -1,0 +1,21 @@
+-- `rounds::starts::place_of` meets its contract
+-- Assumes nothing.
+use native.Mathlib.Omega.{arith}
+use borrow.Author.Needs.{needs}
+use Rattle.rounds.proofs.starts.place_of.Statement.{statement}
+use Rattle.rounds.proofs.starts.place_of.Tie as tie
+use Rattle.rounds.proofs.starts.place_of.Reads as reads
+use Rattle.rounds.proofs.starts.place_of.Lts as lts
+use Rattle.rounds.proofs.starts.start_of.Reads as start-of-reads
+
+start-of-requires : tie.Need-start-of-requires
+start-of-requires c κs = search needs
+
+add-result : tie.Need-add-result
+add-result c = omega (arith, c .before .before .pre (c .before .before .args .n))
+
+returns : tie.Need-returns
+returns c = search needs
+
+pub place-of-spec : {M : Type 1} → statement M
+place-of-spec = tie.close (tie.spec start-of-requires add-result returns)

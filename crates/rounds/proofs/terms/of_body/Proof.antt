@@ -1,0 +1,24 @@
+-- `rounds::terms::of_body` meets its contract
+-- Assumes nothing.
+use borrow.Author.Needs.{needs}
+use Rattle.rounds.proofs.terms.of_body.Statement.{statement}
+use Rattle.rounds.proofs.terms.of_body.Tie as tie
+use Rattle.rounds.proofs.terms.of_body.Reads as reads
+use Rattle.rounds.proofs.terms.of_body.Lts as lts
+use Rattle.rounds.proofs.starts.start_of.Reads as start-of-reads
+use Rattle.rounds.proofs.terms.of_one.Reads as of-one-reads
+
+start-of-requires : tie.Need-start-of-requires
+start-of-requires c κs = search needs
+
+of-one-requires : tie.Need-of-one-requires
+of-one-requires c κs = search needs
+
+same-length : tie.Need-same-length
+same-length c = search needs
+
+returns : tie.Need-returns
+returns c = rw (c .before .before .before .start-of .ensures) at (c .before .before .of-one .ensures)
+
+pub of-body-spec : {M : Type 1} → statement M
+of-body-spec = tie.close (tie.spec start-of-requires of-one-requires same-length returns)

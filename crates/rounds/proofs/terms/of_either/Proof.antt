@@ -1,0 +1,28 @@
+-- `rounds::terms::of_either` meets its contract
+-- Assumes nothing.
+use borrow.Author.Needs.{needs}
+use Rattle.rounds.proofs.terms.of_either.Statement.{statement}
+use Rattle.rounds.proofs.terms.of_either.Tie as tie
+use Rattle.rounds.proofs.terms.of_either.Reads as reads
+use Rattle.rounds.proofs.terms.of_either.Lts as lts
+use Rattle.rounds.proofs.starts.part_at.Reads as part-at-reads
+use Rattle.sets.proofs.joining.union.Reads as union-reads
+
+part-at-requires : tie.Need-part-at-requires
+part-at-requires c κs = search needs
+
+part-at-requires-2 : tie.Need-part-at-requires-2
+part-at-requires-2 c κs = search needs
+
+union-requires : tie.Need-union-requires
+union-requires c κs = search needs
+
+same-length : tie.Need-same-length
+same-length c = search needs
+
+returns : tie.Need-returns
+returns c = rw (c .before .before .before .before .before .part-at .ensures, c .before .before .before .before .part-at2 .ensures) at (c .before .before .union .ensures)
+
+pub of-either-spec : {M : Type 1} → statement M
+of-either-spec =
+    tie.close (tie.spec part-at-requires part-at-requires-2 union-requires same-length returns)

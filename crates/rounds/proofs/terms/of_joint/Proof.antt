@@ -1,0 +1,29 @@
+-- `rounds::terms::of_joint` meets its contract
+-- Assumes nothing.
+use borrow.Author.Needs.{needs}
+use Rattle.rounds.proofs.terms.of_joint.Statement.{statement}
+use Rattle.rounds.proofs.terms.of_joint.Tie as tie
+use Rattle.rounds.proofs.terms.of_joint.Reads as reads
+use Rattle.rounds.proofs.terms.of_joint.Lts as lts
+use Rattle.rounds.proofs.starts.part_at.Reads as part-at-reads
+use Rattle.sets.proofs.multiplying.add_product.Reads as add-product-reads
+
+part-at-requires : tie.Need-part-at-requires
+part-at-requires c κs = search needs
+
+part-at-requires-2 : tie.Need-part-at-requires-2
+part-at-requires-2 c κs = search needs
+
+add-product-requires : tie.Need-add-product-requires
+add-product-requires c κs = search needs
+
+same-length : tie.Need-same-length
+same-length c = search needs
+
+returns : tie.Need-returns
+returns c = rw (c .before .before .before .before .before .part-at .ensures, c .before .before .before .before .part-at2 .ensures) at (c .before .before .add-product .ensures)
+
+pub of-joint-spec : {M : Type 1} → statement M
+of-joint-spec =
+    tie.close
+    (tie.spec part-at-requires part-at-requires-2 add-product-requires same-length returns)

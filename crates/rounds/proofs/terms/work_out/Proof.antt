@@ -1,0 +1,231 @@
+-- `rounds::terms::work_out` meets its contract: each kind is built by one call.
+-- Assumes nothing.
+use Rattle.rounds.proofs.Makings.{nothing-grown}
+use borrow.Author.Needs.{needs}
+use Rattle.rounds.proofs.terms.work_out.Statement.{statement}
+use Rattle.rounds.proofs.terms.work_out.Tie as tie
+use Rattle.rounds.proofs.terms.work_out.Reads as reads
+use Rattle.rounds.proofs.terms.work_out.Lts as lts
+use Rattle.rounds.proofs.operators.of_wrap.Reads as of-wrap-reads
+use Rattle.rounds.proofs.starts.left_of.Reads as left-of-reads
+use Rattle.rounds.proofs.starts.place_of.Reads as place-of-reads
+use Rattle.rounds.proofs.terms.of_act.Reads as of-act-reads
+use Rattle.rounds.proofs.terms.of_body.Reads as of-body-reads
+use Rattle.rounds.proofs.terms.of_both.Reads as of-both-reads
+use Rattle.rounds.proofs.terms.of_either.Reads as of-either-reads
+use Rattle.rounds.proofs.terms.of_joint.Reads as of-joint-reads
+use Rattle.rounds.proofs.terms.of_one.Reads as of-one-reads
+use Rattle.rounds.proofs.terms.of_tau.Reads as of-tau-reads
+
+place-of-requires : tie.Need-place-of-requires
+place-of-requires c κs = search needs
+
+left-of-requires : tie.Need-left-of-requires
+left-of-requires c κs = search needs
+
+enum-told : tie.Need-enum-told
+enum-told c = search needs
+
+enum-told-2 : tie.Need-enum-told-2
+enum-told-2 c = search needs
+
+of-tau-requires : tie.Need-of-tau-requires
+of-tau-requires c κs = search needs
+
+enum-known-term : tie.Need-enum-known-term
+enum-known-term c = search needs
+
+of-act-requires : tie.Need-of-act-requires
+of-act-requires c κs = search needs
+
+enum-known-term-2 : tie.Need-enum-known-term-2
+enum-known-term-2 c = search needs
+
+of-body-requires : tie.Need-of-body-requires
+of-body-requires c κs = search needs
+
+enum-known-term-3 : tie.Need-enum-known-term-3
+enum-known-term-3 c = search needs
+
+of-one-requires : tie.Need-of-one-requires
+of-one-requires c κs = search needs
+
+enum-known-term-4 : tie.Need-enum-known-term-4
+enum-known-term-4 c = search needs
+
+of-one-requires-2 : tie.Need-of-one-requires-2
+of-one-requires-2 c κs = search needs
+
+enum-known-term-5 : tie.Need-enum-known-term-5
+enum-known-term-5 c = search needs
+
+of-either-requires : tie.Need-of-either-requires
+of-either-requires c κs = search needs
+
+enum-known-term-6 : tie.Need-enum-known-term-6
+enum-known-term-6 c = search needs
+
+of-either-requires-2 : tie.Need-of-either-requires-2
+of-either-requires-2 c κs = search needs
+
+enum-known-term-7 : tie.Need-enum-known-term-7
+enum-known-term-7 c = search needs
+
+of-either-requires-3 : tie.Need-of-either-requires-3
+of-either-requires-3 c κs = search needs
+
+enum-known-term-8 : tie.Need-enum-known-term-8
+enum-known-term-8 c = search needs
+
+of-both-requires : tie.Need-of-both-requires
+of-both-requires c κs = search needs
+
+enum-known-term-9 : tie.Need-enum-known-term-9
+enum-known-term-9 c = search needs
+
+of-both-requires-2 : tie.Need-of-both-requires-2
+of-both-requires-2 c κs = search needs
+
+enum-known-term-10 : tie.Need-enum-known-term-10
+enum-known-term-10 c = search needs
+
+of-joint-requires : tie.Need-of-joint-requires
+of-joint-requires c κs = search needs
+
+enum-known-term-11 : tie.Need-enum-known-term-11
+enum-known-term-11 c = search needs
+
+of-wrap-requires : tie.Need-of-wrap-requires
+of-wrap-requires c κs = search needs
+
+returns : tie.Need-returns
+returns c = rw (c .enum-told .given .1) (nothing-grown _ (c .before .before .before .before .before .before .before .before .before .args .work .now))
+
+same-length : tie.Need-same-length
+same-length c = search needs
+
+returns-2 : tie.Need-returns-2
+returns-2 c = rw (c .before .before .before .before .enum-told2 .given .1) (rw (c .before .before .before .before .before .before .before .place-of .ensures, c .before .before .before .before .before .before .left-of .ensures) at (c .before .before .of-tau .ensures))
+
+same-length-2 : tie.Need-same-length-2
+same-length-2 c = search needs
+
+returns-3 : tie.Need-returns-3
+returns-3 c = rw (c .before .before .before .before .before .term .given .1) (rw (c .before .before .before .before .before .before .before .before .place-of .ensures, c .before .before .before .before .before .before .before .left-of .ensures) at (c .before .before .of-act .ensures))
+
+same-length-3 : tie.Need-same-length-3
+same-length-3 c = search needs
+
+returns-4 : tie.Need-returns-4
+returns-4 c = rw (c .before .before .before .before .before .term2 .given .1) (rw (c .before .before .before .before .before .before .before .before .place-of .ensures, c .before .before .before .before .before .before .before .left-of .ensures) at (c .before .before .of-body .ensures))
+
+same-length-4 : tie.Need-same-length-4
+same-length-4 c = search needs
+
+returns-5 : tie.Need-returns-5
+returns-5 c = rw (c .before .before .before .before .before .term3 .given .1) (rw (c .before .before .before .before .before .before .before .before .place-of .ensures, c .before .before .before .before .before .before .before .left-of .ensures) at (c .before .before .of-one .ensures))
+
+same-length-5 : tie.Need-same-length-5
+same-length-5 c = search needs
+
+returns-6 : tie.Need-returns-6
+returns-6 c = rw (c .before .before .before .before .before .term4 .given .1) (rw (c .before .before .before .before .before .before .before .before .place-of .ensures, c .before .before .before .before .before .before .before .left-of .ensures) at (c .before .before .of-one2 .ensures))
+
+same-length-6 : tie.Need-same-length-6
+same-length-6 c = search needs
+
+returns-7 : tie.Need-returns-7
+returns-7 c = rw (c .before .before .before .before .before .term5 .given .1) (rw (c .before .before .before .before .before .before .before .before .place-of .ensures, c .before .before .before .before .before .before .before .left-of .ensures) at (c .before .before .of-either .ensures))
+
+same-length-7 : tie.Need-same-length-7
+same-length-7 c = search needs
+
+returns-8 : tie.Need-returns-8
+returns-8 c = rw (c .before .before .before .before .before .term6 .given .1) (rw (c .before .before .before .before .before .before .before .before .place-of .ensures, c .before .before .before .before .before .before .before .left-of .ensures) at (c .before .before .of-either2 .ensures))
+
+same-length-8 : tie.Need-same-length-8
+same-length-8 c = search needs
+
+returns-9 : tie.Need-returns-9
+returns-9 c = rw (c .before .before .before .before .before .term7 .given .1) (rw (c .before .before .before .before .before .before .before .before .place-of .ensures, c .before .before .before .before .before .before .before .left-of .ensures) at (c .before .before .of-either3 .ensures))
+
+same-length-9 : tie.Need-same-length-9
+same-length-9 c = search needs
+
+returns-10 : tie.Need-returns-10
+returns-10 c = rw (c .before .before .before .before .before .term8 .given .1) (rw (c .before .before .before .before .before .before .before .before .place-of .ensures, c .before .before .before .before .before .before .before .left-of .ensures) at (c .before .before .of-both .ensures))
+
+same-length-10 : tie.Need-same-length-10
+same-length-10 c = search needs
+
+returns-11 : tie.Need-returns-11
+returns-11 c = rw (c .before .before .before .before .before .term9 .given .1) (rw (c .before .before .before .before .before .before .before .before .place-of .ensures, c .before .before .before .before .before .before .before .left-of .ensures) at (c .before .before .of-both2 .ensures))
+
+same-length-11 : tie.Need-same-length-11
+same-length-11 c = search needs
+
+returns-12 : tie.Need-returns-12
+returns-12 c = rw (c .before .before .before .before .before .term10 .given .1) (rw (c .before .before .before .before .before .before .before .before .place-of .ensures, c .before .before .before .before .before .before .before .left-of .ensures) at (c .before .before .of-joint .ensures))
+
+same-length-12 : tie.Need-same-length-12
+same-length-12 c = search needs
+
+returns-13 : tie.Need-returns-13
+returns-13 c = rw (c .before .before .before .before .before .term11 .given .1) (rw (c .before .before .before .before .before .before .before .before .place-of .ensures, c .before .before .before .before .before .before .before .left-of .ensures) at (c .before .before .of-wrap .ensures))
+
+pub work-out-spec : {M : Type 1} → statement M
+work-out-spec =
+    tie.close
+    (tie.spec
+    place-of-requires
+    left-of-requires
+    enum-told
+    enum-told-2
+    of-tau-requires
+    enum-known-term
+    of-act-requires
+    enum-known-term-2
+    of-body-requires
+    enum-known-term-3
+    of-one-requires
+    enum-known-term-4
+    of-one-requires-2
+    enum-known-term-5
+    of-either-requires
+    enum-known-term-6
+    of-either-requires-2
+    enum-known-term-7
+    of-either-requires-3
+    enum-known-term-8
+    of-both-requires
+    enum-known-term-9
+    of-both-requires-2
+    enum-known-term-10
+    of-joint-requires
+    enum-known-term-11
+    of-wrap-requires
+    returns
+    same-length
+    returns-2
+    same-length-2
+    returns-3
+    same-length-3
+    returns-4
+    same-length-4
+    returns-5
+    same-length-5
+    returns-6
+    same-length-6
+    returns-7
+    same-length-7
+    returns-8
+    same-length-8
+    returns-9
+    same-length-9
+    returns-10
+    same-length-10
+    returns-11
+    same-length-11
+    returns-12
+    same-length-12
+    returns-13)

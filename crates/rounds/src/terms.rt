@@ -1,0 +1,129 @@
+// The set of a term, worked out from the sets of its operands, which stand before it in this round's half, or from that of an
+// equation's body in the round before.
+use crate::making::both;
+use crate::making::leaf;
+use crate::operators::of_wrap;
+use crate::starts::HALF;
+use crate::starts::left_of;
+use crate::starts::part_at;
+use crate::starts::place_of;
+use crate::starts::start_of;
+use labels::bags::single;
+use labels::packing::tau;
+use sets::Built;
+use sets::Way;
+use sets::imaging::add_image;
+use sets::joining::union;
+use sets::multiplying::add_product;
+use table::Term;
+ghost use mathlib.Core.List.{[]};
+ghost use Prim.Native.Nat.{_≤_};
+ghost use lib.ListN.{length, getD};
+ghost use Rattle.meaning.specs.Labels.{number, single};
+ghost use Rattle.sets.specs.declared.Way.the-variants.{Copy};
+ghost use Rattle.sets.specs.Parts.{roomAt};
+ghost use Rattle.sets.specs.Building.{Grown};
+ghost use Rattle.rounds.specs.Making.{leafBuilt, throughBuilt, eitherBuilt, jointBuilt, bothBuilt};
+ghost use Rattle.rounds.specs.Terms.{Low, partIn, placeIn, leftIn, built};
+
+fn of_tau(work: &mut [u64], at: usize, most: usize) -> Built
+    ensures { λ r. ⌜ Grown (leafBuilt (roomAt at most (length (now (work .entry)))) 0) at 0 (now (work .entry)) (now (work .exit)) r ⌝ }
+{
+    leaf(work, tau(), at, most)
+}
+
+fn of_act(work: &mut [u64], a: usize, at: usize, most: usize) -> Built
+    ensures { λ r. ⌜ Grown (leafBuilt (roomAt at most (length (now (work .entry)))) (number (single 12 a))) at 0 (now (work .entry)) (now (work .exit)) r ⌝ }
+{
+    leaf(work, single(a as u64), at, most)
+}
+
+// The set of a term as it stands in a half of the work area.
+fn of_one(
+    work: &mut [u64],
+    starts: &[usize],
+    t: usize,
+    base: usize,
+    at: usize,
+    most: usize,
+) -> Built
+    requires { ⌜ Low (now starts) × (base ≤ 2048) ⌝ }
+    ensures { λ r. ⌜ Grown (throughBuilt (roomAt at most (length (now (work .entry)))) Copy [] (partIn at base (now (starts .entry)) t (now (work .entry)))) at 0 (now (work .entry)) (now (work .exit)) r ⌝ }
+{
+    let part = part_at(starts, t, base);
+    let none = [0u64];
+    add_image(work, part.from, part.to, Way::Copy, &none[..0], at, 0, most)
+}
+
+fn of_body(
+    work: &mut [u64],
+    before: &[usize],
+    bodies: &[usize],
+    e: usize,
+    at: usize,
+    most: usize,
+) -> Built
+    requires { ⌜ Low (now before) ⌝ }
+    ensures { λ r. ⌜ Grown (throughBuilt (roomAt at most (length (now (work .entry)))) Copy [] (partIn at 0 (now (before .entry)) (getD (now (bodies .entry)) e 0) (now (work .entry)))) at 0 (now (work .entry)) (now (work .exit)) r ⌝ }
+{
+    of_one(work, before, start_of(bodies, e), 0, at, most)
+}
+
+fn of_either(work: &mut [u64], this: &[usize], t: usize, u: usize, at: usize, most: usize) -> Built
+    requires { ⌜ Low (now this) ⌝ }
+    ensures { λ r. ⌜ Grown (eitherBuilt (roomAt at most (length (now (work .entry)))) (partIn at 2048 (now (this .entry)) t (now (work .entry))) (partIn at 2048 (now (this .entry)) u (now (work .entry)))) at 0 (now (work .entry)) (now (work .exit)) r ⌝ }
+{
+    let a = part_at(this, t, HALF);
+    let b = part_at(this, u, HALF);
+    union(work, a.from, a.to, b.from, b.to, at, most)
+}
+
+fn of_both(work: &mut [u64], this: &[usize], t: usize, u: usize, at: usize, most: usize) -> Built
+    requires { ⌜ Low (now this) ⌝ }
+    ensures { λ r. ⌜ Grown (bothBuilt (roomAt at most (length (now (work .entry)))) (partIn at 2048 (now (this .entry)) t (now (work .entry))) (partIn at 2048 (now (this .entry)) u (now (work .entry)))) at 0 (now (work .entry)) (now (work .exit)) r ⌝ }
+{
+    let a = part_at(this, t, HALF);
+    let b = part_at(this, u, HALF);
+    both(work, a.from, a.to, b.from, b.to, at, most)
+}
+
+fn of_joint(work: &mut [u64], this: &[usize], t: usize, u: usize, at: usize, most: usize) -> Built
+    requires { ⌜ Low (now this) ⌝ }
+    ensures { λ r. ⌜ Grown (jointBuilt (roomAt at most (length (now (work .entry)))) (partIn at 2048 (now (this .entry)) t (now (work .entry))) (partIn at 2048 (now (this .entry)) u (now (work .entry)))) at 0 (now (work .entry)) (now (work .exit)) r ⌝ }
+{
+    let a = part_at(this, t, HALF);
+    let b = part_at(this, u, HALF);
+    add_product(work, a.from, a.to, b.from, b.to, at, 0, most)
+}
+
+// A term's kind decides what its set is built of.
+pub fn work_out(
+    term: Term,
+    store: &[u64],
+    bodies: &[usize],
+    n: usize,
+    before: &[usize],
+    this: &[usize],
+    work: &mut [u64],
+) -> Built
+    requires { ⌜ Low (now before) × Low (now this) ⌝ }
+    ensures { λ r. ⌜ Grown (built (roomAt (placeIn (now (this .entry)) n) (leftIn (now (this .entry)) n) (length (now (work .entry)))) (placeIn (now (this .entry)) n) (now (store .entry)) (now (bodies .entry)) (now (before .entry)) (now (this .entry)) (now (work .entry)) term) (placeIn (now (this .entry)) n) 0 (now (work .entry)) (now (work .exit)) r ⌝ }
+{
+    let at = place_of(this, n);
+    let most = left_of(this, n);
+    match term {
+        Term::Delta => Built::Holds(0),
+        Term::Tau => of_tau(work, at, most),
+        Term::Act(a) => of_act(work, a, at, most),
+        Term::Ref(e) => of_body(work, before, bodies, e, at, most),
+        Term::Sum(t) => of_one(work, this, t, HALF, at, most),
+        Term::Cond(t) => of_one(work, this, t, HALF, at, most),
+        Term::Choice(t, u) => of_either(work, this, t, u, at, most),
+        Term::IfElse(t, u) => of_either(work, this, t, u, at, most),
+        Term::Seq(t, u) => of_either(work, this, t, u, at, most),
+        Term::Merge(t, u) => of_both(work, this, t, u, at, most),
+        Term::LMerge(t, u) => of_both(work, this, t, u, at, most),
+        Term::Sync(t, u) => of_joint(work, this, t, u, at, most),
+        Term::Wrap(operator, t) => of_wrap(work, store, this, operator, t, at, most),
+    }
+}
