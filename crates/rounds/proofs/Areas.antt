@@ -49,7 +49,7 @@ total-part (s ∷ sets) (suc i) = let ih = total-part sets i in omega arith
 abbrev pub part : ℕ → ℕ → List ℕ → List ℕ
 part from to ls = drop from (take to ls)
 
-part-taken : (ls : List ℕ) (from n : ℕ) → part from (from + n) ls ≡ take n (drop from ls)
+pub part-taken : (ls : List ℕ) (from n : ℕ) → part from (from + n) ls ≡ take n (drop from ls)
 part-taken ls zero n = ap (λ (k : ℕ). take k ls) (zero-add n)
 part-taken [] (suc from) n = ap (drop (suc from)) (take-nil (suc from + n)) ∙ sym (take-nil n)
 part-taken (x ∷ ls) (suc from) n = ap (λ (k : ℕ). drop (suc from) (take k (x ∷ ls))) (suc-add from n) ∙ part-taken ls from n

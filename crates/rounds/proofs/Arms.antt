@@ -3,35 +3,35 @@
 -- Assumes nothing.
 use mathlib.Core.Path.{_≡_, refl, sym, ap, ap₂, subst, _∙_}
 use mathlib.Core.Logic.{_⊎_, inl, inr}
+use mathlib.Core.Bool.{Bool}
 use mathlib.Core.List.{List, [], _∷_, _++_, map}
-use Prim.Native.Nat.{ℕ, suc, _+_, _≤_, _<_}
+use Prim.Native.Nat.{ℕ, suc, _+_, _≤_, _<_, zero-le}
 use native.Mathlib.Nat.{le-refl}
 use native.Mathlib.Omega.{arith}
-use lib.ListN.{length, getD}
+use native.Mathlib.Decide.{decLt}
+use borrow.Author.Tests.{lt-leb, le-leb}
+use lib.ListN.{length, getD, length-map}
 use Rattle.meaning.specs.Labels.{Label, number}
-use Rattle.meaning.specs.Sets.{at, ascending, spread, product}
+use Rattle.meaning.specs.Sets.{_∈_, at, ascending, spread, product}
 use Rattle.meaning.specs.Descriptions.{Description, Operator, names, termCount, termAt, bodyAt}
 use Rattle.meaning.specs.Legal.{LegalOperator}
 use Rattle.meaning.specs.Rounds.{Shape, leaf, reference, one, either, both, joint, through, shape, made, image, equationSets}
 use Rattle.meaning.specs.Limits.{total}
+use Rattle.meaning.proofs.Members.{in-ascending}
 use Rattle.labels.proofs.Meant.{Packs}
 use Rattle.sets.specs.declared.Built.{Built}
 use Rattle.sets.specs.declared.Built.the-variants.{TooLarge, Holds}
 use Rattle.sets.specs.declared.Way.the-variants.{Copy}
 use Rattle.sets.specs.Parts.{partBefore, setAt}
-use Rattle.sets.specs.Building.{Building, Grown}
+use Rattle.sets.specs.Building.{Building, done, Grown}
 use Rattle.sets.proofs.Meant.{AllPack}
 use Rattle.rounds.specs.Making.{leafBuilt, throughBuilt, eitherBuilt, jointBuilt, bothBuilt}
-use Rattle.rounds.specs.Working.{half, partly, setOf, Ready, TermDone, TermOver}
+use Rattle.rounds.specs.Terms.{fitted, copyBuilt}
+use Rattle.rounds.specs.Working.{half, partly, setOf, Ready, TermDone, TermOver, Worked}
 use Rattle.rounds.proofs.Shaped.{Settled, wayOf, wayWords, leaf-settled, copy-settled, either-settled, joint-settled, both-settled, through-settled}
-use Rattle.rounds.proofs.Fitting.{leaf-fits, through-fits, either-fits, joint-fits, both-fits}
+use Rattle.rounds.proofs.Fitting.{copy-fits, leaf-fits, through-fits, either-fits, joint-fits, both-fits}
 use Rattle.rounds.proofs.Settling.{placeOf, leftOf, roomOf, settled-done, settled-over}
 use Rattle.rounds.proofs.Operands.{term-part, term-packs, term-ascends, body-part, body-packs}
-
--- What working a term out comes to.
-pub data Worked (d : Description) (k n : ℕ) (work work′ : List ℕ) : Built → Type 0 where
-  holds : (count : ℕ) → TermDone d k n work work′ count → Worked d k n work work′ (Holds count)
-  large : TermOver d k n work work′ → Worked d k n work work′ TooLarge
 
 module _ (d : Description) (k n : ℕ) (older before this work work′ : List ℕ) (answer : Built) (r : Ready d k n older before this work) (more : n < termCount d) where
   abbrev pub room : ℕ
@@ -57,14 +57,18 @@ module _ (d : Description) (k n : ℕ) (older before this work work′ : List �
       → Settled (names d) room (made (equationSets d k) (partly d k n) (shape d (termAt d n))) (build []) → Worked d k n work work′ answer
   arm build g small (inl x) =
       let y = settled-done d k n older before this work work′ r build answer g small x in
-      subst (Worked d k n work work′) (sym (y .0)) (holds (length (setOf d k n)) (y .1))
+      subst (Worked d k n work work′) (sym (y .0)) (y .1)
   arm build g small (inr x) =
       let y = settled-over d k n older before this work work′ r build answer g small x in
-      subst (Worked d k n work work′) (sym (y .0)) (large (y .1))
+      subst (Worked d k n work work′) (sym (y .0)) (y .1)
 
   shaped : (s : Shape) (b : Building) → shape d (termAt d n) ≡ s → Settled (names d) room (made (equationSets d k) (partly d k n) s) b
       → Settled (names d) room (made (equationSets d k) (partly d k n) (shape d (termAt d n))) b
   shaped s b e x = subst (λ (f : Shape). Settled (names d) room (made (equationSets d k) (partly d k n) f) b) (sym e) x
+
+  pub none-arm : shape d (termAt d n) ≡ leaf [] → Grown done (placeOf d k n) 0 work work′ answer → Worked d k n work work′ answer
+  unfolding ascending
+  none-arm e g = arm done g zero-le (shaped (leaf []) (done []) e (inl (record { built = refl; packs = λ a m. absurd m })))
 
   pub leaf-arm : (a : Label) → Packs (names d) a → shape d (termAt d n) ≡ leaf (a ∷ [])
       → Grown (leafBuilt room (number a)) (placeOf d k n) 0 work work′ answer → Worked d k n work work′ answer
@@ -73,10 +77,10 @@ module _ (d : Description) (k n : ℕ) (older before this work work′ : List �
       (shaped (leaf (a ∷ [])) (leafBuilt room (number a) []) e (leaf-settled (names d) room a p))
 
   pub reference-arm : (x : ℕ) (list : List ℕ) → bodyAt d x < termCount d → shape d (termAt d n) ≡ reference x
-      → Grown (throughBuilt room Copy list (partBefore (placeOf d k n) (getD before (bodyAt d x) 0) (getD before (suc (bodyAt d x)) 0) work)) (placeOf d k n) 0 work work′ answer
+      → Grown (throughBuilt room Copy list (partBefore (placeOf d k n) (0 + getD before (bodyAt d x) 0) (0 + getD before (suc (bodyAt d x)) 0) work)) (placeOf d k n) 0 work work′ answer
       → Worked d k n work work′ answer
   reference-arm x list h e g =
-      let part = partBefore (placeOf d k n) (getD before (bodyAt d x) 0) (getD before (suc (bodyAt d x)) 0) work in
+      let part = partBefore (placeOf d k n) (0 + getD before (bodyAt d x) 0) (0 + getD before (suc (bodyAt d x)) 0) work in
       arm (throughBuilt room Copy list part) g (through-fits room Copy list part)
       (shaped (reference x) (throughBuilt room Copy list part []) e
       (subst (λ (ws : List ℕ). Settled (names d) room (at (equationSets d k) x) (throughBuilt room Copy list ws [])) (sym (body-part d k n older before this work r x h))
@@ -128,3 +132,21 @@ module _ (d : Description) (k n : ℕ) (older before this work work′ : List �
         (shaped (both t u) (bothBuilt room (here t) (here u) []) e
         (two (at (partly d k n) t ++ at (partly d k n) u ++ product (at (partly d k n) t) (at (partly d k n) u)) (λ a b. bothBuilt room a b [])
         (both-settled (names d) room few (at (partly d k n) t) (at (partly d k n) u) (packs t left) (packs u right) (ascends t) (ascends u))))
+
+  -- the set as it was in the round before
+  copy-settled-as : (s : List Label) → setOf d k n ≡ s → AllPack (names d) s
+      → Settled (names d) room (made (equationSets d k) (partly d k n) (shape d (termAt d n))) (copyBuilt room (map number s) [])
+  copy-settled-as s e p =
+      let M = made (equationSets d k) (partly d k n) (shape d (termAt d n)) in
+      let l = length-map s number in
+      elim (decLt room (length s)) [
+        | yes h ↦ inr (ap (λ (b : Bool). fitted b (map number s) .whole) (lt-leb (length (map number s)) room (omega arith)), inl (omega (arith, ap length e)))
+        | no h ↦ inl (record {
+          built = ap (λ (b : Bool). fitted b (map number s)) (le-leb (length (map number s)) room (omega arith)) ∙ ap (λ (x : List Label). done (map number x)) (sym e);
+          packs = λ a m. p a (subst (λ (x : List Label). a ∈ x) e (in-ascending M a .1 m));
+        })
+      ]
+
+  pub copy-arm : (s : List Label) → setOf d k n ≡ s → AllPack (names d) s
+      → Grown (copyBuilt room (map number s)) (placeOf d k n) 0 work work′ answer → Worked d k n work work′ answer
+  copy-arm s e p g = arm (copyBuilt room (map number s)) g (copy-fits room (map number s)) (copy-settled-as s e p)

@@ -3,7 +3,7 @@
 use mathlib.Core.Path.{_≡_, refl, subst}
 use mathlib.Core.Bool.{Bool, true, false}
 use mathlib.Core.List.{List, [], _∷_}
-use Prim.Native.Nat.{ℕ, _≤_, max}
+use Prim.Native.Nat.{ℕ, _≤_, max, zero-le}
 use native.Mathlib.Omega.{arith}
 use lib.Dec.{leb}
 use lib.ListN.{length}
@@ -15,6 +15,7 @@ use Rattle.sets.specs.Building.{Building, goesOn, imaged, row, multiplied}
 use Rattle.sets.specs.Joining.{joined, ascent, fitting, united}
 use Rattle.sets.proofs.Steps.{Steady, steady-each, steady-enter, steady-imaged}
 use Rattle.rounds.specs.Making.{leafBuilt, throughBuilt, eitherBuilt, jointBuilt, bothBuilt}
+use Rattle.rounds.specs.Terms.{fitted, copyBuilt}
 use Rattle.rounds.proofs.Filling.{length-zeros}
 
 module _ (room : ℕ) where
@@ -47,3 +48,10 @@ module _ (room : ℕ) where
       after : (t : Bool) → length (goesOn t (united room a b) (multiplied room a b) .set) ≤ room
       after true = let h = product-steady a b (united room a b .set) in let k = either-fits a b in omega arith
       after false = either-fits a b
+
+  pub copy-fits : (s : List ℕ) → length (copyBuilt room s [] .set) ≤ room
+  copy-fits s = picked (leb (length s) room) refl
+    where
+      picked : (t : Bool) → leb (length s) room ≡ t → length (fitted t s .set) ≤ room
+      picked true e = leb-true (length s) room e
+      picked false e = zero-le

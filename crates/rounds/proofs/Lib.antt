@@ -13,3 +13,8 @@ pub mod Fitting
 pub mod Settling
 pub mod Operands
 pub mod Arms
+pub mod Carrying
+pub mod Stores
+pub mod Dispatch
+pub mod Copying
+pub mod Progress

@@ -48,14 +48,14 @@ packed-sets n sets i few full a m = record {
 }
 
 -- What is worked out stays while more terms are.
-worked-on : (d : Description) (eqs : List (List Label)) (n t i : ℕ) → n ≤ t → i < n → at (worked d eqs t) i ≡ at (worked d eqs n) i
+pub worked-on : (d : Description) (eqs : List (List Label)) (n t i : ℕ) → n ≤ t → i < n → at (worked d eqs t) i ≡ at (worked d eqs n) i
 worked-on d eqs n zero i h less = absurd (omega arith)
 worked-on d eqs n (suc t) i h less = elim (decLt t n) [
   | yes l ↦ (let e : suc t ≡ n = omega arith in ap (λ (m : ℕ). at (worked d eqs m) i) e)
   | no l ↦ worked-earlier d eqs t i (omega arith) ∙ worked-on d eqs n t i (omega arith) less
 ]
 
-partly-round : (d : Description) (k n i : ℕ) → n ≤ termCount d → i < n → at (partly d k n) i ≡ at (roundSets d (suc k)) i
+pub partly-round : (d : Description) (k n i : ℕ) → n ≤ termCount d → i < n → at (partly d k n) i ≡ at (roundSets d (suc k)) i
 unfolding roundSets next
 partly-round d k n i h less = sym (worked-on d (equationSets d k) n (termCount d) i h less)
 
@@ -80,15 +80,20 @@ module _ (d : Description) (k n : ℕ) (older before this work : List ℕ) (r : 
   pub term-ascends : (i : ℕ) → ascending (at (partly d k n) i) ≡ at (partly d k n) i
   term-ascends i = worked-ascends d (equationSets d k) n i
 
-  -- An equation's body in the round before.
+  -- Any term in the round before.
+  pub before-part : (i : ℕ) → i < termCount d
+      → partBefore (half + total (partly d k n)) (0 + getD before i 0) (0 + getD before (suc i) 0) work ≡ map number (at (roundSets d k) i)
+  before-part i h =
+      part-before (half + total (partly d k n)) 0 (termCount d) (roundSets d k) before work (r .lower) (omega (arith, at-most (roundSets d k) (r .few))) i
+      (0 + getD before i 0) (0 + getD before (suc i) 0) h refl refl
+
+  pub before-packs : (i : ℕ) → AllPack (names d) (at (roundSets d k) i)
+  before-packs i = packed-sets (names d) (roundSets d k) i (r .few) (round-full d k i)
+
+  -- An equation's body there.
   pub body-part : (e : ℕ) → bodyAt d e < termCount d
-      → partBefore (half + total (partly d k n)) (getD before (bodyAt d e) 0) (getD before (suc (bodyAt d e)) 0) work ≡ map number (at (equationSets d k) e)
-  body-part e h =
-      part-before (half + total (partly d k n)) 0 (termCount d) (roundSets d k) before work (r .lower) (omega (arith, at-most (roundSets d k) (r .few))) (bodyAt d e)
-      (getD before (bodyAt d e) 0) (getD before (suc (bodyAt d e)) 0) h (omega arith) (omega arith)
-      ∙ ap (map number) (sym (at-body d (roundSets d k) (round-length d k) e))
+      → partBefore (half + total (partly d k n)) (0 + getD before (bodyAt d e) 0) (0 + getD before (suc (bodyAt d e)) 0) work ≡ map number (at (equationSets d k) e)
+  body-part e h = before-part (bodyAt d e) h ∙ ap (map number) (sym (at-body d (roundSets d k) (round-length d k) e))
 
   pub body-packs : (e : ℕ) → AllPack (names d) (at (equationSets d k) e)
-  body-packs e =
-      subst (AllPack (names d)) (sym (at-body d (roundSets d k) (round-length d k) e))
-      (packed-sets (names d) (roundSets d k) (bodyAt d e) (r .few) (round-full d k (bodyAt d e)))
+  body-packs e = subst (AllPack (names d)) (sym (at-body d (roundSets d k) (round-length d k) e)) (before-packs (bodyAt d e))

@@ -61,7 +61,7 @@ unfolding worked
 partly-more d k n = refl
 
 -- the sets worked out so far and the next have room in the upper half
-next-fits : (d : Description) (k n : ℕ) → (T (over (partly d k (suc n))) → ⊥) → total (partly d k n) + length (setOf d k n) ≤ 2048
+pub next-fits : (d : Description) (k n : ℕ) → (T (over (partly d k (suc n))) → ⊥) → total (partly d k n) + length (setOf d k n) ≤ 2048
 next-fits d k n h = let e = ap total (partly-more d k n) ∙ total-more (partly d k n) (setOf d k n) in let m = at-most (partly d k (suc n)) h in omega arith
 
 module _ (d : Description) (k n : ℕ) (older before this work work′ : List ℕ) (count : ℕ) (r : Ready d k n older before this work)

@@ -10,8 +10,8 @@ use native.Mathlib.Numerals.{add-one}
 use native.Mathlib.Omega.{arith}
 use native.Mathlib.Decide.{decLt}
 use lib.Dec.{T, eqb, eqb→eq, eqb-refl}
-use lib.ListN.{length, getD, take, drop, length-append, length-take, length-drop}
-use lib.Seq.{take-all, take-append-le, take-append-seam, drop-append-seam, drop-append-add, drop-drop, drop-at, take-at}
+use lib.ListN.{length, getD, take, drop, length-append, length-take, length-drop, drop-of-length-le}
+use lib.Seq.{drop-cons, take-all, take-append-le, take-append-seam, drop-append-seam, drop-append-add, drop-drop, drop-at, take-at}
 use Rattle.meaning.specs.Labels.{Label, number}
 use Rattle.meaning.specs.Sets.{at}
 use Rattle.meaning.specs.Descriptions.{Description, termCount, all}
@@ -94,3 +94,17 @@ lowered-kept count now work′ h l e =
           (subst (λ (m : ℕ). drop (m + (whole - count)) (take count (drop half now) ++ drop count now) ≡ drop whole now) size
           (drop-append-add (take count (drop half now)) (drop count now) (whole - count) ∙ drop-drop (whole - count) count now ∙ ap (λ (m : ℕ). drop m now) k));
     }
+
+-- The bodies looked at one after the other.
+module _ (older newer bodies : List ℕ) (i : ℕ) (h : i < length bodies) where
+  pub stay-fails : stays older newer (getD bodies i 0) ≡ false → allStay older newer (drop i bodies) ≡ false
+  unfolding allStay
+  stay-fails e = rw (drop-cons bodies i 0 h, e)
+
+  pub stay-goes : stays older newer (getD bodies i 0) ≡ true → allStay older newer (drop (i + 1) bodies) ≡ allStay older newer (drop i bodies)
+  unfolding allStay
+  stay-goes e = rw (add-one i, drop-cons bodies i 0 h, e)
+
+pub stay-ends : (older newer bodies : List ℕ) (i : ℕ) → length bodies ≤ i → allStay older newer (drop i bodies) ≡ true
+unfolding allStay
+stay-ends older newer bodies i h = rw (drop-of-length-le bodies h)

@@ -6,3 +6,4 @@ pub mod Working
 pub mod Steady
 pub mod Making
 pub mod Terms
+pub mod Passes

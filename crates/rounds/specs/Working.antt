@@ -13,6 +13,8 @@ use Rattle.meaning.specs.Descriptions.{Description, termCount, termAt, all}
 use Rattle.meaning.specs.Legal.{Legal}
 use Rattle.meaning.specs.Rounds.{shape, made, worked, equationSets, roundSets}
 use Rattle.meaning.specs.Limits.{total, over}
+use Rattle.sets.specs.declared.Built.{Built}
+use Rattle.sets.specs.declared.Built.the-variants.{TooLarge, Holds}
 use Rattle.rounds.specs.Laid.{Begins, Laid}
 
 -- the middle and the end of what is used of the work area
@@ -54,6 +56,11 @@ pub record TermDone (d : Description) (k n : ℕ) (work work′ : List ℕ) (cou
 pub record TermOver (d : Description) (k n : ℕ) (work work′ : List ℕ) : Type 0 where
   pub passed : T (over (partly d k (suc n)))
   pub kept : Kept work work′
+
+-- What working a term out comes to.
+abbrev pub Worked : Description → ℕ → ℕ → (work work′ : List ℕ) → Built → Type 0
+Worked d k n work work′ TooLarge = TermOver d k n work work′
+Worked d k n work work′ (Holds count) = TermDone d k n work work′ count
 
 -- A round worked out: its sets in the upper half; or a limit passed.
 pub record RoundDone (d : Description) (k : ℕ) (before this work work′ : List ℕ) : Type 0 where

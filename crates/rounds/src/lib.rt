@@ -4,5 +4,7 @@ mod cutting;
 mod exchanging;
 mod making;
 mod operators;
+mod passes;
+mod sameness;
 mod starts;
 mod terms;

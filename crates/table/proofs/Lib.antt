@@ -1,3 +1,4 @@
 -- Laws of the list store and of areas of words.
 pub mod Parts
 pub mod Zeroed
+pub mod Stored

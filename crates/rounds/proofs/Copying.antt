@@ -1,0 +1,205 @@
+-- A set copied from the round before: what is laid, and that it is the term's set where what that is built of stayed.
+-- Assumes nothing.
+use mathlib.Core.Path.{_≡_, refl, sym, ap, ap₂, subst, _∙_}
+use mathlib.Core.Logic.{_⊎_, inl, inr}
+use mathlib.Core.Bool.{Bool, true, false, _&&_}
+use mathlib.Core.List.{List, [], _∷_, _++_, map}
+use Prim.Native.Nat.{ℕ, zero, suc, _+_, _-_, _≤_, _<_, zero-le}
+use native.Mathlib.Nat.{le-refl}
+use native.Mathlib.Omega.{arith}
+use borrow.Author.Tests.{le-leb, lt-leb}
+use lib.Dec.{T, eqb→eq}
+use lib.ListN.{length, getD, take, drop, drop-of-length-le, length-take}
+use lib.Seq.{take-take, paste-zero, length-slice}
+use Rattle.meaning.specs.Labels.{Label, number}
+use Rattle.meaning.specs.Sets.{at, ascending, spread, product}
+use Rattle.meaning.specs.Descriptions.{Description, Order, all, Term, act, tau, delta, ref, sum, cond, choice, ifelse, seq, merge, lmerge, sync, wrap, Operator, names, termCount, equations, termAt, bodyAt}
+use Rattle.meaning.specs.Legal.{Each, LegalTerm, Legal}
+use Rattle.meaning.specs.Rounds.{Shape, leaf, reference, one, either, both, joint, through, shape, made, next, roundSets, equationSets}
+use Rattle.meaning.specs.Limits.{total}
+use Rattle.meaning.proofs.Tests.{and-left, and-right}
+use Rattle.meaning.proofs.Carried.{worked-last}
+use Rattle.meaning.proofs.Growth.{round-length, at-body}
+use Rattle.meaning.proofs.Least.{term-legal}
+use Rattle.meaning.proofs.Outcomes.{Same, SameFor, made-same}
+use Rattle.table.specs.Encoded.{termFor, tableOf}
+use Rattle.table.proofs.Stored.{body-of}
+use Rattle.sets.specs.declared.Built.{Built}
+use Rattle.sets.specs.declared.Built.the-variants.{TooLarge, Holds}
+use Rattle.sets.specs.Parts.{partBefore, roomAt, laid}
+use Rattle.sets.specs.Building.{Building, Grown, pickBuilt}
+use Rattle.rounds.specs.Laid.{Begins}
+use Rattle.rounds.specs.Steady.{sizeAt, stays}
+use Rattle.rounds.specs.Working.{half, whole, partly, setOf, Ready, Worked}
+use Rattle.rounds.specs.Terms.{Low, partIn, placeIn, leftIn, fitted, copyBuilt, unchanged}
+use Rattle.rounds.proofs.Areas.{part-taken}
+use Rattle.rounds.proofs.Turning.{same-size}
+use Rattle.rounds.proofs.Staying.{size-is, stays→}
+use Rattle.rounds.proofs.Operands.{partly-round, worked-on, before-part, before-packs}
+use Rattle.rounds.proofs.Settling.{placeOf, leftOf}
+use Rattle.rounds.proofs.Dispatch.{starts-here, each-below}
+use Rattle.rounds.proofs.Arms.{copy-arm}
+
+-- The part copied, in words.
+module _ (room place : ℕ) (s work work′ : List ℕ) where
+  pub copy-holds : (count : ℕ) → length s ≡ count → count ≤ room → work′ ≡ take place work ++ s ++ drop (place + count) work
+      → Grown (copyBuilt room s) place 0 work work′ (Holds count)
+  unfolding laid
+  copy-holds count e h w =
+      record {
+        answer = rw (le-leb (length s) room (omega arith)) (ap Holds (sym e));
+        words = rw (le-leb (length s) room (omega arith)) (w ∙ ap (λ (m : ℕ). take place work ++ s ++ drop (place + m) work) (sym e));
+      }
+
+  pub copy-large : room < length s → Grown (copyBuilt room s) place 0 work work TooLarge
+  unfolding laid
+  copy-large h =
+      record {
+        answer = rw (lt-leb (length s) room h);
+        words = rw (lt-leb (length s) room h) (paste-zero work place []);
+      }
+
+module _ (place from end : ℕ) (work : List ℕ) (low : end ≤ place) (fits : place ≤ length work) where
+  pub copied-length : length (partBefore place (0 + from) (0 + end) work) ≡ end - from
+  copied-length =
+      let e : 0 + end ≡ end = omega arith in
+      let f : 0 + from ≡ from = omega arith in
+      rw (e, f) (ap (λ (l : List ℕ). length (drop from l)) (take-take end place work low) ∙ length-slice from end work (omega arith))
+
+  pub copied-words : from ≤ end → take (end - from) (drop from work) ≡ partBefore place (0 + from) (0 + end) work
+  copied-words h =
+      let e : 0 + end ≡ from + (end - from) = omega arith in
+      let f : 0 + from ≡ from = omega arith in
+      let g : from + (end - from) ≤ place = omega arith in
+      rw (e, f) (sym (ap (drop from) (take-take (from + (end - from)) place work g) ∙ part-taken work from (end - from)))
+
+within-room : (place most end given count : ℕ) → given ≡ roomAt place most end → place ≤ end → count ≤ given → place + count ≤ end
+within-room place most end given count g h k = omega arith
+
+-- The code's steps: an empty part, one without room, one that is carried up.
+module _ (n : ℕ) (before this work : List ℕ) (pre : Low before × Low this × (whole ≤ length work)) (place most from end : ℕ)
+    (a : place ≡ placeIn this n) (b : most ≡ leftIn this n) (c : from ≡ getD before n 0) (e : end ≡ getD before (suc n) 0) where
+  abbrev Copied : List ℕ → Built → Type 0
+  Copied work′ r =
+      Grown (copyBuilt (roomAt (placeIn this n) (leftIn this n) (length work)) (partIn (placeIn this n) 0 before n work)) (placeIn this n) 0 work work′ r
+
+  low : getD before (suc n) 0 ≤ placeIn this n
+  low = omega (arith, pre .0 (suc n))
+
+  fits : placeIn this n ≤ length work
+  fits = omega (arith, pre .1 n, pre .2)
+
+  size : length (partIn (placeIn this n) 0 before n work) ≡ getD before (suc n) 0 - getD before n 0
+  size = copied-length (placeIn this n) (getD before n 0) (getD before (suc n) 0) work low fits
+
+  pub none-copied : end ≤ from → Copied work (Holds 0)
+  none-copied h =
+      let s : length (partIn (placeIn this n) 0 before n work) ≡ 0 = omega (arith, size) in
+      copy-holds (roomAt (placeIn this n) (leftIn this n) (length work)) (placeIn this n) (partIn (placeIn this n) 0 before n work) work work 0 s zero-le
+      (paste-zero work (placeIn this n) [] ∙ ap (λ (l : List ℕ). take (placeIn this n) work ++ l ++ drop (placeIn this n + 0) work) (sym (none (partIn (placeIn this n) 0 before n work) s)))
+    where
+      none : (l : List ℕ) → length l ≡ 0 → l ≡ []
+      none [] e = refl
+      none (x ∷ l) e = absurd (omega arith)
+
+  module _ (given : ℕ) (g : given ≡ roomAt place most (length work)) where
+    is-room : given ≡ roomAt (placeIn this n) (leftIn this n) (length work)
+    is-room = g ∙ ap₂ (λ (x y : ℕ). roomAt x y (length work)) a b
+
+    pub large-copied : given < end - from → Copied work TooLarge
+    large-copied h =
+        copy-large (roomAt (placeIn this n) (leftIn this n) (length work)) (placeIn this n) (partIn (placeIn this n) 0 before n work) work work
+        (subst (λ (x : ℕ). x < length (partIn (placeIn this n) 0 before n work)) is-room (subst (λ (x : ℕ). given < x) (ap₂ (λ (x y : ℕ). y - x) c e ∙ sym size) h))
+
+    pub carry-fits : from < end → end - from ≤ given → ((from + (end - from) ≤ place) ⊎ (place + (end - from) ≤ from)) × (from + (end - from) ≤ length work) × (place + (end - from) ≤ length work)
+    carry-fits l h = (inl (omega (arith, low)), omega (arith, low, fits), within-room place most (length work) given (end - from) g (omega (arith, fits)) h)
+
+    pub part-copied : (work′ : List ℕ) → from < end → end - from ≤ given → work′ ≡ take place work ++ take (end - from) (drop from work) ++ drop (place + (end - from)) work
+        → Copied work′ (Holds (end - from))
+    part-copied work′ l h w =
+        let u : end - from ≡ getD before (suc n) 0 - getD before n 0 = omega arith in
+        copy-holds (roomAt (placeIn this n) (leftIn this n) (length work)) (placeIn this n) (partIn (placeIn this n) 0 before n work) work work′ (end - from)
+        (omega (arith, size)) (omega (arith, is-room))
+        (w ∙ ap (λ (x : ℕ). take x work ++ take (end - from) (drop from work) ++ drop (x + (end - from)) work) a
+        ∙ ap (λ (x : List ℕ). take (placeIn this n) work ++ x ++ drop (placeIn this n + (end - from)) work)
+        (ap₂ (λ (x y : ℕ). take (y - x) (drop x work)) c e ∙ copied-words (placeIn this n) (getD before n 0) (getD before (suc n) 0) work low fits (omega arith)))
+
+-- A shape that is built of other sets makes nothing of nothing.
+abbrev IsBuilt : Shape → Type 0
+IsBuilt (leaf s) = ⊥
+IsBuilt (reference e) = Unit {0}
+IsBuilt (one t) = Unit {0}
+IsBuilt (either t u) = Unit {0}
+IsBuilt (both t u) = Unit {0}
+IsBuilt (joint t u) = Unit {0}
+IsBuilt (through f t) = Unit {0}
+
+made-nothing : (s : Shape) → IsBuilt s → made [] [] s ≡ []
+unfolding spread product
+made-nothing (leaf s) h = absurd h
+made-nothing (reference e) h = refl
+made-nothing (one t) h = refl
+made-nothing (either t u) h = refl
+made-nothing (both t u) h = refl
+made-nothing (joint t u) h = refl
+made-nothing (through f t) h = refl
+
+module _ (d : Description) (k n : ℕ) (older before this work : List ℕ) (r : Ready d k n older before this work) (more : n < termCount d) where
+  operand-stays : (t : ℕ) → t < n → T (stays before this t) → at (partly d k n) t ≡ at (roundSets d k) t
+  operand-stays t h s =
+      let now : at (partly d k n) t ≡ at (roundSets d (suc k)) t = partly-round d k n t (omega arith) h in
+      now ∙ same-size d k t
+      (ap length (sym now) ∙ sym (size-is n (partly d k n) this (r .upper .begins) t h) ∙ eqb→eq (sizeAt this t) (sizeAt before t) s
+      ∙ size-is (termCount d) (roundSets d k) before (r .lower .begins) t (omega arith))
+
+  -- what holds of the sets that a term looks at holds of its shape
+  module _ (eqs eqs′ sets sets′ : List (List Label)) (bodies : (e : ℕ) → e < equations d → T (stays older before (bodyAt d e)) → Same eqs eqs′ e)
+      (operands : (t : ℕ) → t < n → T (stays before this t) → Same sets sets′ t) where
+    two : (t u : ℕ) → t < n → u < n → T (stays before this t && stays before this u) → Same sets sets′ t × Same sets sets′ u
+    two t u h j s =
+        (operands t h (and-left (stays before this t) (stays before this u) s), operands u j (and-right (stays before this t) (stays before this u) s))
+
+    same-for : (t : Term) → LegalTerm d n t → T (unchanged (tableOf d .bodies) older before this (termFor n t)) → IsBuilt (shape d t) × SameFor eqs eqs′ sets sets′ (shape d t)
+    same-for (act a) l s = absurd s
+    same-for tau l s = absurd s
+    same-for delta l s = absurd s
+    same-for (ref e) l s = (tt, bodies e l (subst (λ (b : ℕ). T (stays older before b)) (body-of d e l (r .legal .equationCount)) s))
+    same-for (sum t) l s = (tt, operands t l s)
+    same-for (cond t) l s = (tt, operands t l s)
+    same-for (choice t u) l s = (tt, two t u (l .0) (l .1) s)
+    same-for (ifelse t u) l s = (tt, two t u (l .0) (l .1) s)
+    same-for (seq t u) l s = (tt, two t u (l .0) (l .1) s)
+    same-for (merge t u) l s = (tt, two t u (l .0) (l .1) s)
+    same-for (lmerge t u) l s = (tt, two t u (l .0) (l .1) s)
+    same-for (sync t u) l s = (tt, two t u (l .0 .0) (l .0 .1) s)
+    same-for (wrap op t) l s = (tt, operands t (l .0) s)
+
+-- The set of a term whose operands and bodies stayed is that of the round before.
+abbrev stayed : Description → ℕ → (older before this : List ℕ) → Type 0
+stayed d n older before this = T (unchanged (tableOf d .bodies) older before this (termFor n (termAt d n)))
+
+set-stays : (d : Description) (k n : ℕ) (older before this work : List ℕ) → Ready d k n older before this work → n < termCount d → stayed d n older before this
+    → setOf d k n ≡ at (roundSets d k) n
+unfolding ascending roundSets next
+set-stays d zero n older before this work r more s =
+    let x = same-for d 0 n older before this work r more (equationSets d 0) [] (partly d 0 n) [] (λ e h b. at-body d (roundSets d 0) (round-length d 0) e)
+    (λ t h b. operand-stays d 0 n older before this work r more t h b) (termAt d n) (term-legal d all (r .legal) n) s in
+    ap ascending (made-same (equationSets d 0) [] (partly d 0 n) [] (shape d (termAt d n)) (x .1) ∙ made-nothing (shape d (termAt d n)) (x .0))
+set-stays d (suc j) n older before this work r more s =
+    let x = same-for d (suc j) n older before this work r more (equationSets d (suc j)) (equationSets d j) (partly d (suc j) n) (partly d j n)
+    (λ e h b.
+    at-body d (roundSets d (suc j)) (round-length d (suc j)) e
+    ∙ stays→ d j older before (r .old) (r .lower .begins) (bodyAt d e) (each-below (termCount d) (d .bodies) (r .legal .bodies) e (termCount d) h) b
+    ∙ sym (at-body d (roundSets d j) (round-length d j) e))
+    (λ t h b. operand-stays d (suc j) n older before this work r more t h b ∙ sym (partly-round d j n t (omega arith) h)) (termAt d n) (term-legal d all (r .legal) n) s in
+    ap ascending (made-same (equationSets d (suc j)) (equationSets d j) (partly d (suc j) n) (partly d j n) (shape d (termAt d n)) (x .1))
+    ∙ sym (worked-on d (equationSets d j) (suc n) (termCount d) n more (le-refl (suc n)) ∙ worked-last d (equationSets d j) n)
+
+pub copy-worked : (d : Description) (k n : ℕ) (older before this work work′ : List ℕ) (r : Built) → Ready d k n older before this work → n < termCount d → stayed d n older before this
+    → Grown (copyBuilt (roomAt (placeIn this n) (leftIn this n) (length work)) (partIn (placeIn this n) 0 before n work)) (placeIn this n) 0 work work′ r
+    → Worked d k n work work′ r
+copy-worked d k n older before this work work′ r ready more s g =
+    copy-arm d k n older before this work work′ r ready more (at (roundSets d k) n) (set-stays d k n older before this work ready more s) (before-packs d k n older before this work ready n)
+    (subst (λ (ws : List ℕ). Grown (copyBuilt (roomAt (placeOf d k n) (leftOf d k n) (length work)) ws) (placeOf d k n) 0 work work′ r) (before-part d k n older before this work ready n more)
+    (subst (λ (x : ℕ). Grown (copyBuilt (roomAt (half + x) (half - x) (length work)) (partIn (half + x) 0 before n work)) (half + x) 0 work work′ r)
+    (starts-here d k n older before this work ready) g))

@@ -1,0 +1,46 @@
+-- `rounds::passes::next_term` meets its contract
+-- Assumes nothing.
+use mathlib.Core.Path.{_≡_, sym, ap, subst, _∙_}
+use lib.Dec.{T}
+use Rattle.rounds.proofs.Progress.{turn-copied, turn-worked}
+use borrow.Author.Needs.{needs}
+use Rattle.rounds.proofs.passes.next_term.Statement.{statement}
+use Rattle.rounds.proofs.passes.next_term.Tie as tie
+use Rattle.rounds.proofs.passes.next_term.Reads as reads
+use Rattle.rounds.proofs.passes.next_term.Lts as lts
+use Rattle.rounds.proofs.passes.copied.Reads as copied-reads
+use Rattle.rounds.proofs.sameness.unchanged.Reads as unchanged-reads
+use Rattle.rounds.proofs.terms.work_out.Reads as work-out-reads
+
+unchanged-requires : tie.Need-unchanged-requires
+unchanged-requires c κs = search needs
+
+copied-requires : tie.Need-copied-requires
+copied-requires c κs = search needs
+
+same-length : tie.Need-same-length
+same-length c = search needs
+
+returns : tie.Need-returns
+returns c = turn-copied (c .before .before .before .before .before .before .before .before .before .before .before .before .args .term) (c .before .before .before .before .before .before .before .before .before .before .before .before .args .store .now) (c .before .before .before .before .before .before .before .before .before .before .before .before .args .bodies .now) (c .before .before .before .before .before .before .before .before .before .before .before .before .args .n) (c .before .before .before .before .before .before .before .before .before .before .before .before .args .older .now) (c .before .before .before .before .before .before .before .before .before .before .before .before .args .before .now) (c .before .before .before .before .before .before .before .before .before .before .before .before .args .this .now) (c .before .before .before .before .before .before .before .before .before .before .before .before .args .work .now) _ _ (sym (c .before .before .before .before .before .unchanged .ensures) ∙ c .before .before .before .before .if1 .taken) (c .before .before .copied .ensures)
+
+work-out-requires : tie.Need-work-out-requires
+work-out-requires c κs = search needs
+
+same-length-2 : tie.Need-same-length-2
+same-length-2 c = search needs
+
+returns-2 : tie.Need-returns-2
+returns-2 c = turn-worked (c .before .before .before .before .before .before .before .before .before .before .before .before .args .term) (c .before .before .before .before .before .before .before .before .before .before .before .before .args .store .now) (c .before .before .before .before .before .before .before .before .before .before .before .before .args .bodies .now) (c .before .before .before .before .before .before .before .before .before .before .before .before .args .n) (c .before .before .before .before .before .before .before .before .before .before .before .before .args .older .now) (c .before .before .before .before .before .before .before .before .before .before .before .before .args .before .now) (c .before .before .before .before .before .before .before .before .before .before .before .before .args .this .now) (c .before .before .before .before .before .before .before .before .before .before .before .before .args .work .now) _ _ (c .before .before .work-out .ensures)
+
+pub next-term-spec : {M : Type 1} → statement M
+next-term-spec =
+    tie.close
+    (tie.spec
+    unchanged-requires
+    copied-requires
+    same-length
+    returns
+    work-out-requires
+    same-length-2
+    returns-2)

@@ -1,0 +1,20 @@
+-- `rounds::sameness::stays` meets its contract
+-- Assumes nothing.
+use borrow.Author.Needs.{needs}
+use Rattle.rounds.proofs.sameness.stays.Statement.{statement}
+use Rattle.rounds.proofs.sameness.stays.Tie as tie
+use Rattle.rounds.proofs.sameness.stays.Reads as reads
+use Rattle.rounds.proofs.sameness.stays.Lts as lts
+use Rattle.rounds.proofs.sameness.size_at.Reads as size-at-reads
+
+size-at-requires : tie.Need-size-at-requires
+size-at-requires c κs = search needs
+
+size-at-requires-2 : tie.Need-size-at-requires-2
+size-at-requires-2 c κs = search needs
+
+returns : tie.Need-returns
+returns c = rw (c .before .size-at .ensures, c .size-at2 .ensures)
+
+pub stays-spec : {M : Type 1} → statement M
+stays-spec = tie.close (tie.spec size-at-requires size-at-requires-2 returns)

@@ -1,0 +1,105 @@
+// One round: the terms' sets, one after the other.
+use crate::clearing::carry;
+use crate::sameness::unchanged;
+use crate::starts::end_of;
+use crate::starts::left_of;
+use crate::starts::place_of;
+use crate::starts::start_of;
+use crate::terms::work_out;
+use sets::Built;
+use sets::placing::room;
+use table::Slot;
+use table::Table;
+use table::Term;
+ghost use mathlib.Core.Path.{_≡_};
+ghost use Prim.Native.Nat.{_≤_};
+ghost use lib.ListN.{length};
+ghost use Rattle.sets.specs.Parts.{roomAt};
+ghost use Rattle.sets.specs.Building.{Grown};
+ghost use Rattle.rounds.specs.Terms.{Low, partIn, placeIn, leftIn, copyBuilt};
+ghost use Rattle.rounds.specs.Passes.{TermWorked, Passed};
+
+// Where the sets of a round begin, and whether they pass no limit.
+pub struct Round {
+    pub fits: bool,
+    pub starts: [usize; 97],
+}
+
+// The set of a term as it was in the round before.
+fn copied(n: usize, before: &[usize], this: &[usize], work: &mut [u64]) -> Built
+    requires { ⌜ Low (now before) × Low (now this) × (4096 ≤ length (now work)) ⌝ }
+    ensures { λ r. ⌜ Grown (copyBuilt (roomAt (placeIn (now (this .entry)) n) (leftIn (now (this .entry)) n) (length (now (work .entry)))) (partIn (placeIn (now (this .entry)) n) 0 (now (before .entry)) n (now (work .entry)))) (placeIn (now (this .entry)) n) 0 (now (work .entry)) (now (work .exit)) r ⌝ }
+{
+    let at = place_of(this, n);
+    let most = left_of(this, n);
+    let from = start_of(before, n);
+    let end = end_of(before, n);
+    if end <= from {
+        return Built::Holds(0);
+    }
+    let count = end - from;
+    if room(work, at, most) < count {
+        return Built::TooLarge;
+    }
+    carry(work, from, at, count);
+    Built::Holds(count)
+}
+
+// A term's set, copied where what it is built of stayed.
+fn next_term(
+    term: Term,
+    store: &[u64],
+    bodies: &[usize],
+    n: usize,
+    older: &[usize],
+    before: &[usize],
+    this: &[usize],
+    work: &mut [u64],
+) -> Built
+    requires { ⌜ Low (now before) × Low (now this) × (4096 ≤ length (now work)) ⌝ }
+    ensures { λ r. ⌜ TermWorked term (now (store .entry)) (now (bodies .entry)) n (now (older .entry)) (now (before .entry)) (now (this .entry)) (now (work .entry)) (now (work .exit)) r ⌝ }
+{
+    if unchanged(term, bodies, older, before, this) {
+        return copied(n, before, this, work);
+    }
+    work_out(term, store, bodies, n, before, this, work)
+}
+
+// A round after the one whose sets begin at `before`.
+pub fn pass(
+    table: Table,
+    store: &[u64],
+    older: &[usize],
+    before: &[usize],
+    work: &mut [u64],
+) -> Round
+    requires { ⌜ Low (now before) × (4096 ≤ length (now work)) × (table .terms ≤ 96) ⌝ }
+    ensures { λ r. ⌜ Passed table (now (store .entry)) (now (older .entry)) (now (before .entry)) (now (work .entry)) (now (work .exit)) r ⌝ }
+{
+    let bodies = table.bodies;
+    let mut this = [0usize; 97];
+    let mut n = 0;
+    while n < table.terms {
+        let slot = table.slots[n];
+        let term = slot.term;
+        let built = next_term(term, store, &bodies, n, older, before, &this, work);
+        let Built::Holds(count) = built else {
+            return Round {
+                fits: false,
+                starts: this,
+            };
+        };
+        if left_of(&this, n) < count {
+            return Round {
+                fits: false,
+                starts: this,
+            };
+        }
+        this[n + 1] = this[n] + count;
+        n += 1;
+    }
+    Round {
+        fits: true,
+        starts: this,
+    }
+}

@@ -1,0 +1,125 @@
+-- What stands where in the table and the list store of a description.
+-- Assumes nothing.
+use mathlib.Core.Path.{_≡_, refl, sym, ap, ap₂, subst, _∙_}
+use mathlib.Core.List.{List, [], _∷_, _++_, map}
+use Prim.Native.Nat.{ℕ, zero, suc, _+_, _-_, _*_, _≤_, _<_, zero-le}
+use native.Mathlib.Nat.{sub-zero, zero-sub, suc-sub-suc}
+use native.Mathlib.Omega.{arith}
+use lib.ListN.{length, getD, take, drop, length-append, length-drop}
+use lib.Seq.{drop-cons, drop-nil, take-append-le, drop-append-le, drop-append-add, drop-at, drop-drop}
+use Rattle.table.specs.declared.Place.{Place}
+use Rattle.table.specs.declared.Slot.{Slot}
+use Rattle.table.specs.declared.Term.the-variants.{Delta}
+use Rattle.table.specs.Decoded.{wordsAt}
+use Rattle.table.specs.Encoded.{filled, termWords, orderWords, termsWords, storeOf, termFor, slotsFrom, tableOf}
+use Rattle.meaning.specs.Descriptions as D
+
+-- The first so many of a list, filled.
+pub length-filled : {A : Type 0} (n : ℕ) (x : A) (xs : List A) → length (filled n x xs) ≡ n
+unfolding filled
+length-filled zero x xs = refl
+length-filled (suc n) x [] = ap suc (length-filled n x [])
+length-filled (suc n) x (y ∷ ys) = ap suc (length-filled n x ys)
+
+take-filled : {A : Type 0} (m n : ℕ) (x : A) (xs : List A) → m ≤ n → take m (filled n x xs) ≡ filled m x xs
+unfolding filled
+take-filled zero n x xs h = refl
+take-filled (suc m) zero x xs h = absurd (omega arith)
+take-filled (suc m) (suc n) x [] h = ap (λ (l : List _). x ∷ l) (take-filled m n x [] (omega arith))
+take-filled (suc m) (suc n) x (y ∷ ys) h = ap (λ (l : List _). y ∷ l) (take-filled m n x ys (omega arith))
+
+drop-filled : {A : Type 0} (m n : ℕ) (x : A) (xs : List A) → drop m (filled n x xs) ≡ filled (n - m) x (drop m xs)
+unfolding filled
+drop-filled zero n x xs = rw (sub-zero n)
+drop-filled (suc m) zero x xs = rw (zero-sub (suc m))
+drop-filled (suc m) (suc n) x [] = rw (suc-sub-suc n m) (drop-filled m n x [] ∙ ap (filled (n - m) x) (drop-nil m))
+drop-filled (suc m) (suc n) x (y ∷ ys) = rw (suc-sub-suc n m) (drop-filled m n x ys)
+
+filled-whole : {A : Type 0} (x : A) (xs : List A) → filled (length xs) x xs ≡ xs
+unfolding filled
+filled-whole x [] = refl
+filled-whole x (y ∷ ys) = ap (λ (l : List _). y ∷ l) (filled-whole x ys)
+
+filled-taken : {A : Type 0} (n : ℕ) (x : A) (xs : List A) → n ≤ length xs → filled n x xs ≡ take n xs
+unfolding filled
+filled-taken zero x xs h = refl
+filled-taken (suc n) x [] h = absurd (omega arith)
+filled-taken (suc n) x (y ∷ ys) h = ap (λ (l : List _). y ∷ l) (filled-taken n x ys (omega arith))
+
+pub getD-filled : {A : Type 0} (n : ℕ) (x z : A) (xs : List A) (i : ℕ) → i < n → i < length xs → getD (filled n x xs) i z ≡ getD xs i z
+unfolding filled
+getD-filled zero x z xs i h k = absurd (omega arith)
+getD-filled (suc n) x z [] i h k = absurd (omega arith)
+getD-filled (suc n) x z (y ∷ ys) zero h k = refl
+getD-filled (suc n) x z (y ∷ ys) (suc i) h k = getD-filled n x z ys i (omega arith) (omega arith)
+
+-- The list of a term: 32 words for each term before it.
+drop-terms : (n : ℕ) (ts : List D.Term) → drop (32 * n) (termsWords ts) ≡ termsWords (drop n ts)
+unfolding termsWords
+drop-terms zero ts = refl
+drop-terms (suc n) [] = drop-nil (32 * suc n)
+drop-terms (suc n) (t ∷ ts) =
+    let e : 32 * suc n ≡ length (filled 32 0 (termWords t)) + 32 * n = omega (arith, length-filled 32 0 (termWords t)) in
+    rw e (drop-append-add (filled 32 0 (termWords t)) (termsWords ts) (32 * n) ∙ drop-terms n ts)
+
+-- a list of so many words, taken from its 32
+first-whole : (count : ℕ) (ws : List ℕ) → length ws ≡ count → count ≤ 32 → take count (filled 32 0 ws) ≡ ws
+first-whole count ws e small = take-filled count 32 0 ws small ∙ ap (λ (m : ℕ). filled m 0 ws) (sym e) ∙ filled-whole 0 ws
+
+module _ (d : D.Description) (o : D.Order) where
+  pub term-words : (n count : ℕ) → n < D.termCount d → D.termCount d ≤ 96 → length (termWords (D.termAt d n)) ≡ count → count ≤ 32
+      → take count (drop (32 * n) (storeOf d o)) ≡ termWords (D.termAt d n)
+  unfolding storeOf termsWords
+  term-words n count h few e small =
+      let all = filled 3072 0 (termsWords (d .terms)) in
+      let long = length-filled 3072 0 (termsWords (d .terms)) in
+      let ws = termWords (D.termAt d n) in
+      let inside = length-drop (32 * n) all in
+      ap (take count) (drop-append-le (32 * n) all (filled 32 0 (orderWords o)) (omega arith))
+      ∙ take-append-le count (drop (32 * n) all) (filled 32 0 (orderWords o)) (omega arith)
+      ∙ ap (take count) (drop-filled (32 * n) 3072 0 (termsWords (d .terms)) ∙ ap (filled (3072 - 32 * n) 0) (drop-terms n (d .terms) ∙ ap termsWords (drop-cons (d .terms) n D.delta h)))
+      ∙ take-filled count (3072 - 32 * n) 0 (filled 32 0 ws ++ termsWords (drop (suc n) (d .terms))) (omega arith)
+      ∙ filled-taken count 0 (filled 32 0 ws ++ termsWords (drop (suc n) (d .terms))) (omega (arith, length-filled 32 0 ws, length-append (filled 32 0 ws) (termsWords (drop (suc n) (d .terms)))))
+      ∙ take-append-le count (filled 32 0 ws) (termsWords (drop (suc n) (d .terms))) (omega (arith, length-filled 32 0 ws))
+      ∙ first-whole count ws e small
+
+  pub order-words : (count : ℕ) → length (orderWords o) ≡ count → count ≤ 32 → take count (drop 3072 (storeOf d o)) ≡ orderWords o
+  unfolding storeOf
+  order-words count e small =
+      ap (take count) (drop-at (filled 3072 0 (termsWords (d .terms))) (filled 32 0 (orderWords o)) 3072 (length-filled 3072 0 (termsWords (d .terms))))
+      ∙ first-whole count (orderWords o) e small
+
+-- The slot of a term, and the body of an equation.
+slot-from : (k i : ℕ) (ts : List D.Term) → i < length ts → getD (slotsFrom k ts) i (record { term = Delta }) ≡ record { term = termFor (k + i) (getD ts i D.delta) }
+unfolding slotsFrom
+slot-from k i [] h = absurd (omega arith)
+slot-from k zero (t ∷ ts) h = let e : k + 0 ≡ k = omega arith in ap (λ (m : ℕ). record { term = termFor m t }) (sym e)
+slot-from k (suc i) (t ∷ ts) h =
+    let e : suc k + i ≡ k + suc i = omega arith in
+    slot-from (suc k) i ts (omega arith) ∙ ap (λ (m : ℕ). record { term = termFor m (getD ts i D.delta) }) e
+
+pub slot-of : (d : D.Description) (n : ℕ) → n < D.termCount d → D.termCount d ≤ 96 → getD (tableOf d .slots) n (record { term = Delta }) ≡ record { term = termFor n (D.termAt d n) }
+unfolding tableOf slotsFrom
+slot-of d n h few =
+    let e : 0 + n ≡ n = omega arith in
+    getD-filled 96 (record { term = Delta }) (record { term = Delta }) (slotsFrom 0 (d .terms)) n (omega arith) (slots-more n 0 (d .terms) h)
+    ∙ slot-from 0 n (d .terms) h ∙ ap (λ (m : ℕ). record { term = termFor m (D.termAt d n) }) e
+  where
+    slots-more : (i k : ℕ) (ts : List D.Term) → i < length ts → i < length (slotsFrom k ts)
+    slots-more i k [] h = absurd (omega arith)
+    slots-more zero k (t ∷ ts) h = omega arith
+    slots-more (suc i) k (t ∷ ts) h = let ih = slots-more i (suc k) ts (omega arith) in omega arith
+
+pub body-of : (d : D.Description) (e : ℕ) → e < D.equations d → D.equations d ≤ 16 → getD (tableOf d .bodies) e 0 ≡ D.bodyAt d e
+unfolding tableOf
+body-of d e h few = getD-filled 16 0 0 (d .bodies) e (omega arith) h ∙ same-default (d .bodies) e h
+  where
+    same-default : (l : List ℕ) (i : ℕ) → i < length l → getD l i 0 ≡ getD l i (D.termCount d)
+    same-default [] i h = absurd (omega arith)
+    same-default (x ∷ l) zero h = refl
+    same-default (x ∷ l) (suc i) h = same-default l i (omega arith)
+
+-- the bodies of all equations
+pub bodies-of : (d : D.Description) → D.equations d ≤ 16 → take (D.equations d) (tableOf d .bodies) ≡ d .bodies
+unfolding tableOf
+bodies-of d few = take-filled (D.equations d) 16 0 (d .bodies) few ∙ filled-whole 0 (d .bodies)
