@@ -18,3 +18,5 @@ pub mod Stores
 pub mod Dispatch
 pub mod Copying
 pub mod Progress
+pub mod Rounding
+pub mod Listings

@@ -41,7 +41,7 @@ some-long [] i t = absurd t
 some-long (s ∷ sets) zero t = over-one s sets (inl t)
 some-long (s ∷ sets) (suc i) t = over-one s sets (inr (inr (some-long sets i t)))
 
-packed-sets : (n : ℕ) (sets : List (List Label)) (i : ℕ) → (T (over sets) → ⊥) → Full n (at sets i) → AllPack n (at sets i)
+pub packed-sets : (n : ℕ) (sets : List (List Label)) (i : ℕ) → (T (over sets) → ⊥) → Full n (at sets i) → AllPack n (at sets i)
 packed-sets n sets i few full a m = record {
   wide = full a m;
   few = elim (decLt 31 (size a)) [ yes l ↦ absurd (few (over-some sets (some-long sets i (long (at sets i) a m l)))) | no l ↦ (omega arith) ];

@@ -90,6 +90,7 @@ module _ (table : Table) (store older before work₀ : List ℕ) where
     unfolding tableOf
     progress-end h =
         record {
+          size = p .size;
           low = p .low;
           right = λ d o k e f b.
               let x = p .right d o k e f b in
@@ -116,6 +117,7 @@ module _ (table : Table) (store older before work₀ : List ℕ) where
     pub progress-large : (work′ : List ℕ) → n < table .terms → Found work′ TooLarge → Passed table store older before work₀ work′ (record { fits = false; starts = this })
     progress-large work′ more w =
         record {
+          size = p .size;
           low = p .low;
           right = λ d o k e f b.
               round-over d k n work₀ work work′ (term-there d e more .0) (p .right d o k e f b .1) (done work′ TooLarge w more d o k e f b);
@@ -131,7 +133,7 @@ module _ (table : Table) (store older before work₀ : List ℕ) where
     pub progress-over : (work′ : List ℕ) (count : ℕ) → n < table .terms → Found work′ (Holds count) → half - getD this n 0 < count
         → Passed table store older before work₀ work′ (record { fits = false; starts = this })
     progress-over work′ count more w h =
-        record { low = p .low; right = λ d o k e f b. absurd (let c = counted work′ count more w d o k e f b in omega arith) }
+        record { size = p .size; low = p .low; right = λ d o k e f b. absurd (let c = counted work′ count more w d o k e f b in omega arith) }
 
     pub progress-step : (work′ : List ℕ) (count : ℕ) → n < table .terms → Found work′ (Holds count) → count ≤ half - getD this n 0 → length work′ ≡ length work
         → Progress table store older before work₀ work′ (set this (n + 1) (getD this n 0 + count)) (n + 1)

@@ -25,7 +25,7 @@ use Rattle.rounds.specs.Working.{half, whole, partly, setOf, Ready, Kept
 use Rattle.rounds.proofs.Areas.{length-flat, total-take}
 use Rattle.rounds.proofs.Passing.{kept-trans, at-most}
 
-none-over : T (over []) → ⊥
+pub none-over : T (over []) → ⊥
 unfolding over someOver total
 none-over t = t
 

@@ -7,3 +7,4 @@ pub mod Steady
 pub mod Making
 pub mod Terms
 pub mod Passes
+pub mod Alphabets

@@ -26,6 +26,7 @@ RoundEnds true d k before starts work work′ = RoundDone d k before starts work
 RoundEnds false d k before starts work work′ = RoundOver d k work work′
 
 pub record Passed (table : Table) (store older before work work′ : List ℕ) (r : Round) : Type 0 where
+  pub size : length (r .starts) ≡ 97
   pub low : Low (r .starts)
   pub right : (d : D.Description) (o : D.Order) (k : ℕ) → table ≡ tableOf d → store ≡ storeOf d o → Between d k older before work
       → RoundEnds (r .fits) d k before (r .starts) work work′

@@ -1,0 +1,94 @@
+-- `rounds::listing` meets its contract: what the rounds came to, in the answer area.
+-- Assumes nothing.
+use native.Mathlib.Omega.{arith}
+use mathlib.Core.Path.{_≡_, refl, sym, ap, subst, _∙_}
+use mathlib.Core.Logic.{inl, inr}
+use Rattle.rounds.proofs.Listings.{listing-large, listing-never, listing-cut}
+use borrow.Author.Needs.{needs}
+use Rattle.rounds.proofs.listing.Statement.{statement}
+use Rattle.rounds.proofs.listing.Tie as tie
+use Rattle.rounds.proofs.listing.Reads as reads
+use Rattle.rounds.proofs.listing.Lts as lts
+use Rattle.rounds.proofs.cutting.cut.Reads as cut-reads
+use Rattle.table.proofs.lists.words_of.Reads as words-of-reads
+
+enum-known-found : tie.Need-enum-known-found
+enum-known-found c = search needs
+
+enum-told : tie.Need-enum-told
+enum-told c = search needs
+
+returns : tie.Need-returns
+returns c = listing-large (c .before .before .before .before .before .args .found) (c .before .before .before .before .before .args .store .now) (c .before .before .before .before .before .args .order) (c .before .before .before .before .before .args .work .now) (c .before .before .before .before .before .args .answer .now) (c .enum-told .given .1)
+
+returns-2 : tie.Need-returns-2
+returns-2 c = listing-never (c .before .before .before .before .before .before .before .args .found) (c .before .before .before .before .before .before .before .args .store .now) (c .before .before .before .before .before .before .before .args .order) (c .before .before .before .before .before .before .before .args .work .now) (c .before .before .before .before .before .before .before .args .answer .now) (c .before .before .found .given .0 .0) (c .before .before .found .given .0 .1 .0) (c .before .before .found .given .0 .1 .1 .0) (c .before .before .found .given .1) (inl (c .if1 .taken))
+
+returns-3 : tie.Need-returns-3
+returns-3 c = listing-never (c .before .before .before .before .before .before .before .before .args .found) (c .before .before .before .before .before .before .before .before .args .store .now) (c .before .before .before .before .before .before .before .before .args .order) (c .before .before .before .before .before .before .before .before .args .work .now) (c .before .before .before .before .before .before .before .before .args .answer .now) (c .before .before .before .found .given .0 .0) (c .before .before .before .found .given .0 .1 .0) (c .before .before .before .found .given .0 .1 .1 .0) (c .before .before .before .found .given .1) (inr (inl (c .if2 .taken)))
+
+returns-4 : tie.Need-returns-4
+returns-4 c = listing-never (c .before .before .before .before .before .before .before .before .before .args .found) (c .before .before .before .before .before .before .before .before .before .args .store .now) (c .before .before .before .before .before .before .before .before .before .args .order) (c .before .before .before .before .before .before .before .before .before .args .work .now) (c .before .before .before .before .before .before .before .before .before .args .answer .now) (c .before .before .before .before .found .given .0 .0) (c .before .before .before .before .found .given .0 .1 .0) (c .before .before .before .before .found .given .0 .1 .1 .0) (c .before .before .before .before .found .given .1) (inr (inr (c .if3 .taken)))
+
+mul-set : tie.Need-mul-set
+mul-set c = search needs
+
+part-set-start : tie.Need-part-set-start
+part-set-start c = search needs
+
+part-set-end : tie.Need-part-set-end
+part-set-end c = search needs
+
+enum-told-2 : tie.Need-enum-told-2
+enum-told-2 c = search needs
+
+slice-aggregate-cut : tie.Need-slice-aggregate-cut
+slice-aggregate-cut c = search needs
+
+cut-requires : tie.Need-cut-requires
+cut-requires c κs = search needs
+
+enum-known-order : tie.Need-enum-known-order
+enum-known-order c = search needs
+
+words-of-requires : tie.Need-words-of-requires
+words-of-requires c κs = search needs
+
+cut-requires-2 : tie.Need-cut-requires-2
+cut-requires-2 c κs = search needs
+
+same-length : tie.Need-same-length
+same-length c = search needs
+
+returns-5 : tie.Need-returns-5
+returns-5 c = listing-cut (c .before .before .before .before .before .before .before .before .before .before .before .before .before .before .before .before .before .args .found) (c .before .before .before .before .before .before .before .before .before .before .before .before .before .before .before .before .before .args .store .now) (c .before .before .before .before .before .before .before .before .before .before .before .before .before .before .before .before .before .args .order) (c .before .before .before .before .before .before .before .before .before .before .before .before .before .before .before .before .before .args .work .now) (c .before .before .before .before .before .before .before .before .before .before .before .before .before .before .before .before .before .args .answer .now) (c .before .before .before .before .before .before .before .before .before .before .before .before .found .given .0 .0) (c .before .before .before .before .before .before .before .before .before .before .before .before .found .given .0 .1 .0) (c .before .before .before .before .before .before .before .before .before .before .before .before .found .given .0 .1 .1 .0) (c .before .before .before .before .before .before .before .before .before .before .before .before .found .given .1) _ _ _ _ _ (rw (c .before .before .before .before .before .enum-told2 .given .1)) (rw (c .before .before .before .before .before .enum-told2 .given .1)) refl (c .before .before .cut .ensures .0) (c .before .before .cut .ensures .1)
+
+same-length-2 : tie.Need-same-length-2
+same-length-2 c = search needs
+
+returns-6 : tie.Need-returns-6
+returns-6 c = listing-cut (c .before .before .before .before .before .before .before .before .before .before .before .before .before .before .before .before .before .before .args .found) (c .before .before .before .before .before .before .before .before .before .before .before .before .before .before .before .before .before .before .args .store .now) (c .before .before .before .before .before .before .before .before .before .before .before .before .before .before .before .before .before .before .args .order) (c .before .before .before .before .before .before .before .before .before .before .before .before .before .before .before .before .before .before .args .work .now) (c .before .before .before .before .before .before .before .before .before .before .before .before .before .before .before .before .before .before .args .answer .now) (c .before .before .before .before .before .before .before .before .before .before .before .before .before .found .given .0 .0) (c .before .before .before .before .before .before .before .before .before .before .before .before .before .found .given .0 .1 .0) (c .before .before .before .before .before .before .before .before .before .before .before .before .before .found .given .0 .1 .1 .0) (c .before .before .before .before .before .before .before .before .before .before .before .before .before .found .given .1) _ _ _ _ _ (rw (c .before .before .before .before .before .before .order .given .1)) (rw (c .before .before .before .before .before .before .order .given .1) (c .before .before .before .before .words-of .ensures)) refl (c .before .before .cut2 .ensures .0) (c .before .before .cut2 .ensures .1)
+
+pub listing-spec : {M : Type 1} → statement M
+listing-spec =
+    tie.close
+    (tie.spec
+    enum-known-found
+    enum-told
+    returns
+    returns-2
+    returns-3
+    returns-4
+    mul-set
+    part-set-start
+    part-set-end
+    enum-told-2
+    slice-aggregate-cut
+    cut-requires
+    enum-known-order
+    words-of-requires
+    cut-requires-2
+    same-length
+    returns-5
+    same-length-2
+    returns-6)

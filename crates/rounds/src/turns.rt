@@ -1,0 +1,47 @@
+// Round after round, until a limit is passed or the equations' sets stay.
+use crate::clearing::carry;
+use crate::passes::pass;
+use crate::sameness::all_stay;
+use crate::starts::HALF;
+use crate::starts::part_at;
+use crate::starts::start_of;
+use table::Table;
+ghost use Prim.Native.Nat.{_≤_};
+ghost use lib.ListN.{length};
+ghost use Rattle.rounds.specs.Alphabets.{Reached};
+
+// How many rounds are enough: a round that is not stable has more labels than the one before, and there are at most 2,048.
+pub const MOST_ROUNDS: usize = 2049;
+
+// A limit is passed; or the number of the stable round, with where the root's set stands in the work area.
+pub enum Found {
+    TooLarge,
+    At(usize, usize, usize),
+}
+
+pub fn until_stable(table: Table, store: &[u64], work: &mut [u64]) -> Found
+    requires { ⌜ (4096 ≤ length (now work)) × (table .terms ≤ 96) × (table .equations ≤ 16) ⌝ }
+    ensures { λ r. ⌜ Reached table (now (store .entry)) (now (work .entry)) (now (work .exit)) r ⌝ }
+{
+    let bodies = table.bodies;
+    let equations = table.equations;
+    let mut older = [0usize; 97];
+    let mut before = [0usize; 97];
+    let mut k = 0;
+    while k < MOST_ROUNDS {
+        let round = pass(table, store, &older, &before, work);
+        let this = round.starts;
+        if !round.fits {
+            return Found::TooLarge;
+        }
+        k += 1;
+        if all_stay(&before, &this, &bodies[..equations]) {
+            let root = part_at(&this, table.root, HALF);
+            return Found::At(k, root.from, root.to);
+        }
+        carry(work, HALF, 0, start_of(&this, table.terms));
+        older = before;
+        before = this;
+    }
+    Found::TooLarge
+}
