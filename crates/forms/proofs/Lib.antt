@@ -13,3 +13,6 @@ pub mod Operands
 pub mod Contents
 pub mod Ends
 pub mod Wraps
+pub mod Farthest
+pub mod Slotted
+pub mod Ordered

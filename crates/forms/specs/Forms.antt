@@ -128,7 +128,7 @@ kinds =
     ∷ []
 
 -- the farther of two places in one text
-abbrev shorter : Bool → Text → Text → Text
+abbrev pub shorter : Bool → Text → Text → Text
 shorter true s t = s
 shorter false s t = t
 

@@ -7,4 +7,6 @@ pub mod Places
 pub mod Entries
 pub mod Lists
 pub mod Terms
+pub mod Kinds
 pub mod Lines
+pub mod Orders

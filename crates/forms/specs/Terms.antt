@@ -2,17 +2,17 @@
 -- Assumes nothing.
 use mathlib.Core.Path.{_≡_}
 use mathlib.Core.Bool.{Bool, true, false}
-use mathlib.Core.List.{List, [], _∷_}
-use Prim.Native.Nat.{ℕ}
+use mathlib.Core.List.{List, [], _∷_, map}
+use Prim.Native.Nat.{ℕ, _≤_, _<_}
 use lib.Dec.{eqb}
-use lib.ListN.{drop}
+use lib.ListN.{drop, length}
 use Rattle.meaning.specs.Bytes.{Text}
 use Rattle.meaning.specs.Descriptions as D
 use Rattle.table.specs.Terms.{IsPlain, bareTerm}
 use Rattle.table.specs.declared.Term.{Term}
 use Rattle.forms.specs.Text.{Past, past, stuck, separated}
 use Rattle.forms.specs.Forms as F
-use Rattle.forms.specs.Forms.{Line, plain, Listed, Parts, WordPair, WordRule, comma, wordList, pair, rule, labelList}
+use Rattle.forms.specs.Forms.{Line, plain, Listed, Parts, WordPair, WordRule, comma, wordList, pair, rule, labelList, termLine}
 use Rattle.table.specs.declared.Place.{Place}
 use Rattle.table.specs.declared.Operator.{Operator}
 use Rattle.table.specs.declared.Operator.the-variants as O
@@ -20,14 +20,17 @@ use Rattle.forms.specs.declared.lists.ListKind.{ListKind}
 use Rattle.forms.specs.declared.lists.ListKind.the-variants.{Names, Pairs, Rules, Labels}
 use Rattle.forms.specs.declared.terms.WrapKind.{WrapKind}
 use Rattle.forms.specs.declared.terms.WrapKind.the-variants.{Block, Hide, Rename, Comm, Allow}
-use Rattle.table.specs.Encoded.{termWords, termFor}
-use Rattle.forms.specs.Faults.{fine, termSaid, wordsOfFault}
+use Rattle.table.specs.Encoded.{termWords, termFor, filled, slotsFrom}
+use Rattle.forms.specs.Faults.{fine, termSaid, wordsOfFault, termFault}
 use Rattle.forms.specs.Tallies.{foundOf}
 use Rattle.forms.specs.Lists.{over}
 use Rattle.forms.specs.declared.Found.the-variants.{Fine}
 use Rattle.forms.specs.declared.TermStep.{TermStep}
 use Rattle.forms.specs.declared.TermStep.the-variants as T
 use Rattle.forms.specs.declared.Found as G
+use Rattle.table.specs.Decoded.{nameOf}
+use Rattle.table.specs.declared.Term.the-variants.{Delta}
+use Rattle.table.specs.declared.Slot.{Slot}
 
 -- A term of numbers alone: there is no name and no list in it that could have a fault.
 pub record PlainTerm (due : Past Line) (x : Term) (f : G.Found) : Type 0 where
@@ -64,6 +67,10 @@ abbrev pub LineRead : List Text → ℕ → Text → Past Line → List ℕ → 
 LineRead words n line due before after (T.To x f) = LineTerm words n due before after x f
 LineRead words n line due before after (T.Stuck p) = stuck (drop p line) ≡ due
 
+-- a line that puts nothing into any store
+abbrev pub Storeless : List Text → ℕ → Text → Past Line → TermStep → Type 0
+Storeless words n line due r = (store : List ℕ) → LineRead words n line due store store r
+
 -- The kinds with a list.
 abbrev pub listKind : WrapKind → ListKind
 listKind Block = Names
@@ -99,3 +106,27 @@ wrappedOf Hide p = O.Hide p
 wrappedOf Rename p = O.Rename p
 wrappedOf Comm p = O.Comm p
 wrappedOf Allow p = O.Allow p
+
+-- the term in a slot
+abbrev pub bareSlot : Slot → D.Term
+bareSlot s = bareTerm (s .term)
+
+-- A line after the terms before it: the term at its number, all faults of the line joined, and the list's words over the start
+-- of the store where there is none.
+pub record TermTaken (words : List Text) (equations : ℕ) (terms : List D.Term) (due : Past Line) (before after : List ℕ) (x : Term) (f : G.Found) : Type 0 where
+  pub line : Line
+  pub says : past line [] ≡ due
+  pub term : x ≡ termFor (length terms) (termSaid words line)
+  pub faults : foundOf f ≡ termFault words equations terms line
+  pub stored : termFault words equations terms line ≡ fine → after ≡ over (termWords (termSaid words line)) before
+  pub long : length after ≡ length before
+
+abbrev pub TermRead : List Text → ℕ → List D.Term → Text → List ℕ → List ℕ → TermStep → Type 0
+TermRead words equations terms line before after (T.To x f) = TermTaken words equations terms (termLine line) before after x f
+TermRead words equations terms line before after (T.Stuck p) = (stuck (drop p line) ≡ termLine line) × (length after ≡ length before)
+
+-- Every line that is short enough, at a number in range, with few enough names and the slots of the terms before it.
+abbrev pub TermAnswer : List ℕ → ℕ → List Slot → ℕ → Text → List ℕ → List ℕ → TermStep → Type 0
+TermAnswer names equations slots n line before after r =
+    (terms : List D.Term) → slots ≡ filled 96 (record { term = Delta }) (slotsFrom 0 terms) → n ≡ length terms → n < 96 → length names ≤ 12 → length line ≤ 8192
+    → TermRead (map (nameOf 8) names) equations terms line before after r

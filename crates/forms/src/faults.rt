@@ -42,13 +42,19 @@ pub struct Tally {
     pub total: u64,
 }
 
-pub fn amount_unless(ok: bool) -> Found
-    ensures { λ r. ⌜ foundOf r ≡ unless ok amount ⌝ }
+pub fn found_unless(ok: bool, f: Fault) -> Found
+    ensures { λ r. ⌜ foundOf r ≡ unless ok (faultOf f) ⌝ }
 {
     if ok {
         return Found::Fine;
     }
-    Found::Faulty(Fault::Amount)
+    Found::Faulty(f)
+}
+
+pub fn amount_unless(ok: bool) -> Found
+    ensures { λ r. ⌜ foundOf r ≡ unless ok amount ⌝ }
+{
+    found_unless(ok, Fault::Amount)
 }
 
 fn least(a: u64, b: u64) -> u64

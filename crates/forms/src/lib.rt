@@ -1,12 +1,15 @@
 // The lines of a description, one at a time: what form each has, what it says and which faults it has.
 mod bytes;
 mod faults;
+mod kinds;
 mod labels;
 pub mod lines;
 mod lists;
-mod names;
+pub mod names;
+pub mod orders;
 pub mod terms;
 
+use table::Order;
 use table::Term;
 
 // What was read, a number or a packed name, and the place after it.
@@ -28,8 +31,14 @@ pub enum Found {
     Faulty(Fault),
 }
 
-// A term with the fault of its names and lists.
+// A term with its fault.
 pub enum TermStep {
     To(Term, Found),
+    Stuck(usize),
+}
+
+// The order, with the fault of its labels.
+pub enum OrderStep {
+    To(Order, Found),
     Stuck(usize),
 }

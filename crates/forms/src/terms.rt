@@ -1,15 +1,20 @@
-// Term lines: what follows a kind's word.
+// Term lines: the kind's word, what follows it, and the faults of the whole.
 ghost use Prim.Native.Nat.{_≤_, _<_};
 ghost use mathlib.Core.Path.{_≡_};
-ghost use mathlib.Core.List.{[], map};
+ghost use mathlib.Core.List.{map};
 ghost use Rattle.table.specs.Decoded.{nameOf};
-ghost use lib.ListN.{length, drop};
+ghost use lib.ListN.{length, drop, getD};
 ghost use Rattle.table.specs.Terms.{IsPlain, bareTerm};
 ghost use Rattle.meaning.specs.Legal.{isMultiAction};
 ghost use Rattle.forms.specs.Text.{past, onward, ended};
-ghost use Rattle.forms.specs.Forms.{plain, ofName, ofOne, ofTwo, ofList};
-ghost use Rattle.forms.specs.Faults.{bothBelow, inRange};
-ghost use Rattle.forms.specs.Terms.{PlainRead, oneOf, twoOf, LineRead, listKind, contents, listed, wrappedOf};
+ghost use Rattle.forms.specs.Forms.{plain, ofName, ofOne, ofTwo, ofList, termLine};
+ghost use Rattle.forms.specs.Faults.{bothBelow, inRange, worse, unless, operandsFit};
+ghost use Rattle.forms.specs.Terms.{PlainRead, oneOf, twoOf, LineRead, Storeless, listKind, contents, listed, wrappedOf, bareSlot, TermAnswer};
+ghost use Rattle.meaning.specs.Answers.{range, operand};
+ghost use Rattle.meaning.specs.Descriptions.{delta};
+ghost use Rattle.forms.specs.Tallies.{faultOf, foundOf};
+ghost use Rattle.forms.specs.Kinds.{restOf, wrapOf, fartherStep};
+use crate::Fault;
 use crate::Found;
 use crate::Step;
 use crate::TermStep;
@@ -17,6 +22,12 @@ use crate::bytes::number_after;
 use crate::bytes::read_literal;
 use crate::bytes::stuck_at;
 use crate::bytes::word_after;
+use crate::faults::found_unless;
+use crate::faults::worse_of;
+use crate::kinds::KindStep;
+use crate::kinds::find_kind;
+use crate::kinds::kind_stuck_at;
+use crate::kinds::most;
 use crate::labels::SaidStep;
 use crate::labels::said_stuck_at;
 use crate::lists::ListKind;
@@ -25,6 +36,7 @@ use crate::names::find_name;
 use crate::names::name_fault;
 use table::Operator;
 use table::Place;
+use table::Slot;
 use table::Term;
 
 // A term with nothing after it.
@@ -100,7 +112,7 @@ fn read_two(k: usize, line: &[u8], at: usize) -> TermStep
 
 fn read_act(line: &[u8], at: usize, names: &[u64], n: usize) -> TermStep
     requires { ⌜ at ≤ length (now line) ⌝ }
-    ensures { λ r. ⌜ LineRead (map (nameOf 8) (now (names .entry))) n (now (line .entry)) (ofName (drop at (now (line .entry)))) [] [] r ⌝ }
+    ensures { λ r. ⌜ Storeless (map (nameOf 8) (now (names .entry))) n (now (line .entry)) (ofName (drop at (now (line .entry)))) r ⌝ }
 {
     let name = word_after(line, at, b" ");
     let Step::To(w, next) = name else {
@@ -229,4 +241,135 @@ fn is_multi(x: Term) -> bool
         Term::Sync(_, _) => true,
         Term::Wrap(_, _) => false,
     }
+}
+
+fn wrap_of(k: usize) -> WrapKind
+    ensures { λ r. ⌜ r ≡ wrapOf k ⌝ }
+{
+    if k == 12 {
+        return WrapKind::Block;
+    }
+    if k == 13 {
+        return WrapKind::Hide;
+    }
+    if k == 14 {
+        return WrapKind::Rename;
+    }
+    if k == 15 {
+        return WrapKind::Comm;
+    }
+    WrapKind::Allow
+}
+
+// What follows the word of the kind at a place among the kinds.
+fn read_kind(
+    k: usize,
+    line: &[u8],
+    at: usize,
+    names: &[u64],
+    n: usize,
+    store: &mut [u64],
+) -> TermStep
+    requires { ⌜ (at ≤ length (now line)) × (length (now names) ≤ 12) × (length (now line) ≤ 8192) × (n < 96) × (k < 17) ⌝ }
+    ensures { λ r. ⌜ LineRead (map (nameOf 8) (now (names .entry))) n (now (line .entry)) (restOf k (drop at (now (line .entry)))) (now (store .entry)) (now (store .exit)) r ⌝ }
+{
+    if k < 1 {
+        return read_act(line, at, names, n);
+    }
+    if k < 2 {
+        return finish(line, at, Term::Tau);
+    }
+    if k < 3 {
+        return finish(line, at, Term::Delta);
+    }
+    if k < 6 {
+        return read_one(k, line, at);
+    }
+    if k < 12 {
+        return read_two(k, line, at);
+    }
+    read_wrap(wrap_of(k), line, at, names, n, store)
+}
+
+// A word before the kind's may have been stuck farther on.
+fn farthest(x: TermStep, far: usize) -> TermStep
+    ensures { λ r. ⌜ r ≡ fartherStep far x ⌝ }
+{
+    let TermStep::Stuck(p) = x else {
+        return x;
+    };
+    TermStep::Stuck(most(far, p))
+}
+
+fn read_line(line: &[u8], names: &[u64], n: usize, store: &mut [u64]) -> TermStep
+    requires { ⌜ (length (now names) ≤ 12) × (length (now line) ≤ 8192) × (n < 96) ⌝ }
+    ensures { λ r. ⌜ LineRead (map (nameOf 8) (now (names .entry))) n (now (line .entry)) (termLine (now (line .entry))) (now (store .entry)) (now (store .exit)) r ⌝ }
+{
+    let key = read_literal(line, 0, b"term=");
+    let Step::To(_, at) = key else {
+        return TermStep::Stuck(stuck_at(key));
+    };
+    let kind = find_kind(line, at);
+    let KindStep::To(k, next, far) = kind else {
+        return TermStep::Stuck(kind_stuck_at(kind));
+    };
+    farthest(read_kind(k, line, next, names, n, store), far)
+}
+
+// Whether the term at a number is a multi-action; past the slots there is none.
+fn multi_at(slots: [Slot; 96], t: usize) -> bool
+    ensures { λ r. ⌜ r ≡ isMultiAction (getD (map bareSlot slots) t delta) ⌝ }
+{
+    if 96 <= t {
+        return false;
+    }
+    let slot = slots[t];
+    let x = slot.term;
+    is_multi(x)
+}
+
+fn operands_fit(x: Term, slots: [Slot; 96]) -> bool
+    ensures { λ r. ⌜ r ≡ operandsFit (map bareSlot slots) (bareTerm x) ⌝ }
+{
+    let Term::Sync(t, u) = x else {
+        return true;
+    };
+    multi_at(slots, t) && multi_at(slots, u)
+}
+
+// The fault of a term's names and list, of its numbers, and of its operands, joined.
+fn joined_fault(x: Term, found: Found, n: usize, equations: usize, slots: [Slot; 96]) -> Found
+    ensures { λ r. ⌜ foundOf r ≡ worse (foundOf found) (worse (unless (inRange equations n (bareTerm x)) range) (unless (operandsFit (map bareSlot slots) (bareTerm x)) operand)) ⌝ }
+{
+    let numbers = found_unless(in_range(x, n, equations), Fault::Range);
+    let operands = found_unless(operands_fit(x, slots), Fault::Operand);
+    worse_of(found, worse_of(numbers, operands))
+}
+
+// A term line, after the terms in the slots. The store is the part of the list store that belongs to the line.
+pub fn read_term(
+    line: &[u8],
+    names: &[u64],
+    equations: usize,
+    slots: [Slot; 96],
+    n: usize,
+    store: &mut [u64],
+) -> TermStep
+    ensures { λ r. ⌜ TermAnswer (now (names .entry)) equations slots n (now (line .entry)) (now (store .entry)) (now (store .exit)) r ⌝ }
+{
+    if 12 < names.len() {
+        return TermStep::Stuck(0);
+    }
+    if 8192 < line.len() {
+        return TermStep::Stuck(0);
+    }
+    if 96 <= n {
+        return TermStep::Stuck(0);
+    }
+    let said = read_line(line, names, n, store);
+    let TermStep::To(x, found) = said else {
+        return said;
+    };
+    let fault = joined_fault(x, found, n, equations, slots);
+    TermStep::To(x, fault)
 }

@@ -1,7 +1,6 @@
 -- `forms::terms::read_act` meets its contract: a name, and the end of the line.
 -- Assumes nothing.
 use mathlib.Core.Path.{_≡_, refl, sym, ap, _∙_}
-use mathlib.Core.List.{[]}
 use lib.ListN.{drop}
 use Rattle.table.specs.Decoded.{nameOf}
 use Rattle.forms.specs.Text.{onward, past}
@@ -28,10 +27,10 @@ stuck-at-requires : tie.Need-stuck-at-requires
 stuck-at-requires c κs = tt
 
 returns : tie.Need-returns
-returns c = ap (λ d. onward d named-with) (stays (c .before .before .before .word-after .ensures) (c .before .enum-told .given .1) (c .stuck-at .ensures) .says) ∙ name-seen (drop (c .before .before .before .before .before .before .before .args .at) (c .before .before .before .before .before .before .before .args .line .now))
+returns c store = ap (λ d. onward d named-with) (stays (c .before .before .before .word-after .ensures) (c .before .enum-told .given .1) (c .stuck-at .ensures) .says) ∙ name-seen (drop (c .before .before .before .before .before .before .before .args .at) (c .before .before .before .before .before .before .before .args .line .now))
 
 returns-2 : tie.Need-returns-2
-returns-2 c =
+returns-2 c store =
     ap (λ d. onward d (λ _ p. past (acts (nameOf 8 (c .before .before .name .given .0 .0))) p)) (ended-some (c .before .before .before .before .before .before .before .before .args .line .now) _ (c .if1 .taken))
     ∙ ap (λ d. onward d named-with) (went (c .before .before .before .before .word-after .ensures) (c .before .before .name .given .1) .says) ∙ name-seen (drop (c .before .before .before .before .before .before .before .before .args .at) (c .before .before .before .before .before .before .before .before .args .line .now))
 
@@ -42,8 +41,8 @@ name-fault-requires : tie.Need-name-fault-requires
 name-fault-requires c κs = tt
 
 returns-3 : tie.Need-returns-3
-returns-3 c =
-    act-line _ (c .before .before .before .before .before .before .before .before .before .before .args .n) (c .before .before .before .before .before .before .before .before .before .before .args .line .now) _ [] (nameOf 8 (c .before .before .before .before .name .given .0 .0))
+returns-3 c store =
+    act-line _ (c .before .before .before .before .before .before .before .before .before .before .args .n) (c .before .before .before .before .before .before .before .before .before .before .args .line .now) _ store (nameOf 8 (c .before .before .before .before .name .given .0 .0))
     (ap (λ d. onward d (λ _ p. past (acts (nameOf 8 (c .before .before .before .before .name .given .0 .0))) p)) (ended-none (c .before .before .before .before .before .before .before .before .before .before .args .line .now) _ (c .before .before .if1 .left))
     ∙ ap (λ d. onward d named-with) (went (c .before .before .before .before .before .before .word-after .ensures) (c .before .before .before .before .name .given .1) .says) ∙ name-seen (drop (c .before .before .before .before .before .before .before .before .before .before .args .at) (c .before .before .before .before .before .before .before .before .before .before .args .line .now)))
     (c .before .find-name .ensures) (name-faulted (c .before .before .before .before .before .before .before .before .before .before .args .names .now) _ (c .name-fault .ensures) (c .before .find-name .ensures))

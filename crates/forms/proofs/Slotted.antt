@@ -1,0 +1,137 @@
+-- The terms in the slots against the terms that they stand for, and the faults of a term after them.
+-- Assumes nothing.
+use mathlib.Core.Path.{_≡_, refl, sym, ap, ap₂, _∙_}
+use mathlib.Core.Bool.{Bool, true, false, _&&_}
+use mathlib.Core.List.{List, [], _∷_, map}
+use Prim.Native.Nat.{ℕ, zero, suc, _≤_}
+use native.Mathlib.Nat.{not-suc-le-zero, le-of-suc-le-suc}
+use lib.ListN.{length, getD, drop}
+use types.Run.{OneOf, miss}
+use denote.Enum.Declared.{tagOf}
+use Rattle.meaning.specs.Bytes.{Text}
+use Rattle.meaning.specs.Descriptions as D
+use Rattle.meaning.specs.Legal.{isMultiAction}
+use Rattle.meaning.specs.Answers.{range, operand}
+use Rattle.table.specs.Encoded.{filled, slotsFrom, termFor, termWords}
+use Rattle.table.specs.Terms.{bareTerm}
+use Rattle.table.proofs.Term as TermType
+use Rattle.table.specs.declared.Term.{Term}
+use Rattle.table.specs.declared.Term.the-variants.{Delta, Tau, Act, Ref, Sum, Cond, Choice, IfElse, Seq, Merge, LMerge, Sync, Wrap}
+use Rattle.table.specs.declared.Slot.{Slot}
+use Rattle.forms.specs.Text.{Past, past, stuck}
+use Rattle.forms.specs.Forms.{Line, termLine}
+use Rattle.forms.specs.Faults.{Found, fine, worse, unless, inRange, operandsFit, termSaid, wordsOfFault, termFault}
+use Rattle.forms.specs.Tallies.{foundOf}
+use Rattle.forms.specs.Lists.{over}
+use Rattle.forms.specs.Terms.{LineTerm, LineRead, bareSlot, TermTaken, TermRead}
+use Rattle.forms.specs.declared.Found as G
+use Rattle.forms.specs.declared.TermStep.{TermStep}
+use Rattle.forms.specs.declared.TermStep.the-variants as T
+use Rattle.forms.proofs.Parts.{worse-none}
+
+-- A term in its slot has the kind and the operands of the term that it stands for.
+pub kept : (f : D.Term → Bool) → ((o q : D.Operator) (t : ℕ) → f (D.wrap o t) ≡ f (D.wrap q t)) → (n : ℕ) (t : D.Term) → f (bareTerm (termFor n t)) ≡ f t
+kept f h n (D.act a) = refl
+kept f h n D.tau = refl
+kept f h n D.delta = refl
+kept f h n (D.ref e) = refl
+kept f h n (D.sum t) = refl
+kept f h n (D.cond t) = refl
+kept f h n (D.choice t u) = refl
+kept f h n (D.ifelse t u) = refl
+kept f h n (D.seq t u) = refl
+kept f h n (D.merge t u) = refl
+kept f h n (D.lmerge t u) = refl
+kept f h n (D.sync t u) = refl
+kept f h n (D.wrap o t) = h _ o t
+
+abbrev pub blankSlot : Slot
+blankSlot = record { term = Delta }
+
+multi-blank : (m t : ℕ) → isMultiAction (getD (map bareSlot (filled m blankSlot [])) t D.delta) ≡ false
+unfolding filled
+multi-blank zero t = refl
+multi-blank (suc m) zero = refl
+multi-blank (suc m) (suc t) = multi-blank m t
+
+multi-slots : (m k : ℕ) (terms : List D.Term) (t : ℕ) → length terms ≤ m
+    → isMultiAction (getD (map bareSlot (filled m blankSlot (slotsFrom k terms))) t D.delta) ≡ isMultiAction (getD terms t D.delta)
+unfolding filled slotsFrom
+multi-slots m k [] t h = multi-blank m t
+multi-slots zero k (x ∷ terms) t h = absurd (not-suc-le-zero h)
+multi-slots (suc m) k (x ∷ terms) zero h = kept isMultiAction (λ o q t. refl) k x
+multi-slots (suc m) k (x ∷ terms) (suc t) h = multi-slots m (suc k) terms t (le-of-suc-le-suc h)
+
+fit-slots : (terms : List D.Term) (x : D.Term) → length terms ≤ 96 → operandsFit (map bareSlot (filled 96 blankSlot (slotsFrom 0 terms))) x ≡ operandsFit terms x
+fit-slots terms (D.act a) h = refl
+fit-slots terms D.tau h = refl
+fit-slots terms D.delta h = refl
+fit-slots terms (D.ref e) h = refl
+fit-slots terms (D.sum t) h = refl
+fit-slots terms (D.cond t) h = refl
+fit-slots terms (D.choice t u) h = refl
+fit-slots terms (D.ifelse t u) h = refl
+fit-slots terms (D.seq t u) h = refl
+fit-slots terms (D.merge t u) h = refl
+fit-slots terms (D.lmerge t u) h = refl
+fit-slots terms (D.sync t u) h = ap₂ {C = Bool} _&&_ (multi-slots 96 0 terms t h) (multi-slots 96 0 terms u h)
+fit-slots terms (D.wrap o t) h = refl
+
+-- what is no sync asks nothing of its operands
+pub fit-other : (terms : List D.Term) (x : Term) → OneOf (0 ∷ 1 ∷ 2 ∷ 3 ∷ 4 ∷ 5 ∷ 6 ∷ 7 ∷ 8 ∷ 9 ∷ 10 ∷ 12 ∷ []) (tagOf TermType.the-type x) → true ≡ operandsFit terms (bareTerm x)
+fit-other terms Delta e = refl
+fit-other terms Tau e = refl
+fit-other terms (Act a) e = refl
+fit-other terms (Ref e′) e = refl
+fit-other terms (Sum t) e = refl
+fit-other terms (Cond t) e = refl
+fit-other terms (Choice t u) e = refl
+fit-other terms (IfElse t u) e = refl
+fit-other terms (Seq t u) e = refl
+fit-other terms (Merge t u) e = refl
+fit-other terms (LMerge t u) e = refl
+fit-other terms (Sync t u) e = absurd (miss (0 ∷ 1 ∷ 2 ∷ 3 ∷ 4 ∷ 5 ∷ 6 ∷ 7 ∷ 8 ∷ 9 ∷ 10 ∷ 12 ∷ []) 11 tt e)
+fit-other terms (Wrap o t) e = refl
+
+-- All faults of a line.
+module _ (words : List Text) (equations : ℕ) (terms : List D.Term) (slots : List Slot) (few : length terms ≤ 96)
+    (filling : slots ≡ filled 96 blankSlot (slotsFrom 0 terms)) where
+  faults-joined : (n : ℕ) → n ≡ length terms → (line : Line) (x : Term) (a f : Found) → x ≡ termFor (length terms) (termSaid words line) → a ≡ wordsOfFault words line
+      → f ≡ worse a (worse (unless (inRange equations n (bareTerm x)) range) (unless (operandsFit (map bareSlot slots) (bareTerm x)) operand))
+      → f ≡ termFault words equations terms line
+  unfolding termFault
+  faults-joined n here line x a f e w h =
+      let t = termSaid words line in
+      h
+      ∙ rw (
+        w,
+        here,
+        e,
+        filling,
+        fit-slots terms (bareTerm (termFor (length terms) t)) few,
+        kept (inRange equations (length terms)) (λ o q u. refl) (length terms) t,
+        kept (operandsFit terms) (λ o q u. refl) (length terms) t,
+      )
+
+  words-fine : (line : Line) → termFault words equations terms line ≡ fine → wordsOfFault words line ≡ fine
+  unfolding termFault
+  words-fine line e = worse-none (wordsOfFault words line) _ e .0
+
+  module _ (n : ℕ) (here : n ≡ length terms) (line : Text) (before after : List ℕ) (long : length after ≡ length before) where
+    pub term-stays : (said : TermStep) {p : ℕ} → said ≡ T.Stuck p → LineRead words n line (termLine line) before after said → TermRead words equations terms line before after said
+    term-stays said e h = rw e (rw e at h, long)
+
+    pub term-taken : {said : TermStep} {x : Term} {f g : G.Found} → said ≡ T.To x f → LineRead words n line (termLine line) before after said
+        → foundOf g ≡ worse (foundOf f) (worse (unless (inRange equations n (bareTerm x)) range) (unless (operandsFit (map bareSlot slots) (bareTerm x)) operand))
+        → TermTaken words equations terms (termLine line) before after x g
+    term-taken {x = x} {f} {g} e h k =
+        let l : LineTerm words n (termLine line) before after x f = rw e at h in
+        let t : x ≡ termFor (length terms) (termSaid words (l .line)) = l .term ∙ ap (λ m. termFor m (termSaid words (l .line))) here in
+        record {
+          line = l .line;
+          says = l .says;
+          term = t;
+          faults = faults-joined n here (l .line) x (foundOf f) (foundOf g) t (l .faults) k;
+          stored = λ z. l .stored (words-fine (l .line) z);
+          long = long;
+        }

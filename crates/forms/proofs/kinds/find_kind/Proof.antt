@@ -1,0 +1,77 @@
+-- `forms::kinds::find_kind` meets its contract: one kind after the other, the farthest place kept.
+-- Assumes nothing.
+use mathlib.Core.Path.{_≡_, refl, sym, ap, _∙_}
+use Prim.Native.Nat.{_≤_, _<_, _-_, _+_}
+use native.Mathlib.Omega.{arith}
+use Rattle.forms.proofs.Farthest.{Sought, sought-none, sought-found, sought-more, sought-all}
+use Rattle.forms.proofs.kinds.find_kind.Statement.{statement}
+use Rattle.forms.proofs.kinds.find_kind.Tie as tie
+
+abbrev Inv-loop : tie.InvT-loop
+Inv-loop line at far₀ k₀ far k = Sought line at far k
+
+abbrev μ-loop : tie.MeasureT-loop
+μ-loop line at far₀ k₀ far k = 17 - k
+
+loop-holds : tie.Need-loop-holds Inv-loop μ-loop
+loop-holds c = sought-none _ _
+
+mul-read-packed : tie.Need-mul-read-packed Inv-loop μ-loop
+mul-read-packed c = omega arith
+
+array-read-read-packed : tie.Need-array-read-read-packed Inv-loop μ-loop
+array-read-read-packed c = omega arith
+
+read-packed-requires : tie.Need-read-packed-requires Inv-loop μ-loop
+read-packed-requires c κs = c .before .before .before .pre .1
+
+enum-known-word : tie.Need-enum-known-word Inv-loop μ-loop
+enum-known-word c = c .match .keys1
+
+enum-told : tie.Need-enum-told Inv-loop μ-loop
+enum-told c = c .match .keys2
+
+stuck-at-requires : tie.Need-stuck-at-requires Inv-loop μ-loop
+stuck-at-requires c κs = tt
+
+returns : tie.Need-returns Inv-loop μ-loop
+returns c =
+    sought-found _ _ _ _ (c .before .before .before .before .before .loop .inv) (c .before .before .before .before .loop-test .taken) (c .before .before .before .read-packed .ensures)
+    (c .before .enum-told .given .1) (c .stuck-at .ensures)
+
+most-requires : tie.Need-most-requires Inv-loop μ-loop
+most-requires c κs = tt
+
+add-k : tie.Need-add-k Inv-loop μ-loop
+add-k c = omega arith
+
+loop-less : tie.Need-loop-less Inv-loop μ-loop
+loop-less c = omega arith
+
+loop-again : tie.Need-loop-again Inv-loop μ-loop
+loop-again c =
+    sought-more _ _ _ _ (c .before .before .before .before .before .before .loop .inv) (c .before .before .before .before .before .loop-test .taken) (c .before .before .before .before .read-packed .ensures)
+    (c .before .before .before .before .before .before .before .before .pre .0) (c .before .before .word .given .1) (c .most .ensures)
+
+returns-2 : tie.Need-returns-2 Inv-loop μ-loop
+returns-2 c = sought-all _ _ _ _ (c .before .loop .inv) (c .loop-test .left)
+
+pub find-kind-spec : {M : Type 1} → statement M
+find-kind-spec =
+    tie.close
+    (tie.spec
+    Inv-loop
+    μ-loop
+    loop-holds
+    mul-read-packed
+    array-read-read-packed
+    read-packed-requires
+    enum-known-word
+    enum-told
+    stuck-at-requires
+    returns
+    most-requires
+    add-k
+    loop-less
+    loop-again
+    returns-2)

@@ -1,0 +1,25 @@
+-- `forms::terms::farthest` meets its contract: the farther of two places stays.
+-- Assumes nothing.
+use borrow.Author.Needs.{needs}
+use mathlib.Core.Path.{_≡_, refl, ap}
+use Rattle.forms.specs.declared.TermStep.the-variants as TermStep
+use Rattle.forms.proofs.terms.farthest.Statement.{statement}
+use Rattle.forms.proofs.terms.farthest.Tie as tie
+
+enum-known-x : tie.Need-enum-known-x
+enum-known-x c = c .match .keys1
+
+enum-told : tie.Need-enum-told
+enum-told c = c .match .keys2
+
+returns : tie.Need-returns
+returns c = rw (c .enum-told .given .1)
+
+most-requires : tie.Need-most-requires
+most-requires c κs = search needs
+
+returns-2 : tie.Need-returns-2
+returns-2 c = rw (c .before .before .x .given .1) (ap TermStep.Stuck (c .most .ensures))
+
+pub farthest-spec : {M : Type 1} → statement M
+farthest-spec = tie.close (tie.spec enum-known-x enum-told returns most-requires returns-2)

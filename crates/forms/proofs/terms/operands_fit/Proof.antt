@@ -1,0 +1,32 @@
+-- `forms::terms::operands_fit` meets its contract: only sync asks anything of its operands.
+-- Assumes nothing.
+use borrow.Author.Needs.{needs}
+use mathlib.Core.Path.{_≡_, refl, sym, ap, _∙_}
+use mathlib.Core.List.{map}
+use Rattle.forms.specs.Terms.{bareSlot}
+use Rattle.forms.proofs.Slotted.{fit-other}
+use Rattle.forms.proofs.terms.operands_fit.Statement.{statement}
+use Rattle.forms.proofs.terms.operands_fit.Tie as tie
+
+enum-known-x : tie.Need-enum-known-x
+enum-known-x c = search needs
+
+returns : tie.Need-returns
+returns c = fit-other (map bareSlot (c .before .args .slots)) (c .before .args .x) (c .match .keys2)
+
+multi-at-requires : tie.Need-multi-at-requires
+multi-at-requires c κs = search needs
+
+multi-at-requires-2 : tie.Need-multi-at-requires-2
+multi-at-requires-2 c κs = search needs
+
+returns-2 : tie.Need-returns-2
+returns-2 c = rw (c .before .before .before .before .x .given .1, sym (c .before .before .multi-at .ensures) ∙ c .before .if1 .taken) (c .multi-at2 .ensures)
+
+returns-3 : tie.Need-returns-3
+returns-3 c = rw (c .before .before .before .x .given .1, sym (c .before .multi-at .ensures) ∙ c .if1 .left) (c .if1 .left)
+
+pub operands-fit-spec : {M : Type 1} → statement M
+operands-fit-spec =
+    tie.close
+    (tie.spec enum-known-x returns multi-at-requires multi-at-requires-2 returns-2 returns-3)

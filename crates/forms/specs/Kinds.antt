@@ -1,0 +1,53 @@
+-- The kind's word as the code finds it.
+-- Assumes nothing.
+use mathlib.Core.Path.{_≡_}
+use mathlib.Core.List.{List, []}
+use Prim.Native.Nat.{ℕ, zero, suc, _≤_, _<_, max}
+use lib.ListN.{length, getD, drop}
+use lib.Dec.{eqb}
+use Rattle.meaning.specs.Bytes.{Text}
+use Rattle.forms.specs.Text.{Past, stuck}
+use Rattle.forms.specs.Forms.{Line, Kind, kinds, farther}
+use Rattle.forms.specs.Terms.{either}
+use Rattle.forms.specs.declared.terms.WrapKind.{WrapKind}
+use Rattle.forms.specs.declared.terms.WrapKind.the-variants.{Block, Hide, Rename, Comm, Allow}
+use Rattle.forms.specs.declared.TermStep.{TermStep}
+use Rattle.forms.specs.declared.TermStep.the-variants as T
+use Rattle.forms.specs.declared.kinds.KindStep.{KindStep}
+use Rattle.forms.specs.declared.kinds.KindStep.the-variants.{To, Stuck}
+
+abbrev pub kindPlace : KindStep → ℕ
+kindPlace (To k next far) = next
+kindPlace (Stuck p) = p
+
+-- past the kinds nothing is due
+abbrev pub noKind : Kind
+noKind = record { word = []; rest = λ s. stuck s }
+
+-- what follows the word of the kind at a place among the kinds
+abbrev pub restOf : ℕ → Text → Past Line
+restOf k s = getD kinds k noKind .rest s
+
+-- The farther of what is due and a place where words before it were stuck; there is none where that place is 0.
+abbrev pub fartherFrom : ℕ → Text → Past Line → Past Line
+fartherFrom zero line due = due
+fartherFrom (suc p) line due = farther (drop (suc p) line) due
+
+pub record KindFound (line : Text) (due : Past Line) (k next far : ℕ) : Type 0 where
+  pub says : fartherFrom far line (restOf k (drop next line)) ≡ due
+  pub known : k < 17
+  pub within : next ≤ length line
+  pub reached : far ≤ length line
+
+abbrev pub KindRead : Text → Past Line → KindStep → Type 0
+KindRead line due (To k next far) = KindFound line due k next far
+KindRead line due (Stuck p) = stuck (drop p line) ≡ due
+
+-- the kinds with a list
+abbrev pub wrapOf : ℕ → WrapKind
+wrapOf k = either (eqb k 12) Block (either (eqb k 13) Hide (either (eqb k 14) Rename (either (eqb k 15) Comm Allow)))
+
+-- an answer joined to that place
+abbrev pub fartherStep : ℕ → TermStep → TermStep
+fartherStep far (T.To x f) = T.To x f
+fartherStep far (T.Stuck p) = T.Stuck (max far p)

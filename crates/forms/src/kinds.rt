@@ -1,0 +1,91 @@
+// The kind's word, with which a term begins.
+ghost use Prim.Native.Nat.{_≤_, max};
+ghost use mathlib.Core.Path.{_≡_};
+ghost use lib.ListN.{length, drop};
+ghost use Rattle.table.specs.Decoded.{nameOf};
+ghost use Rattle.forms.specs.Text.{literal};
+ghost use Rattle.forms.specs.Forms.{ofKind, kinds};
+ghost use Rattle.forms.specs.Places.{Steps};
+ghost use Rattle.forms.specs.Kinds.{kindPlace, KindRead};
+use crate::Step;
+use crate::bytes::stuck_at;
+
+// A packed word that must stand there as it is.
+fn read_packed(line: &[u8], at: usize, due: u64) -> Step
+    requires { ⌜ at ≤ length (now line) ⌝ }
+    ensures { λ r. ⌜ Steps (λ v next. tt) (now (line .entry)) at r (literal (nameOf 8 due) (drop at (now (line .entry)))) ⌝ }
+{
+    let mut next = at;
+    let mut left = due;
+    while 0 < left {
+        if line.len() <= next {
+            return Step::Stuck(next);
+        }
+        let b = line[next] as u64;
+        if b != left % 256 {
+            return Step::Stuck(next);
+        }
+        next += 1;
+        left = left / 256;
+    }
+    Step::To(0, next)
+}
+
+// The words of the kinds, packed as names are: the first byte lowest.
+const KINDS: [u64; 17] = [
+    0x746361, // act
+    0x756174, // tau
+    0x61746c6564, // delta
+    0x666572, // ref
+    0x6d7573, // sum
+    0x646e6f63, // cond
+    0x6563696f6863, // choice
+    0x65736c656669, // ifelse
+    0x716573, // seq
+    0x656772656d, // merge
+    0x656772656d6c, // lmerge
+    0x636e7973, // sync
+    0x6b636f6c62, // block
+    0x65646968, // hide
+    0x656d616e6572, // rename
+    0x6d6d6f63, // comm
+    0x776f6c6c61, // allow
+];
+
+// The kind whose word stands there, the place after it, and the farthest place where a word before it was stuck.
+pub enum KindStep {
+    To(usize, usize, usize),
+    Stuck(usize),
+}
+
+pub fn kind_stuck_at(s: KindStep) -> usize
+    ensures { λ r. ⌜ r ≡ kindPlace s ⌝ }
+{
+    match s {
+        KindStep::To(_, next, _) => next,
+        KindStep::Stuck(next) => next,
+    }
+}
+
+pub fn most(a: usize, b: usize) -> usize
+    ensures { λ r. ⌜ r ≡ max a b ⌝ }
+{
+    if a <= b { b } else { a }
+}
+
+pub fn find_kind(line: &[u8], at: usize) -> KindStep
+    requires { ⌜ (1 ≤ at) × (at ≤ length (now line)) ⌝ }
+    ensures { λ r. ⌜ KindRead (now (line .entry)) (ofKind kinds (drop at (now (line .entry)))) r ⌝ }
+{
+    let mut far = 0;
+    let mut k = 0;
+    while k < 17 {
+        let word = read_packed(line, at, KINDS[k]);
+        let Step::Stuck(p) = word else {
+            return KindStep::To(k, stuck_at(word), far);
+        };
+        far = most(far, p);
+        k += 1;
+    }
+    KindStep::Stuck(far)
+}
