@@ -1,23 +1,12 @@
 // Faults of a line. They are joined, the smaller number staying.
 ghost use mathlib.Core.Path.{_≡_};
 ghost use Prim.Native.Nat.{min};
-ghost use Rattle.meaning.specs.Answers.{amount, faultNumber};
+ghost use Rattle.meaning.specs.Answers.{amount};
 ghost use Rattle.forms.specs.Faults.{unless, worse};
 ghost use Rattle.forms.specs.Tallies.{faultOf, foundOf, Modest, Counted};
 use crate::Fault;
 use crate::Found;
-
-pub fn number_of(f: Fault) -> usize
-    ensures { λ r. ⌜ r ≡ faultNumber (faultOf f) ⌝ }
-{
-    match f {
-        Fault::Form => 2,
-        Fault::Name => 3,
-        Fault::Range => 4,
-        Fault::Amount => 5,
-        Fault::Operand => 6,
-    }
-}
+use crate::number_of;
 
 pub fn worse_of(a: Found, b: Found) -> Found
     ensures { λ r. ⌜ foundOf r ≡ worse (foundOf a) (foundOf b) ⌝ }

@@ -9,6 +9,9 @@ pub mod names;
 pub mod orders;
 pub mod terms;
 
+ghost use mathlib.Core.Path.{_≡_};
+ghost use Rattle.meaning.specs.Answers.{faultNumber};
+ghost use Rattle.forms.specs.Tallies.{faultOf};
 use table::Order;
 use table::Term;
 
@@ -24,6 +27,19 @@ pub enum Fault {
     Range,
     Amount,
     Operand,
+}
+
+// Its number in document 01.
+pub fn number_of(f: Fault) -> usize
+    ensures { λ r. ⌜ r ≡ faultNumber (faultOf f) ⌝ }
+{
+    match f {
+        Fault::Form => 2,
+        Fault::Name => 3,
+        Fault::Range => 4,
+        Fault::Amount => 5,
+        Fault::Operand => 6,
+    }
 }
 
 pub enum Found {

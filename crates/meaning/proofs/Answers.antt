@@ -74,7 +74,7 @@ by-number n (a ∷ s) h k = (
 )
 
 -- A set at any place of sets that pass no limit.
-no-long : (sets : List (List Label)) → (T (someOver sets) → ⊥) → (t : ℕ) (a : Label) → a ∈ at sets t → size a ≤ 31
+pub no-long : (sets : List (List Label)) → (T (someOver sets) → ⊥) → (t : ℕ) (a : Label) → a ∈ at sets t → size a ≤ 31
 no-long [] h t a m = absurd m
 no-long (s ∷ sets) h zero a m =
     elim (decLt 31 (size a)) [ yes l ↦ absurd (h (over-one s sets (inl (long s a m l)))) | no n ↦ omega arith ]

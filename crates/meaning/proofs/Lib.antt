@@ -18,5 +18,6 @@ pub mod Limits
 pub mod Lengths
 pub mod Answers
 pub mod Outcomes
+pub mod Listings
 pub mod Widening
 pub mod Examples

@@ -9,3 +9,4 @@ pub mod Line
 pub mod LabelLines
 pub mod Whole
 pub mod Callers
+pub mod Lengths

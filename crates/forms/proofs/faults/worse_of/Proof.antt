@@ -8,7 +8,7 @@ use Rattle.forms.proofs.faults.worse_of.Statement.{statement}
 use Rattle.forms.proofs.faults.worse_of.Tie as tie
 use Rattle.forms.proofs.faults.worse_of.Reads as reads
 use Rattle.forms.proofs.faults.worse_of.Lts as lts
-use Rattle.forms.proofs.faults.number_of.Reads as number-of-reads
+use Rattle.forms.proofs.number_of.Reads as number-of-reads
 
 -- src/faults.rt:36:23
 enum-known-a : tie.Need-enum-known-a

@@ -1,0 +1,60 @@
+-- What an answer lists: labels with a count for each name and at most 31 actions, at most 1,024 of them.
+-- Assumes nothing.
+use mathlib.Core.Path.{_≡_, refl, sym, ap, subst, _∙_}
+use mathlib.Core.Bool.{Bool, true, false}
+use mathlib.Core.Logic.{inl, inr}
+use mathlib.Core.List.{List, [], _∷_, _++_}
+use Prim.Native.Nat.{ℕ, zero, suc, pred, _+_, _≤_, _<_}
+use native.Mathlib.Omega.{arith}
+use native.Mathlib.Decide.{decLt}
+use lib.Dec.{T}
+use lib.ListN.{length, length-append}
+use Rattle.meaning.specs.Labels.{Label, size}
+use Rattle.meaning.specs.Sets.{_∈_, at, spread, kept, keep}
+use Rattle.meaning.specs.Descriptions.{Order, Description, names}
+use Rattle.meaning.specs.Rounds.{roundSets, equationSets}
+use Rattle.meaning.specs.Limits.{someOver, over}
+use Rattle.meaning.specs.Answers.{Outcome, tooLarge, listed, Lists, cut, admits}
+use Rattle.meaning.proofs.Lengths.{round-full}
+use Rattle.meaning.proofs.Stable.{Stable}
+use Rattle.meaning.proofs.Limits.{over-one, over-some, round-passes}
+use Rattle.meaning.proofs.Answers.{no-long, lists, answers-unique}
+
+module _ (d : Description) (o : Order) (k : ℕ) (ls : List Label) (l : Lists d o k ls) where
+  fits : (j : ℕ) → T (over (roundSets d j)) → ⊥
+  fits j t = l .within (round-passes d j t)
+
+  pub listed-held : (a : Label) → a ∈ ls → (length a ≡ names d) × (size a ≤ 31)
+  listed-held a m =
+      let x = l .exactly a .0 m .0 in
+      (round-full d (x .round) (d .root) a (x .there), no-long (roundSets d (x .round)) (λ t. fits (x .round) (over-some (roundSets d (x .round)) t)) (d .root) a (x .there))
+
+short-kept : (b : Bool) (a : Label) → length (kept b a) ≤ 1
+short-kept true a = omega arith
+short-kept false a = omega arith
+
+cut-shorter : (o : Order) (s : List Label) → length (cut o s) ≤ length s
+unfolding cut spread
+cut-shorter o [] = omega arith
+cut-shorter o (a ∷ s) =
+    let one = short-kept (admits o a) a in
+    let rest = cut-shorter o s in
+    omega (arith, length-append (kept (admits o a) a) (spread (keep (admits o)) s))
+
+no-wide : (sets : List (List Label)) → (T (someOver sets) → ⊥) → (t : ℕ) → length (at sets t) ≤ 1024
+no-wide [] h t = omega arith
+no-wide (s ∷ sets) h zero = elim (decLt 1024 (length s)) [ yes l ↦ absurd (h (over-one s sets (inr (inl l)))) | no n ↦ omega arith ]
+no-wide (s ∷ sets) h (suc t) = no-wide sets (λ x. h (over-one s sets (inr (inr x)))) t
+
+abbrev listings : Outcome → ℕ
+listings tooLarge = 0
+listings (listed k ls) = length ls
+
+pub listed-few : (d : Description) (o : Order) (k : ℕ) (ls : List Label) → Lists d o k ls → length ls ≤ 1024
+listed-few d o zero ls l = absurd (omega (arith, l .counted .atLeast))
+listed-few d o (suc k) ls l =
+    let set = at (roundSets d (suc k)) (d .root) in
+    let same = answers-unique d o (listed (suc k) ls) (listed (suc k) (cut o set)) l
+    (lists d o k (λ j h. l .counted .smallest (suc j) (omega arith) (omega arith)) (l .counted .stable) (λ t. l .within (round-passes d (suc k) t))) in
+    let wide = no-wide (roundSets d (suc k)) (λ t. l .within (round-passes d (suc k) (over-some (roundSets d (suc k)) t))) (d .root) in
+    omega (arith, ap listings same, cut-shorter o set)
