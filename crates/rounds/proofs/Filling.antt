@@ -10,7 +10,8 @@ use native.Mathlib.Omega.{arith}
 use borrow.Author.Tests.{eq-eqb, ne-eqb}
 use lib.ListN.{length, getD, take, drop, set, replicate, length-append, length-take, length-drop, length-set, length-replicate, drop-of-length-le}
 use lib.Seq.{drop-cons, set-append-seam, append-snoc, take-suc, take-all, getD-append-add, getD-drop, getD-take}
-use Rattle.rounds.specs.Cutting.{listedIn, allows, cutWords, put}
+use Rattle.sets.specs.Building.{listedIn}
+use Rattle.rounds.specs.Cutting.{allows, cutWords, put}
 
 length-snoc : (xs : List ℕ) (w : ℕ) → length (xs ++ (w ∷ [])) ≡ suc (length xs)
 length-snoc xs w = length-append xs (w ∷ []) ∙ omega arith

@@ -9,7 +9,8 @@ use native.Mathlib.Numerals.{add-one}
 use native.Mathlib.Omega.{arith}
 use borrow.Author.Tests.{eq-eqb, ne-eqb}
 use lib.ListN.{length, getD, take, drop, set, drop-of-length-le, length-drop}
-use Rattle.rounds.specs.Cutting.{listedIn, allows, cutWords, put}
+use Rattle.sets.specs.Building.{listedIn}
+use Rattle.rounds.specs.Cutting.{allows, cutWords, put}
 use Rattle.rounds.proofs.Filling.{Filling, filling-start, filling-step, filling-end, left-first, cut-taken, cut-left}
 
 pub allows-all : (all : Bool) (list : List ℕ) (w : ℕ) → all ≡ true → true ≡ allows all list w

@@ -101,7 +101,7 @@ module _ (found : Found) (store : List ℕ) (order : Order) (work area : List �
         let words : cutWords all list set ≡ map number (cut o labels) =
         ap₂ (λ (t : Bool) (v : List ℕ). cutWords t v set) (a ∙ ap allIn g ∙ order-all o) (b ∙ ap₂ listIn f g ∙ order-list d o l)
         ∙ ap (cutWords (isAll o) (listOf o)) (there ∙ x .words)
-        ∙ cut-number (D.names d) o labels (l .order) (λ y i. (packs y i .wide, packs y i .few)) in (
+        ∙ cut-number (D.names d) o labels (l .order) packs in (
           ap (A.Listed k) (m ∙ ap length words ∙ length-map (cut o labels) number) ∙ sym (ap alphabetOf (x .outcome)),
           w ∙ ap (λ (v : List ℕ). put v area) words ∙ sym (ap (λ (y : Outcome). answerWords y area) (x .outcome)),
         )

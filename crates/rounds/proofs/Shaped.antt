@@ -148,7 +148,7 @@ small-left : (names : ℕ) → names ≤ 12 → (ps : List Pair) → Each (Legal
 small-left names few [] h = tt
 small-left names few (p ∷ ps) h = (let l = h .0 .0 in omega arith, small-left names few ps (h .1))
 
-listed-packs : (names : ℕ) (ls : List Label) → Each (LegalLabel names) ls → AllPack names ls
+pub listed-packs : (names : ℕ) (ls : List Label) → Each (LegalLabel names) ls → AllPack names ls
 listed-packs names (b ∷ ls) h a (inl e) = subst (Packs names) (sym e) (record { wide = h .0 .0; few = h .0 .2 })
 listed-packs names (b ∷ ls) h a (inr m) = listed-packs names ls (h .1) a m
 

@@ -5,10 +5,7 @@ use mathlib.Core.List.{List, [], _∷_, _++_}
 use Prim.Native.Nat.{ℕ}
 use lib.Dec.{eqb}
 use lib.ListN.{length, drop}
-
-unfoldable pub listedIn : ℕ → List ℕ → Bool
-listedIn w [] = false
-listedIn w (v ∷ vs) = eqb w v || listedIn w vs
+use Rattle.sets.specs.Building.{listedIn}
 
 -- whether an order allows a word: `all` allows every one, a list what it lists
 unfoldable pub allows : Bool → List ℕ → ℕ → Bool

@@ -4,7 +4,8 @@ ghost use mathlib.Core.Bool.{_||_};
 ghost use Prim.Native.Nat.{_≤_};
 ghost use lib.Dec.{eqb};
 ghost use lib.ListN.{length};
-ghost use Rattle.rounds.specs.Cutting.{listedIn, allows, cutWords, put};
+ghost use Rattle.sets.specs.Building.{listedIn};
+ghost use Rattle.rounds.specs.Cutting.{allows, cutWords, put};
 
 // Whether a word is in a list.
 fn listed(list: &[u64], word: u64) -> bool

@@ -7,7 +7,7 @@ use native.Mathlib.Numerals.{add-one}
 use native.Mathlib.Omega.{arith}
 use lib.ListN.{length, getD, take, drop, set, replicate, length-set, length-replicate, getD-replicate, length-take, length-drop}
 use borrow.Author.Needs.{needs}
-use Rattle.rounds.specs.Cutting.{listedIn, allows, cutWords, put}
+use Rattle.rounds.specs.Cutting.{put}
 use Rattle.rounds.proofs.Filling.{Filling, filling-start, filling-step, filling-end, filling-read, length-zeros, length-part, getD-part}
 use Rattle.rounds.proofs.clearing.clear.Statement.{statement}
 use Rattle.rounds.proofs.clearing.clear.Tie as tie

@@ -8,7 +8,7 @@ use native.Mathlib.Omega.{arith}
 use lib.ListN.{length, getD, take, drop, set, replicate, length-set, length-replicate, getD-replicate, length-take, length-drop}
 use Rattle.rounds.proofs.Filling.{listed-here, listed-on, listed-out}
 use borrow.Author.Needs.{needs}
-use Rattle.rounds.specs.Cutting.{listedIn, allows, cutWords, put}
+use Rattle.sets.specs.Building.{listedIn}
 use Rattle.rounds.proofs.Filling.{Filling, filling-start, filling-step, filling-end, filling-read}
 use Rattle.rounds.proofs.cutting.listed.Statement.{statement}
 use Rattle.rounds.proofs.cutting.listed.Tie as tie

@@ -1,5 +1,6 @@
 -- `rounds::operators::of_wrap` meets its contract: each operator goes its way, with its list.
 -- Assumes nothing.
+use native.Mathlib.Omega.{arith}
 use borrow.Author.Needs.{needs}
 use Rattle.rounds.proofs.operators.of_wrap.Statement.{statement}
 use Rattle.rounds.proofs.operators.of_wrap.Tie as tie
@@ -12,79 +13,79 @@ use Rattle.table.proofs.lists.rule_words_of.Reads as rule-words-of-reads
 use Rattle.table.proofs.lists.words_of.Reads as words-of-reads
 
 part-at-requires : tie.Need-part-at-requires
-part-at-requires c κs = search needs
+part-at-requires c κs = (c .before .before .before .pre, omega arith)
 
 enum-known-operator : tie.Need-enum-known-operator
-enum-known-operator c = search needs
+enum-known-operator c = c .match .keys1
 
 words-of-requires : tie.Need-words-of-requires
-words-of-requires c κs = search needs
+words-of-requires c κs = tt
 
 add-image-requires : tie.Need-add-image-requires
-add-image-requires c κs = search needs
+add-image-requires c κs = tt
 
 enum-known-operator-2 : tie.Need-enum-known-operator-2
-enum-known-operator-2 c = search needs
+enum-known-operator-2 c = c .match .keys2
 
 words-of-requires-2 : tie.Need-words-of-requires-2
-words-of-requires-2 c κs = search needs
+words-of-requires-2 c κs = tt
 
 add-image-requires-2 : tie.Need-add-image-requires-2
-add-image-requires-2 c κs = search needs
+add-image-requires-2 c κs = tt
 
 enum-known-operator-3 : tie.Need-enum-known-operator-3
-enum-known-operator-3 c = search needs
+enum-known-operator-3 c = c .match .keys3
 
 words-of-requires-3 : tie.Need-words-of-requires-3
-words-of-requires-3 c κs = search needs
+words-of-requires-3 c κs = tt
 
 add-image-requires-3 : tie.Need-add-image-requires-3
-add-image-requires-3 c κs = search needs
+add-image-requires-3 c κs = tt
 
 enum-known-operator-4 : tie.Need-enum-known-operator-4
-enum-known-operator-4 c = search needs
+enum-known-operator-4 c = c .match .keys4
 
 rule-words-of-requires : tie.Need-rule-words-of-requires
-rule-words-of-requires c κs = search needs
+rule-words-of-requires c κs = tt
 
 communicate-requires : tie.Need-communicate-requires
-communicate-requires c κs = search needs
+communicate-requires c κs = tt
 
 enum-known-operator-5 : tie.Need-enum-known-operator-5
-enum-known-operator-5 c = search needs
+enum-known-operator-5 c = c .match .keys5
 
 words-of-requires-4 : tie.Need-words-of-requires-4
-words-of-requires-4 c κs = search needs
+words-of-requires-4 c κs = tt
 
 add-image-requires-4 : tie.Need-add-image-requires-4
-add-image-requires-4 c κs = search needs
+add-image-requires-4 c κs = tt
 
 same-length : tie.Need-same-length
-same-length c = search needs
+same-length c = c .before .before .add-image .kept .0
 
 returns : tie.Need-returns
 returns c = rw (c .before .before .before .before .before .before .operator .given .1) (rw (c .before .before .before .before .before .before .before .before .part-at .ensures, c .before .before .before .words-of .ensures) at (c .before .before .add-image .ensures))
 
 same-length-2 : tie.Need-same-length-2
-same-length-2 c = search needs
+same-length-2 c = c .before .before .add-image2 .kept .0
 
 returns-2 : tie.Need-returns-2
 returns-2 c = rw (c .before .before .before .before .before .before .operator2 .given .1) (rw (c .before .before .before .before .before .before .before .before .part-at .ensures, c .before .before .before .words-of2 .ensures) at (c .before .before .add-image2 .ensures))
 
 same-length-3 : tie.Need-same-length-3
-same-length-3 c = search needs
+same-length-3 c = c .before .before .add-image3 .kept .0
 
 returns-3 : tie.Need-returns-3
 returns-3 c = rw (c .before .before .before .before .before .before .operator3 .given .1) (rw (c .before .before .before .before .before .before .before .before .part-at .ensures, c .before .before .before .words-of3 .ensures) at (c .before .before .add-image3 .ensures))
 
 same-length-4 : tie.Need-same-length-4
-same-length-4 c = search needs
+same-length-4 c = c .before .before .communicate .kept .0
 
 returns-4 : tie.Need-returns-4
 returns-4 c = rw (c .before .before .before .before .before .before .operator4 .given .1) (rw (c .before .before .before .before .before .before .before .before .part-at .ensures, c .before .before .before .rule-words-of .ensures) at (c .before .before .communicate .ensures))
 
 same-length-5 : tie.Need-same-length-5
-same-length-5 c = search needs
+same-length-5 c = c .before .before .add-image4 .kept .0
 
 returns-5 : tie.Need-returns-5
 returns-5 c = rw (c .before .before .before .before .before .before .operator5 .given .1) (rw (c .before .before .before .before .before .before .before .before .part-at .ensures, c .before .before .before .words-of4 .ensures) at (c .before .before .add-image4 .ensures))
