@@ -2,6 +2,7 @@
 use crate::exchanging::exchanges;
 use crate::exchanging::first_rules;
 use crate::starts::HALF;
+use crate::starts::Part;
 use crate::starts::part_at;
 use sets::Built;
 use sets::Way;
@@ -16,20 +17,28 @@ ghost use Rattle.sets.specs.Building.{Grown};
 ghost use Rattle.rounds.specs.Making.{throughBuilt};
 ghost use Rattle.rounds.specs.Terms.{Low, partIn, ruleList, wayFor, wordsFor};
 
-fn communicate(
+// The labels of a part, on a way with its list.
+pub fn through(
     work: &mut [u64],
-    from: usize,
-    to: usize,
-    rules: &[u64],
+    part: Part,
+    way: Way,
+    list: &[u64],
     at: usize,
     most: usize,
 ) -> Built
-    ensures { λ r. ⌜ Grown (throughBuilt (roomAt at most (length (now (work .entry)))) Comm (ruleList (now (rules .entry))) (partBefore at from to (now (work .entry)))) at 0 (now (work .entry)) (now (work .exit)) r ⌝ }
+    ensures { λ r. ⌜ Grown (throughBuilt (roomAt at most (length (now (work .entry)))) way (now (list .entry)) (partBefore at (part .from) (part .to) (now (work .entry)))) at 0 (now (work .entry)) (now (work .exit)) r ⌝ }
+{
+    add_image(work, part.from, part.to, way, list, at, 0, most)
+}
+
+// No more words of the rules are lent than they have.
+fn communicate(work: &mut [u64], part: Part, rules: &[u64], at: usize, most: usize) -> Built
+    ensures { λ r. ⌜ Grown (throughBuilt (roomAt at most (length (now (work .entry)))) Comm (ruleList (now (rules .entry))) (partBefore at (part .from) (part .to) (now (work .entry)))) at 0 (now (work .entry)) (now (work .exit)) r ⌝ }
 {
     let first = first_rules(rules);
     let end = first.len();
     let list = exchanges(first);
-    add_image(work, from, to, Way::Comm, &list[..end], at, 0, most)
+    through(work, part, Way::Comm, &list[..end], at, most)
 }
 
 pub fn of_wrap(
@@ -45,59 +54,11 @@ pub fn of_wrap(
     ensures { λ r. ⌜ Grown (throughBuilt (roomAt at most (length (now (work .entry)))) (wayFor operator) (wordsFor (now (store .entry)) operator) (partIn at 2048 (now (this .entry)) t (now (work .entry)))) at 0 (now (work .entry)) (now (work .exit)) r ⌝ }
 {
     let part = part_at(this, t, HALF);
-    let from = part.from;
-    let to = part.to;
     match operator {
-        Operator::Block(place) => {
-            add_image(
-                work,
-                from,
-                to,
-                Way::Block,
-                words_of(store, place),
-                at,
-                0,
-                most,
-            )
-        }
-        Operator::Hide(place) => {
-            add_image(
-                work,
-                from,
-                to,
-                Way::Hide,
-                words_of(store, place),
-                at,
-                0,
-                most,
-            )
-        }
-        Operator::Rename(place) => {
-            add_image(
-                work,
-                from,
-                to,
-                Way::Rename,
-                words_of(store, place),
-                at,
-                0,
-                most,
-            )
-        }
-        Operator::Comm(place) => {
-            communicate(work, from, to, rule_words_of(store, place), at, most)
-        }
-        Operator::Allow(place) => {
-            add_image(
-                work,
-                from,
-                to,
-                Way::Allow,
-                words_of(store, place),
-                at,
-                0,
-                most,
-            )
-        }
+        Operator::Block(p) => through(work, part, Way::Block, words_of(store, p), at, most),
+        Operator::Hide(p) => through(work, part, Way::Hide, words_of(store, p), at, most),
+        Operator::Rename(p) => through(work, part, Way::Rename, words_of(store, p), at, most),
+        Operator::Comm(p) => communicate(work, part, rule_words_of(store, p), at, most),
+        Operator::Allow(p) => through(work, part, Way::Allow, words_of(store, p), at, most),
     }
 }

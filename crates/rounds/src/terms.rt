@@ -3,6 +3,7 @@
 use crate::making::both;
 use crate::making::leaf;
 use crate::operators::of_wrap;
+use crate::operators::through;
 use crate::starts::HALF;
 use crate::starts::left_of;
 use crate::starts::part_at;
@@ -12,7 +13,6 @@ use labels::bags::single;
 use labels::packing::tau;
 use sets::Built;
 use sets::Way;
-use sets::imaging::add_image;
 use sets::joining::union;
 use sets::multiplying::add_product;
 use table::Term;
@@ -52,7 +52,7 @@ fn of_one(
 {
     let part = part_at(starts, t, base);
     let none = [0u64];
-    add_image(work, part.from, part.to, Way::Copy, &none[..0], at, 0, most)
+    through(work, part, Way::Copy, &none[..0], at, most)
 }
 
 fn of_body(

@@ -1,5 +1,6 @@
 -- `rounds::alphabet` meets its contract
 -- Assumes nothing.
+use mathlib.Core.Path.{_∙_}
 use mathlib.Core.Logic.{inl, inr}
 use native.Mathlib.Omega.{arith}
 use Rattle.rounds.proofs.Listings.{answered-short, answered-illegal, answered-right}
@@ -25,19 +26,19 @@ returns-4 : tie.Need-returns-4
 returns-4 c = answered-illegal (c .before .before .before .before .before .before .before .before .before .args .table) (c .before .before .before .before .before .before .before .before .before .args .store .now) (c .before .before .before .before .before .before .before .before .before .args .order) (c .before .before .before .before .before .before .before .before .before .args .work .now) (c .before .before .before .before .before .before .before .before .before .args .answer .now) (inr (c .if4 .taken))
 
 until-stable-requires : tie.Need-until-stable-requires
-until-stable-requires c κs = search needs
+until-stable-requires c κs = (omega arith, omega arith, omega arith)
 
 listing-requires : tie.Need-listing-requires
-listing-requires c κs = search needs
+listing-requires c κs = tt
 
 clear-requires : tie.Need-clear-requires
-clear-requires c κs = search needs
+clear-requires c κs = omega (arith, c .before .before .before .before .before .before .before .before .until-stable .kept .1 .1 .0)
 
 same-length : tie.Need-same-length
-same-length c = search needs
+same-length c = c .before .before .clear .kept .0 ∙ c .before .before .before .before .before .before .before .before .before .before .before .until-stable .kept .1 .1 .0
 
 same-length-2 : tie.Need-same-length-2
-same-length-2 c = search needs
+same-length-2 c = c .before .before .before .before .before .before .listing .kept .1 .1 .1 .1 .0
 
 returns-5 : tie.Need-returns-5
 returns-5 c = answered-right (c .before .before .before .before .before .before .before .before .before .before .before .before .before .before .before .before .before .before .before .before .before .before .args .table) (c .before .before .before .before .before .before .before .before .before .before .before .before .before .before .before .before .before .before .before .before .before .before .args .store .now) (c .before .before .before .before .before .before .before .before .before .before .before .before .before .before .before .before .before .before .before .before .before .before .args .order) (c .before .before .before .before .before .before .before .before .before .before .before .before .before .before .before .before .before .before .before .before .before .before .args .work .now) (c .before .before .before .before .before .before .before .before .before .before .before .before .before .before .before .before .before .before .before .before .before .before .args .answer .now) (c .before .before .before .before .before .before .before .before .before .before .before .until-stable .result) _ _ _ (c .before .before .before .before .before .before .listing .result) (omega arith) (omega arith) (c .before .before .before .before .before .before .before .before .before .before .before .until-stable .ensures) (c .before .before .before .before .before .before .listing .ensures) (c .before .before .clear .ensures)

@@ -13,10 +13,10 @@ use Rattle.rounds.proofs.cutting.cut.Reads as cut-reads
 use Rattle.table.proofs.lists.words_of.Reads as words-of-reads
 
 enum-known-found : tie.Need-enum-known-found
-enum-known-found c = search needs
+enum-known-found c = c .match .keys1
 
 enum-told : tie.Need-enum-told
-enum-told c = search needs
+enum-told c = c .match .keys2
 
 returns : tie.Need-returns
 returns c = listing-large (c .before .before .before .before .before .args .found) (c .before .before .before .before .before .args .store .now) (c .before .before .before .before .before .args .order) (c .before .before .before .before .before .args .work .now) (c .before .before .before .before .before .args .answer .now) (c .enum-told .given .1)
@@ -40,7 +40,7 @@ part-set-end : tie.Need-part-set-end
 part-set-end c = search needs
 
 enum-told-2 : tie.Need-enum-told-2
-enum-told-2 c = search needs
+enum-told-2 c = c .match2 .keys1
 
 slice-aggregate-cut : tie.Need-slice-aggregate-cut
 slice-aggregate-cut c = search needs
@@ -49,22 +49,22 @@ cut-requires : tie.Need-cut-requires
 cut-requires c κs = search needs
 
 enum-known-order : tie.Need-enum-known-order
-enum-known-order c = search needs
+enum-known-order c = c .match2 .keys2
 
 words-of-requires : tie.Need-words-of-requires
-words-of-requires c κs = search needs
+words-of-requires c κs = tt
 
 cut-requires-2 : tie.Need-cut-requires-2
 cut-requires-2 c κs = search needs
 
 same-length : tie.Need-same-length
-same-length c = search needs
+same-length c = c .before .before .cut .kept .1 .1 .1 .0
 
 returns-5 : tie.Need-returns-5
 returns-5 c = listing-cut (c .before .before .before .before .before .before .before .before .before .before .before .before .before .before .before .before .before .args .found) (c .before .before .before .before .before .before .before .before .before .before .before .before .before .before .before .before .before .args .store .now) (c .before .before .before .before .before .before .before .before .before .before .before .before .before .before .before .before .before .args .order) (c .before .before .before .before .before .before .before .before .before .before .before .before .before .before .before .before .before .args .work .now) (c .before .before .before .before .before .before .before .before .before .before .before .before .before .before .before .before .before .args .answer .now) (c .before .before .before .before .before .before .before .before .before .before .before .before .found .given .0 .0) (c .before .before .before .before .before .before .before .before .before .before .before .before .found .given .0 .1 .0) (c .before .before .before .before .before .before .before .before .before .before .before .before .found .given .0 .1 .1 .0) (c .before .before .before .before .before .before .before .before .before .before .before .before .found .given .1) _ _ _ _ _ (rw (c .before .before .before .before .before .enum-told2 .given .1)) (rw (c .before .before .before .before .before .enum-told2 .given .1)) refl (c .before .before .cut .ensures .0) (c .before .before .cut .ensures .1)
 
 same-length-2 : tie.Need-same-length-2
-same-length-2 c = search needs
+same-length-2 c = c .before .before .cut2 .kept .1 .1 .1 .0
 
 returns-6 : tie.Need-returns-6
 returns-6 c = listing-cut (c .before .before .before .before .before .before .before .before .before .before .before .before .before .before .before .before .before .before .args .found) (c .before .before .before .before .before .before .before .before .before .before .before .before .before .before .before .before .before .before .args .store .now) (c .before .before .before .before .before .before .before .before .before .before .before .before .before .before .before .before .before .before .args .order) (c .before .before .before .before .before .before .before .before .before .before .before .before .before .before .before .before .before .before .args .work .now) (c .before .before .before .before .before .before .before .before .before .before .before .before .before .before .before .before .before .before .args .answer .now) (c .before .before .before .before .before .before .before .before .before .before .before .before .before .found .given .0 .0) (c .before .before .before .before .before .before .before .before .before .before .before .before .before .found .given .0 .1 .0) (c .before .before .before .before .before .before .before .before .before .before .before .before .before .found .given .0 .1 .1 .0) (c .before .before .before .before .before .before .before .before .before .before .before .before .before .found .given .1) _ _ _ _ _ (rw (c .before .before .before .before .before .before .order .given .1)) (rw (c .before .before .before .before .before .before .order .given .1) (c .before .before .before .before .words-of .ensures)) refl (c .before .before .cut2 .ensures .0) (c .before .before .cut2 .ensures .1)

@@ -8,10 +8,10 @@ use Rattle.rounds.proofs.operators.communicate.Reads as reads
 use Rattle.rounds.proofs.operators.communicate.Lts as lts
 use Rattle.rounds.proofs.exchanging.exchanges.Reads as exchanges-reads
 use Rattle.rounds.proofs.exchanging.first_rules.Reads as first-rules-reads
-use Rattle.sets.proofs.imaging.add_image.Reads as add-image-reads
+use Rattle.rounds.proofs.operators.through.Reads as through-reads
 
 first-rules-requires : tie.Need-first-rules-requires
-first-rules-requires c κs = search needs
+first-rules-requires c κs = tt
 
 exchanges-requires : tie.Need-exchanges-requires
 exchanges-requires c κs = first-few (c .before .before .before .args .rules .now) (c .first-rules .result .now) (c .first-rules .ensures)
@@ -19,17 +19,17 @@ exchanges-requires c κs = first-few (c .before .before .before .args .rules .no
 array-share-prefix-list : tie.Need-array-share-prefix-list
 array-share-prefix-list c = lent-within (c .before .before .first-rules .result .now) (c .before .exchanges .result) (first-few (c .before .before .before .before .before .args .rules .now) (c .before .before .first-rules .result .now) (c .before .before .first-rules .ensures)) (c .before .exchanges .ensures)
 
-slice-aggregate-add-image : tie.Need-slice-aggregate-add-image
-slice-aggregate-add-image c = lent-length (c .before .before .before .first-rules .result .now) (c .before .before .exchanges .result) (first-few (c .before .before .before .before .before .before .args .rules .now) (c .before .before .before .first-rules .result .now) (c .before .before .before .first-rules .ensures)) (c .before .before .exchanges .ensures)
+slice-aggregate-through : tie.Need-slice-aggregate-through
+slice-aggregate-through c = lent-length (c .before .before .before .first-rules .result .now) (c .before .before .exchanges .result) (first-few (c .before .before .before .before .before .before .args .rules .now) (c .before .before .before .first-rules .result .now) (c .before .before .before .first-rules .ensures)) (c .before .before .exchanges .ensures)
 
-add-image-requires : tie.Need-add-image-requires
-add-image-requires c κs = search needs
+through-requires : tie.Need-through-requires
+through-requires c κs = tt
 
 same-length : tie.Need-same-length
-same-length c = search needs
+same-length c = c .before .before .through .kept .0
 
 returns : tie.Need-returns
-returns c = rw (c .before .before .before .before .before .exchanges .ensures, c .before .before .before .before .before .before .first-rules .ensures) at (c .before .before .add-image .ensures)
+returns c = rw (c .before .before .before .before .before .exchanges .ensures, c .before .before .before .before .before .before .first-rules .ensures) at (c .before .before .through .ensures)
 
 pub communicate-spec : {M : Type 1} → statement M
 communicate-spec =
@@ -38,7 +38,7 @@ communicate-spec =
     first-rules-requires
     exchanges-requires
     array-share-prefix-list
-    slice-aggregate-add-image
-    add-image-requires
+    slice-aggregate-through
+    through-requires
     same-length
     returns)
