@@ -3,12 +3,12 @@
 use mathlib.Core.Path.{_≡_, refl, sym, ap, ap₂, subst, _∙_}
 use mathlib.Core.Logic.{_⊎_, inl, inr}
 use mathlib.Core.List.{List, [], _∷_, _++_, map, append-assoc, append-nil}
-use Prim.Native.Nat.{ℕ, zero, suc, _+_, _-_, _≤_, _<_, min}
-use native.Mathlib.Nat.{le-of-suc-le-suc, not-suc-le-zero, zero-add, min-eq-left, suc-add, add-sub-of-le}
+use Prim.Native.Nat.{ℕ, zero, suc, _+_, _-_, _≤_, _<_}
+use native.Mathlib.Nat.{le-of-suc-le-suc, zero-add, min-eq-left, suc-add, add-sub-of-le}
 use native.Mathlib.Omega.{arith}
 use native.Mathlib.Decide.{decLt}
-use lib.ListN.{length, getD, take, drop, set, length-append, length-map, length-take, length-drop, take-append-drop}
-use lib.Seq.{take-all, drop-drop, take-add, take-append-add, take-append-le, drop-append-le, drop-append-seam, take-append-seam, drop-append-add, take-take, take-nil}
+use lib.ListN.{length, getD, take, drop, length-append, length-map, length-take, length-drop}
+use lib.Seq.{take-all, drop-drop, take-append-add, take-append-le, drop-append-le, take-append-seam, drop-append-add, take-take, take-nil}
 use Rattle.meaning.specs.Labels.{Label, number}
 use Rattle.meaning.specs.Sets.{at}
 use Rattle.meaning.specs.Limits.{total}

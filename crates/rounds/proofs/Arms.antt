@@ -1,12 +1,11 @@
 -- The set of a term, by the shape of the term: built at its place from parts of the work area, it is laid there, or a limit is
 -- passed.
 -- Assumes nothing.
-use mathlib.Core.Path.{_≡_, refl, sym, ap, ap₂, subst, _∙_}
-use mathlib.Core.Logic.{_⊎_, inl, inr}
+use mathlib.Core.Path.{_≡_, refl, sym, ap, subst, _∙_}
+use mathlib.Core.Logic.{inl, inr}
 use mathlib.Core.Bool.{Bool}
 use mathlib.Core.List.{List, [], _∷_, _++_, map}
 use Prim.Native.Nat.{ℕ, suc, _+_, _≤_, _<_, zero-le}
-use native.Mathlib.Nat.{le-refl}
 use native.Mathlib.Omega.{arith}
 use native.Mathlib.Decide.{decLt}
 use borrow.Author.Tests.{lt-leb, le-leb}
@@ -16,21 +15,19 @@ use Rattle.meaning.specs.Sets.{_∈_, at, ascending, spread, product}
 use Rattle.meaning.specs.Descriptions.{Description, Operator, names, termCount, termAt, bodyAt}
 use Rattle.meaning.specs.Legal.{LegalOperator}
 use Rattle.meaning.specs.Rounds.{Shape, leaf, reference, one, either, both, joint, through, shape, made, image, equationSets}
-use Rattle.meaning.specs.Limits.{total}
 use Rattle.meaning.proofs.Members.{in-ascending}
 use Rattle.labels.proofs.Meant.{Packs}
 use Rattle.sets.specs.declared.Built.{Built}
-use Rattle.sets.specs.declared.Built.the-variants.{TooLarge, Holds}
 use Rattle.sets.specs.declared.Way.the-variants.{Copy}
-use Rattle.sets.specs.Parts.{partBefore, setAt}
+use Rattle.sets.specs.Parts.{partBefore}
 use Rattle.sets.specs.Building.{Building, done, Grown}
 use Rattle.sets.proofs.Meant.{AllPack}
 use Rattle.rounds.specs.Making.{leafBuilt, throughBuilt, eitherBuilt, jointBuilt, bothBuilt}
 use Rattle.rounds.specs.Terms.{fitted, copyBuilt}
-use Rattle.rounds.specs.Working.{half, partly, setOf, Ready, TermDone, TermOver, Worked}
+use Rattle.rounds.specs.Working.{half, partly, setOf, Ready, Worked}
 use Rattle.rounds.proofs.Shaped.{Settled, wayOf, wayWords, leaf-settled, copy-settled, either-settled, joint-settled, both-settled, through-settled}
 use Rattle.rounds.proofs.Fitting.{copy-fits, leaf-fits, through-fits, either-fits, joint-fits, both-fits}
-use Rattle.rounds.proofs.Settling.{placeOf, leftOf, roomOf, settled-done, settled-over}
+use Rattle.rounds.proofs.Settling.{placeOf, roomOf, settled-done, settled-over}
 use Rattle.rounds.proofs.Operands.{term-part, term-packs, term-ascends, body-part, body-packs}
 
 module _ (d : Description) (k n : ℕ) (older before this work work′ : List ℕ) (answer : Built) (r : Ready d k n older before this work) (more : n < termCount d) where

@@ -1,22 +1,21 @@
 -- A set copied from the round before: what is laid, and that it is the term's set where what that is built of stayed.
 -- Assumes nothing.
 use mathlib.Core.Path.{_≡_, refl, sym, ap, ap₂, subst, _∙_}
-use mathlib.Core.Logic.{_⊎_, inl, inr}
-use mathlib.Core.Bool.{Bool, true, false, _&&_}
-use mathlib.Core.List.{List, [], _∷_, _++_, map}
+use mathlib.Core.Logic.{_⊎_, inl}
+use mathlib.Core.Bool.{_&&_}
+use mathlib.Core.List.{List, [], _∷_, _++_}
 use Prim.Native.Nat.{ℕ, zero, suc, _+_, _-_, _≤_, _<_, zero-le}
 use native.Mathlib.Nat.{le-refl}
 use native.Mathlib.Omega.{arith}
 use borrow.Author.Tests.{le-leb, lt-leb}
 use lib.Dec.{T, eqb→eq}
-use lib.ListN.{length, getD, take, drop, drop-of-length-le, length-take}
+use lib.ListN.{length, getD, take, drop}
 use lib.Seq.{take-take, paste-zero, length-slice}
-use Rattle.meaning.specs.Labels.{Label, number}
+use Rattle.meaning.specs.Labels.{Label}
 use Rattle.meaning.specs.Sets.{at, ascending, spread, product}
-use Rattle.meaning.specs.Descriptions.{Description, Order, all, Term, act, tau, delta, ref, sum, cond, choice, ifelse, seq, merge, lmerge, sync, wrap, Operator, names, termCount, equations, termAt, bodyAt}
-use Rattle.meaning.specs.Legal.{Each, LegalTerm, Legal}
+use Rattle.meaning.specs.Descriptions.{Description, all, Term, act, tau, delta, ref, sum, cond, choice, ifelse, seq, merge, lmerge, sync, wrap, termCount, equations, termAt, bodyAt}
+use Rattle.meaning.specs.Legal.{LegalTerm}
 use Rattle.meaning.specs.Rounds.{Shape, leaf, reference, one, either, both, joint, through, shape, made, next, roundSets, equationSets}
-use Rattle.meaning.specs.Limits.{total}
 use Rattle.meaning.proofs.Tests.{and-left, and-right}
 use Rattle.meaning.proofs.Carried.{worked-last}
 use Rattle.meaning.proofs.Growth.{round-length, at-body}
@@ -27,11 +26,10 @@ use Rattle.table.proofs.Stored.{body-of}
 use Rattle.sets.specs.declared.Built.{Built}
 use Rattle.sets.specs.declared.Built.the-variants.{TooLarge, Holds}
 use Rattle.sets.specs.Parts.{partBefore, roomAt, laid}
-use Rattle.sets.specs.Building.{Building, Grown, pickBuilt}
-use Rattle.rounds.specs.Laid.{Begins}
+use Rattle.sets.specs.Building.{Grown}
 use Rattle.rounds.specs.Steady.{sizeAt, stays}
 use Rattle.rounds.specs.Working.{half, whole, partly, setOf, Ready, Worked}
-use Rattle.rounds.specs.Terms.{Low, partIn, placeIn, leftIn, fitted, copyBuilt, unchanged}
+use Rattle.rounds.specs.Terms.{Low, partIn, placeIn, leftIn, copyBuilt, unchanged}
 use Rattle.rounds.proofs.Areas.{part-taken}
 use Rattle.rounds.proofs.Turning.{same-size}
 use Rattle.rounds.proofs.Staying.{size-is, stays→}

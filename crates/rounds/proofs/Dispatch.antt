@@ -1,15 +1,15 @@
 -- The set of a term of the table of a legal description, built as its kind says, is the term's set, or passes a limit.
 -- Assumes nothing.
-use mathlib.Core.Path.{_≡_, refl, sym, ap, ap₂, subst, _∙_}
-use mathlib.Core.List.{List, [], _∷_, _++_, map}
+use mathlib.Core.Path.{_≡_, refl, sym, ap, subst, _∙_}
+use mathlib.Core.List.{List, [], _∷_}
 use Prim.Native.Nat.{ℕ, zero, suc, _+_, _-_, _≤_, _<_}
 use native.Mathlib.Nat.{le-refl}
 use native.Mathlib.Omega.{arith}
-use lib.ListN.{length, getD, take, length-replicate}
+use lib.ListN.{length, getD, length-replicate}
 use lib.Seq.{take-all}
-use Rattle.meaning.specs.Labels.{Label, number, empty, single}
-use Rattle.meaning.specs.Descriptions.{Description, Order, all, Term, act, tau, delta, ref, sum, cond, choice, ifelse, seq, merge, lmerge, sync, wrap, Operator, names, termCount, equations, termAt, bodyAt}
-use Rattle.meaning.specs.Legal.{Each, LegalTerm, Legal}
+use Rattle.meaning.specs.Labels.{empty, single}
+use Rattle.meaning.specs.Descriptions.{Description, Order, all, Term, act, tau, delta, ref, sum, cond, choice, ifelse, seq, merge, lmerge, sync, wrap, names, termCount, termAt}
+use Rattle.meaning.specs.Legal.{Each, LegalTerm}
 use Rattle.meaning.specs.Rounds.{shape, equationSets}
 use Rattle.meaning.specs.Limits.{total}
 use Rattle.meaning.proofs.Bags.{length-several, size-several, size-empty}
@@ -22,11 +22,11 @@ use Rattle.labels.proofs.Meant.{Packs, single-number}
 use Rattle.sets.specs.declared.Built.{Built}
 use Rattle.sets.specs.declared.Way.{Way}
 use Rattle.sets.specs.declared.Way.the-variants.{Copy}
-use Rattle.sets.specs.Parts.{partBefore, roomAt}
+use Rattle.sets.specs.Parts.{roomAt}
 use Rattle.sets.specs.Building.{Grown}
 use Rattle.rounds.specs.Making.{leafBuilt, throughBuilt}
 use Rattle.rounds.specs.Working.{half, partly, Ready, Worked}
-use Rattle.rounds.specs.Terms.{partIn, placeIn, leftIn, wayFor, wordsFor, built}
+use Rattle.rounds.specs.Terms.{partIn, placeIn, leftIn, wayFor, built}
 use Rattle.rounds.proofs.Settling.{placeOf, leftOf}
 use Rattle.rounds.proofs.Shaped.{wayWords}
 use Rattle.rounds.proofs.Stores.{way-same, words-same}

@@ -1,15 +1,14 @@
 -- The rules of comm, taken two words at a time.
 -- Assumes nothing.
-use mathlib.Core.Path.{_≡_, refl, sym, ap, ap₂, subst, _∙_}
+use mathlib.Core.Path.{_≡_, refl, ap, subst, _∙_}
 use mathlib.Core.List.{List, [], _∷_, _++_}
 use Prim.Native.Nat.{ℕ, zero, suc, _+_, _-_, _≤_, _<_, zero-le, suc-le-suc}
 use native.Mathlib.Nat.{sub-zero, zero-sub, suc-sub-suc}
 use native.Mathlib.Numerals.{add-one, add-two}
 use native.Mathlib.Omega.{arith}
-use lib.ListN.{length, getD, take, drop, set, replicate, length-append, length-take, length-drop, drop-of-length-le}
+use lib.ListN.{length, getD, take, drop, set, replicate, length-append, length-take, length-drop}
 use lib.Seq.{drop-cons}
 use Rattle.meaning.specs.Labels.{number, single}
-use Rattle.rounds.specs.Cutting.{put}
 use Rattle.rounds.specs.Exchanging.{exchangeWords, exchangeList}
 use Rattle.rounds.proofs.Filling.{Filling, filling-start, filling-step, filling-end, left-first, length-zeros}
 

@@ -1,9 +1,9 @@
 -- What is built in a room stays within it, whole or not.
 -- Assumes nothing.
-use mathlib.Core.Path.{_≡_, refl, subst}
+use mathlib.Core.Path.{_≡_, refl}
 use mathlib.Core.Bool.{Bool, true, false}
-use mathlib.Core.List.{List, [], _∷_}
-use Prim.Native.Nat.{ℕ, _≤_, max, zero-le}
+use mathlib.Core.List.{List, []}
+use Prim.Native.Nat.{ℕ, _≤_, zero-le}
 use native.Mathlib.Omega.{arith}
 use lib.Dec.{leb}
 use lib.ListN.{length}
@@ -11,7 +11,7 @@ use borrow.Author.Tests.{leb-true}
 use Rattle.labels.specs.Packing.{packed}
 use Rattle.sets.specs.declared.Way.{Way}
 use Rattle.sets.specs.declared.Way.the-variants.{Plus}
-use Rattle.sets.specs.Building.{Building, goesOn, imaged, row, multiplied}
+use Rattle.sets.specs.Building.{goesOn, imaged, row, multiplied}
 use Rattle.sets.specs.Joining.{joined, ascent, fitting, united}
 use Rattle.sets.proofs.Steps.{Steady, steady-each, steady-enter, steady-imaged}
 use Rattle.rounds.specs.Making.{leafBuilt, throughBuilt, eitherBuilt, jointBuilt, bothBuilt}

@@ -1,14 +1,13 @@
 -- The cut to the order, word by word.
 -- Assumes nothing.
-use mathlib.Core.Path.{_≡_, refl, sym, ap, subst, _∙_}
+use mathlib.Core.Path.{_≡_, refl, ap, _∙_}
 use mathlib.Core.Bool.{Bool, true, false}
 use mathlib.Core.List.{List, [], _∷_}
-use Prim.Native.Nat.{ℕ, zero, suc, _+_, _≤_, _<_, zero-le, suc-le-suc}
+use Prim.Native.Nat.{ℕ, suc, _+_, _≤_, _<_, zero-le, suc-le-suc}
 use native.Mathlib.Nat.{le-step}
-use native.Mathlib.Numerals.{add-one}
 use native.Mathlib.Omega.{arith}
 use borrow.Author.Tests.{eq-eqb, ne-eqb}
-use lib.ListN.{length, getD, take, drop, set, drop-of-length-le, length-drop}
+use lib.ListN.{length, getD, drop, set, drop-of-length-le, length-drop}
 use Rattle.sets.specs.Building.{listedIn}
 use Rattle.rounds.specs.Cutting.{allows, cutWords, put}
 use Rattle.rounds.proofs.Filling.{Filling, filling-start, filling-step, filling-end, left-first, cut-taken, cut-left}

@@ -17,11 +17,10 @@ use Rattle.meaning.specs.Descriptions as D
 use Rattle.meaning.specs.Legal.{LegalOrder, Legal}
 use Rattle.meaning.specs.Rounds.{Rounds, roundSets}
 use Rattle.meaning.specs.Limits.{someOver, over}
-use Rattle.meaning.specs.Answers.{Outcome, tooLarge, listed, Lists, Answers, cut, answer}
+use Rattle.meaning.specs.Answers.{Outcome, tooLarge, listed, Answers, cut, answer}
 use Rattle.meaning.proofs.Limits.{over-one, over-some, rounds-bound}
 use Rattle.meaning.proofs.Lengths.{round-full}
 use Rattle.meaning.proofs.Answers.{answer-right}
-use Rattle.table.specs.declared.Place.{Place}
 use Rattle.table.specs.declared.Table.{Table}
 use Rattle.table.specs.declared.Order.{Order}
 use Rattle.table.specs.declared.Order.the-variants.{All, Only}
@@ -34,7 +33,7 @@ use Rattle.rounds.specs.declared.Answer.the-variants as A
 use Rattle.rounds.specs.declared.turns.Found.{Found}
 use Rattle.rounds.specs.declared.turns.Found.the-variants as F
 use Rattle.rounds.specs.Cutting.{cutWords, put}
-use Rattle.rounds.specs.Working.{whole, Kept}
+use Rattle.rounds.specs.Working.{whole}
 use Rattle.rounds.specs.Alphabets.{alphabetOf, answerWords, cleared, Answered, Stands, Ends, Reached, Listing}
 use Rattle.rounds.proofs.Areas.{part-taken}
 use Rattle.rounds.proofs.Answering.{isAll, listOf, cut-number}

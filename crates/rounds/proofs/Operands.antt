@@ -1,16 +1,16 @@
 -- The sets that a term's set is built of: where they stand in the work area, and that they are sets of labels that words pack.
 -- Assumes nothing.
 use mathlib.Core.Path.{_≡_, refl, sym, ap, ap₂, subst, _∙_}
-use mathlib.Core.Logic.{_⊎_, inl, inr}
+use mathlib.Core.Logic.{inl, inr}
 use mathlib.Core.List.{List, [], _∷_, map}
 use Prim.Native.Nat.{ℕ, zero, suc, _+_, _≤_, _<_}
 use native.Mathlib.Omega.{arith}
 use native.Mathlib.Decide.{decLt}
 use lib.Dec.{T}
-use lib.ListN.{length, getD, take, drop}
+use lib.ListN.{getD, drop}
 use lib.Seq.{take-take}
 use Rattle.meaning.specs.Labels.{Label, size, number}
-use Rattle.meaning.specs.Sets.{_∈_, at, ascending}
+use Rattle.meaning.specs.Sets.{at, ascending}
 use Rattle.meaning.specs.Descriptions.{Description, names, termCount, termAt, bodyAt}
 use Rattle.meaning.specs.Rounds.{shape, made, worked, next, roundSets, equationSets}
 use Rattle.meaning.specs.Limits.{total, someLong, someOver, over}
@@ -19,7 +19,6 @@ use Rattle.meaning.proofs.Carried.{worked-earlier, carried}
 use Rattle.meaning.proofs.Growth.{round-length, at-body}
 use Rattle.meaning.proofs.Lengths.{Full, round-full}
 use Rattle.meaning.proofs.Limits.{long, over-one, over-some}
-use Rattle.labels.proofs.Meant.{Packs}
 use Rattle.sets.specs.Parts.{part, partBefore}
 use Rattle.sets.proofs.Meant.{AllPack, ascending-same}
 use Rattle.rounds.specs.Laid.{Laid}

@@ -2,22 +2,21 @@
 -- Assumes nothing.
 use mathlib.Core.Path.{_≡_, refl, sym, ap, ap₂, subst, _∙_}
 use mathlib.Core.List.{List, [], _∷_, _++_, map}
-use Prim.Native.Nat.{ℕ, zero, suc, pred, _+_, _-_, _≤_, _<_}
-use native.Mathlib.Nat.{le-refl, min-eq-left, add-zero}
+use Prim.Native.Nat.{ℕ, suc, _+_, _-_, _≤_, _<_}
+use native.Mathlib.Nat.{le-refl, min-eq-left}
 use native.Mathlib.Omega.{arith}
 use native.Mathlib.Decide.{decLt}
 use lib.Dec.{T}
-use lib.ListN.{length, getD, take, drop, set, length-append, length-map, length-take, length-drop, length-set}
-use lib.Seq.{take-all, take-append-le, drop-append-add, getD-set-same, getD-set-other, take-take, drop-drop, take-append-seam, drop-append-seam}
+use lib.ListN.{length, getD, take, drop, set, length-append, length-map, length-take, length-drop}
+use lib.Seq.{take-all, take-append-le, drop-append-add, getD-set-same, getD-set-other, take-take, drop-drop}
 use Rattle.meaning.specs.Labels.{Label, number}
-use Rattle.meaning.specs.Descriptions.{Description, termCount, all}
-use Rattle.meaning.specs.Rounds.{worked, next, roundSets, equationSets}
+use Rattle.meaning.specs.Descriptions.{Description, termCount}
+use Rattle.meaning.specs.Rounds.{worked, roundSets, equationSets}
 use Rattle.meaning.specs.Limits.{total, over}
 use Rattle.meaning.proofs.Carried.{length-worked}
 use Rattle.meaning.proofs.Limits.{over-all}
-use Rattle.meaning.proofs.Outcomes.{worked-over}
-use Rattle.rounds.specs.Laid.{flat, Begins, Laid}
-use Rattle.rounds.specs.Working.{half, whole, partly, setOf, Ready, Kept, TermDone, TermOver, RoundDone, RoundOver}
+use Rattle.rounds.specs.Laid.{Laid}
+use Rattle.rounds.specs.Working.{half, whole, partly, setOf, Ready, Kept, TermDone}
 use Rattle.rounds.proofs.Areas.{laid-kept, laid-more, total-more}
 
 pub kept-self : (work : List ℕ) → Kept work work

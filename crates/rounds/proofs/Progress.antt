@@ -2,8 +2,8 @@
 -- Assumes nothing.
 use mathlib.Core.Path.{_≡_, refl, sym, ap, ap₂, subst, _∙_}
 use mathlib.Core.Bool.{Bool, true, false}
-use mathlib.Core.List.{List, [], _∷_}
-use Prim.Native.Nat.{ℕ, zero, suc, _+_, _-_, _≤_, _<_, zero-le}
+use mathlib.Core.List.{List}
+use Prim.Native.Nat.{ℕ, _+_, _-_, _≤_, _<_, zero-le}
 use native.Mathlib.Numerals.{add-one}
 use native.Mathlib.Omega.{arith}
 use native.Mathlib.Decide.{decLt, ℕ-discrete}
@@ -21,7 +21,7 @@ use Rattle.sets.specs.declared.Built.{Built}
 use Rattle.sets.specs.declared.Built.the-variants.{TooLarge, Holds}
 use Rattle.sets.specs.Parts.{roomAt}
 use Rattle.sets.specs.Building.{Grown}
-use Rattle.rounds.specs.Working.{half, whole, Ready, Kept, TermDone, Worked, Between}
+use Rattle.rounds.specs.Working.{half, whole, Ready, Kept, Worked, Between}
 use Rattle.rounds.specs.Terms.{Low, partIn, placeIn, leftIn, built, copyBuilt, unchanged}
 use Rattle.rounds.specs.Passes.{TermWorked, Passed}
 use Rattle.rounds.proofs.Filling.{length-zeros}

@@ -1,10 +1,10 @@
 -- Round after round: what holds before each, and what the last comes to.
 -- Assumes nothing.
-use mathlib.Core.Path.{_≡_, refl, sym, ap, ap₂, subst, _∙_}
-use mathlib.Core.Logic.{_⊎_, inl, inr}
+use mathlib.Core.Path.{_≡_, refl, sym, ap, subst, _∙_}
+use mathlib.Core.Logic.{_⊎_, inr}
 use mathlib.Core.Bool.{Bool, true, false}
-use mathlib.Core.List.{List, [], _∷_, _++_, map}
-use Prim.Native.Nat.{ℕ, zero, suc, _+_, _-_, _≤_, _<_, zero-le}
+use mathlib.Core.List.{List, [], _++_}
+use Prim.Native.Nat.{ℕ, suc, _+_, _-_, _≤_}
 use native.Mathlib.Nat.{le-refl, zero-add}
 use native.Mathlib.Numerals.{add-one}
 use native.Mathlib.Omega.{arith}
@@ -12,27 +12,25 @@ use native.Mathlib.Decide.{decLt}
 use lib.Dec.{T}
 use lib.ListN.{length, getD, take, drop, replicate, getD-replicate, List·getD-eq-default}
 use lib.Seq.{take-all, take-nil}
-use Rattle.meaning.specs.Labels.{Label, number}
-use Rattle.meaning.specs.Sets.{at}
+use Rattle.meaning.specs.Labels.{Label}
 use Rattle.meaning.specs.Descriptions as D
 use Rattle.meaning.specs.Legal.{Legal}
-use Rattle.meaning.specs.Rounds.{roundSets, next, equationSets, bodySets}
-use Rattle.meaning.specs.Limits.{total, over}
+use Rattle.meaning.specs.Rounds.{roundSets, next, bodySets}
+use Rattle.meaning.specs.Limits.{total}
 use Rattle.meaning.proofs.Carried.{length-worked}
 use Rattle.meaning.proofs.Stable.{Stable}
 use Rattle.meaning.proofs.Outcomes.{passed-answer, stable-answer, rounds-so-far}
 use Rattle.table.specs.declared.Table.{Table}
 use Rattle.table.specs.Encoded.{storeOf, tableOf}
 use Rattle.table.proofs.Stored.{bodies-of}
-use Rattle.sets.specs.Parts.{part}
 use Rattle.rounds.specs.declared.passes.Round.{Round}
 use Rattle.rounds.specs.declared.turns.Found.the-variants.{TooLarge, At}
-use Rattle.rounds.specs.Laid.{flat, Begins, Laid}
+use Rattle.rounds.specs.Laid.{flat, Begins}
 use Rattle.rounds.specs.Steady.{allStay}
 use Rattle.rounds.specs.Working.{half, whole, Kept, RoundDone, RoundOver, Between}
 use Rattle.rounds.specs.Terms.{Low}
 use Rattle.rounds.specs.Passes.{RoundEnds, Passed}
-use Rattle.rounds.specs.Alphabets.{Stands, Reached}
+use Rattle.rounds.specs.Alphabets.{Reached}
 use Rattle.rounds.proofs.Areas.{laid-part, total-take, total-part}
 use Rattle.rounds.proofs.Filling.{length-zeros}
 use Rattle.rounds.proofs.Passing.{kept-self, kept-trans, at-most}

@@ -1,31 +1,30 @@
 -- A term's set laid in the work area, or a limit passed: what building it at its place comes to.
 -- Assumes nothing.
-use mathlib.Core.Path.{_≡_, refl, sym, ap, ap₂, subst, _∙_}
+use mathlib.Core.Path.{_≡_, refl, sym, ap, subst, _∙_}
 use mathlib.Core.Logic.{_⊎_, inl, inr}
-use mathlib.Core.Bool.{Bool, true, false, _||_}
+use mathlib.Core.Bool.{Bool, false}
 use mathlib.Core.List.{List, [], _∷_, _++_, map, append-assoc}
-use Prim.Native.Nat.{ℕ, zero, suc, _+_, _-_, _≤_, _<_, min, max}
+use Prim.Native.Nat.{ℕ, _+_, _-_, _≤_, _<_, min}
 use native.Mathlib.Omega.{arith}
 use native.Mathlib.Decide.{decLt}
 use lib.Dec.{T, ltb, ltb→lt}
-use lib.ListN.{length, take, drop, length-map, length-take, length-drop, length-append}
+use lib.ListN.{length, take, drop, length-map}
 use Rattle.meaning.specs.Labels.{Label, size, number}
-use Rattle.meaning.specs.Sets.{_∈_, ascending}
 use Rattle.meaning.specs.Descriptions.{Description, names, termAt}
 use Rattle.meaning.specs.Rounds.{shape, made, equationSets}
 use Rattle.meaning.specs.Limits.{total, someLong, someOver, over}
-use Rattle.meaning.proofs.Tests.{or-cases, or-left, or-right}
+use Rattle.meaning.proofs.Tests.{or-cases}
 use Rattle.meaning.proofs.Members.{in-ascending}
-use Rattle.meaning.proofs.Limits.{Long, long, long→, over-cases, over-one, over-some, over-all}
+use Rattle.meaning.proofs.Limits.{long, long→, over-cases, over-one, over-some, over-all}
 use Rattle.sets.specs.declared.Built.{Built}
 use Rattle.sets.specs.declared.Built.the-variants.{TooLarge, Holds}
-use Rattle.sets.specs.Parts.{roomAt, setAt, laid}
+use Rattle.sets.specs.Parts.{roomAt, laid}
 use Rattle.sets.specs.Building.{Building, pickBuilt, answerOf, Grown}
 use Rattle.sets.proofs.Meant.{TooMuch}
-use Rattle.rounds.specs.Working.{half, whole, partly, setOf, Ready, Kept, TermDone, TermOver}
+use Rattle.rounds.specs.Working.{half, whole, partly, setOf, Ready, TermDone, TermOver}
 use Rattle.rounds.proofs.Areas.{total-more}
 use Rattle.rounds.proofs.Passing.{partly-more, laid-long, laid-behind, at-most}
-use Rattle.rounds.proofs.Shaped.{Fits, Settled}
+use Rattle.rounds.proofs.Shaped.{Fits}
 
 -- One set more: a limit is passed exactly if one was passed before, or the new set passes one, by itself or together with the others.
 some-more : (sets : List (List Label)) (s : List Label) → T (someOver (sets ++ (s ∷ []))) → T (someOver sets) ⊎ (T (someLong s) ⊎ (1024 < length s))

@@ -2,23 +2,23 @@
 -- Assumes nothing.
 use mathlib.Core.Path.{_≡_, refl, sym, ap, ap₂, subst, _∙_}
 use mathlib.Core.Logic.{_⊎_, inl, inr}
-use mathlib.Core.Bool.{Bool, true, false}
+use mathlib.Core.Bool.{Bool, false}
 use mathlib.Core.List.{List, [], _∷_, _++_, map, append-nil}
-use Prim.Native.Nat.{ℕ, zero, suc, _+_, _≤_, _<_, zero-le}
+use Prim.Native.Nat.{ℕ, _+_, _≤_, _<_}
 use native.Mathlib.Omega.{arith}
 use lib.ListN.{length, replicate}
-use Rattle.meaning.specs.Labels.{Label, size, number, single}
-use Rattle.meaning.specs.Sets.{_∈_, ascending, spread, turn, product}
+use Rattle.meaning.specs.Labels.{Label, number}
+use Rattle.meaning.specs.Sets.{ascending, spread, product}
 use Rattle.meaning.specs.Descriptions.{Operator, block, hide, rename, comm, allow, Pair}
 use Rattle.meaning.specs.Legal.{Each, LegalLabel, LegalPair, LegalOperator}
-use Rattle.meaning.specs.Rounds.{image, communicated}
+use Rattle.meaning.specs.Rounds.{image}
 use Rattle.meaning.proofs.Sorted.{Within}
 use Rattle.meaning.proofs.Members.{in-append}
 use Rattle.labels.specs.Stored.{pairWords, labelWords, ruleWords}
 use Rattle.labels.proofs.Meant.{Packs}
 use Rattle.sets.specs.declared.Way.{Way}
-use Rattle.sets.specs.declared.Way.the-variants.{Copy, Plus, Block, Hide, Rename, Comm, Allow}
-use Rattle.sets.specs.Building.{Building, done, stopped, goesOn, next, each, enter, imaged, multiplied}
+use Rattle.sets.specs.declared.Way.the-variants.{Copy, Block, Hide, Rename, Comm, Allow}
+use Rattle.sets.specs.Building.{Building, done, stopped, goesOn, next, enter, multiplied}
 use Rattle.sets.specs.Joining.{united}
 use Rattle.sets.proofs.Meant.{AllPack, ascending-same, TooMuch, too-much-more, Outcome, enter-outcome}
 use Rattle.sets.proofs.Ways.{Result, Anything, way-outcome, product-outcome, union-outcome, copy-offers, block-offers, hide-offers, rename-offers, allow-offers}

@@ -1,29 +1,28 @@
 -- Equation sets that stay, told by the numbers of labels; and the round lowered for the next.
 -- Assumes nothing.
 use mathlib.Core.Path.{_≡_, refl, sym, ap, ap₂, subst, _∙_}
-use mathlib.Core.Bool.{Bool, true, false, _&&_}
-use mathlib.Core.Logic.{_⊎_, inl, inr}
+use mathlib.Core.Bool.{true, false}
 use mathlib.Core.List.{List, [], _∷_, _++_, map, tail}
-use Prim.Native.Nat.{ℕ, zero, suc, pred, _+_, _-_, _≤_, _<_, zero-le}
-use native.Mathlib.Nat.{le-refl, min-eq-left, add-zero}
+use Prim.Native.Nat.{ℕ, suc, _+_, _-_, _≤_, _<_}
+use native.Mathlib.Nat.{min-eq-left}
 use native.Mathlib.Numerals.{add-one}
 use native.Mathlib.Omega.{arith}
 use native.Mathlib.Decide.{decLt}
-use lib.Dec.{T, eqb, eqb→eq, eqb-refl}
+use lib.Dec.{T, eqb→eq, eqb-refl}
 use lib.ListN.{length, getD, take, drop, length-append, length-take, length-drop, drop-of-length-le}
-use lib.Seq.{drop-cons, take-all, take-append-le, take-append-seam, drop-append-seam, drop-append-add, drop-drop, drop-at, take-at}
-use Rattle.meaning.specs.Labels.{Label, number}
+use lib.Seq.{drop-cons, drop-append-add, drop-drop, take-at}
+use Rattle.meaning.specs.Labels.{Label}
 use Rattle.meaning.specs.Sets.{at}
-use Rattle.meaning.specs.Descriptions.{Description, termCount, all}
+use Rattle.meaning.specs.Descriptions.{Description, termCount}
 use Rattle.meaning.specs.Legal.{Each}
-use Rattle.meaning.specs.Rounds.{bodySets, roundSets, equationSets}
-use Rattle.meaning.specs.Limits.{total, over}
+use Rattle.meaning.specs.Rounds.{roundSets}
+use Rattle.meaning.specs.Limits.{total}
 use Rattle.meaning.proofs.Tests.{and-left, and-right, and-both}
 use Rattle.meaning.proofs.Stable.{Stable}
-use Rattle.rounds.specs.Laid.{flat, Begins, Laid}
+use Rattle.rounds.specs.Laid.{flat, Begins}
 use Rattle.rounds.specs.Steady.{sizeAt, stays, allStay}
 use Rattle.rounds.specs.Working.{half, whole, Kept, RoundDone, Between}
-use Rattle.rounds.proofs.Areas.{length-flat, total-take, total-part}
+use Rattle.rounds.proofs.Areas.{length-flat}
 use Rattle.rounds.proofs.Passing.{at-most}
 use Rattle.rounds.proofs.Turning.{size-of, same-size}
 

@@ -1,20 +1,19 @@
 -- The lists of a legal description's terms, as the ways take them from the list store.
 -- Assumes nothing.
-use mathlib.Core.Path.{_≡_, refl, sym, ap, ap₂, subst, _∙_}
+use mathlib.Core.Path.{_≡_, refl, sym, ap, ap₂, _∙_}
 use mathlib.Core.List.{List, [], _∷_, _++_, map}
-use Prim.Native.Nat.{ℕ, zero, suc, _+_, _*_, _-_, _≤_, _<_, zero-le}
+use Prim.Native.Nat.{ℕ, suc, _+_, _*_, _-_, _≤_, _<_, zero-le}
 use native.Mathlib.Nat.{mul-one}
 use native.Mathlib.Omega.{arith}
 use lib.ListN.{length, take, drop, replicate, length-map}
 use lib.Seq.{take-all, take-at}
-use Rattle.meaning.specs.Labels.{Label, number, single}
+use Rattle.meaning.specs.Labels.{number}
 use Rattle.meaning.specs.Sets.{Rising}
 use Rattle.meaning.specs.Descriptions.{Description, Order, Pair, Rule, Operator, block, hide, rename, comm, allow, wrap, names, termCount, termAt}
 use Rattle.meaning.specs.Legal.{Each, LegalPair, LegalRule, LegalOperator}
-use Rattle.table.specs.Decoded.{wordsAt}
 use Rattle.table.specs.Encoded as T
 use Rattle.table.proofs.Stored.{term-words}
-use Rattle.labels.specs.Stored.{pairWord, pairWords, labelWords, ruleWords}
+use Rattle.labels.specs.Stored.{pairWord, ruleWords}
 use Rattle.labels.proofs.Meant.{single-number}
 use Rattle.rounds.specs.Exchanging.{exchangeWords, exchangeList}
 use Rattle.rounds.specs.Terms.{ruleList, wayFor, wordsFor}

@@ -1,29 +1,26 @@
 -- A round begins and ends; what the numbers of labels tell of two rounds.
 -- Assumes nothing.
-use mathlib.Core.Path.{_≡_, refl, sym, ap, ap₂, subst, _∙_, fun-ext}
-use mathlib.Core.List.{List, [], _∷_, _++_, map}
-use Prim.Native.Nat.{ℕ, zero, suc, pred, _+_, _-_, _≤_, _<_, zero-le}
-use native.Mathlib.Nat.{le-refl, min-eq-left, add-zero}
+use mathlib.Core.Path.{_≡_, refl, sym, ap, subst, _∙_}
+use mathlib.Core.List.{List, []}
+use Prim.Native.Nat.{ℕ, zero, suc, _+_, _-_, _<_}
 use native.Mathlib.Numerals.{add-one}
 use native.Mathlib.Omega.{arith}
 use lib.Dec.{T}
-use lib.ListN.{length, getD, take, drop, length-append, length-take, length-drop}
-use lib.Seq.{take-all, take-append-le, take-append-seam, drop-append-seam, drop-append-add, drop-drop}
-use Rattle.meaning.specs.Labels.{Label, number}
+use lib.ListN.{length, getD}
+use Rattle.meaning.specs.Labels.{Label}
 use Rattle.meaning.specs.Sets.{at}
-use Rattle.meaning.specs.Descriptions.{Description, termCount, all}
-use Rattle.meaning.specs.Rounds.{worked, next, bodySets, roundSets, equationSets}
+use Rattle.meaning.specs.Descriptions.{Description, termCount}
+use Rattle.meaning.specs.Rounds.{worked, next, roundSets, equationSets}
 use Rattle.meaning.specs.Limits.{total, someOver, over}
-use Rattle.meaning.proofs.Carried.{length-worked}
 use Rattle.meaning.proofs.Sorted.{once-count}
 use Rattle.meaning.proofs.Members.{ascending-unique}
 use Rattle.meaning.proofs.Growth.{round-grows, round-ascends}
-use Rattle.meaning.proofs.Stable.{Stable, once-round}
+use Rattle.meaning.proofs.Stable.{once-round}
 use Rattle.meaning.proofs.Outcomes.{worked-over}
 use Rattle.rounds.specs.Laid.{flat, Begins, Laid}
-use Rattle.rounds.specs.Working.{half, whole, partly, setOf, Ready, Kept, TermDone, TermOver, RoundDone, RoundOver, Between}
-use Rattle.rounds.proofs.Areas.{length-flat, total-take}
-use Rattle.rounds.proofs.Passing.{kept-trans, at-most}
+use Rattle.rounds.specs.Working.{half, partly, Ready, Kept, TermOver, RoundDone, RoundOver, Between}
+use Rattle.rounds.proofs.Areas.{total-take}
+use Rattle.rounds.proofs.Passing.{kept-trans}
 
 pub none-over : T (over []) → ⊥
 unfolding over someOver total

@@ -1,9 +1,8 @@
 -- The set of a term built in words, by the shape of the term.
 -- Assumes nothing.
-use mathlib.Core.List.{List, [], _∷_}
+use mathlib.Core.List.{List}
 use Prim.Native.Nat.{ℕ}
 use Rattle.sets.specs.declared.Way.{Way}
-use Rattle.sets.specs.declared.Way.the-variants.{Copy}
 use Rattle.sets.specs.Building.{Building, next, each, enter, imaged, multiplied}
 use Rattle.sets.specs.Joining.{united}
 

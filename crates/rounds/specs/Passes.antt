@@ -2,11 +2,10 @@
 -- Assumes nothing.
 use mathlib.Core.Path.{_≡_}
 use mathlib.Core.Bool.{Bool, true, false}
-use mathlib.Core.List.{List, [], _∷_}
+use mathlib.Core.List.{List}
 use Prim.Native.Nat.{ℕ, _<_}
 use lib.ListN.{length}
 use Rattle.meaning.specs.Descriptions as D
-use Rattle.meaning.specs.Legal.{Legal}
 use Rattle.table.specs.declared.Term.{Term}
 use Rattle.table.specs.declared.Table.{Table}
 use Rattle.table.specs.Encoded.{termFor, storeOf, tableOf}

@@ -1,7 +1,7 @@
 -- Whether sets stayed from one round to the next, told by where they begin: sets only grow, so that one that has as many labels as
 -- before is the same.
 -- Assumes nothing.
-use mathlib.Core.Bool.{Bool, true, false, _&&_}
+use mathlib.Core.Bool.{Bool, true, _&&_}
 use mathlib.Core.List.{List, [], _∷_}
 use Prim.Native.Nat.{ℕ, _+_, _-_}
 use lib.Dec.{eqb}

@@ -1,7 +1,7 @@
 -- The set of a term of the table, as it is built in the work area from the sets that stand there.
 -- Assumes nothing.
 use mathlib.Core.Bool.{Bool, true, false, _&&_}
-use mathlib.Core.List.{List, [], _∷_}
+use mathlib.Core.List.{List, []}
 use Prim.Native.Nat.{ℕ, suc, _+_, _-_, _≤_}
 use lib.Dec.{leb}
 use lib.ListN.{length, getD, take}

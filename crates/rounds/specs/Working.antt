@@ -2,13 +2,12 @@
 -- as far as they are worked out, from word 2,048 on.
 -- Assumes nothing.
 use mathlib.Core.Path.{_≡_}
-use mathlib.Core.Bool.{Bool, true, false}
-use mathlib.Core.List.{List, [], _∷_, _++_, map}
-use Prim.Native.Nat.{ℕ, zero, suc, pred, _+_, _≤_, _<_}
+use mathlib.Core.List.{List, _++_, map}
+use Prim.Native.Nat.{ℕ, suc, pred, _+_, _≤_, _<_}
 use lib.Dec.{T}
-use lib.ListN.{length, getD, take, drop}
+use lib.ListN.{length, take, drop}
 use Rattle.meaning.specs.Labels.{Label, number}
-use Rattle.meaning.specs.Sets.{at, ascending}
+use Rattle.meaning.specs.Sets.{ascending}
 use Rattle.meaning.specs.Descriptions.{Description, termCount, termAt, all}
 use Rattle.meaning.specs.Legal.{Legal}
 use Rattle.meaning.specs.Rounds.{shape, made, worked, equationSets, roundSets}

@@ -60,7 +60,8 @@ fn listing(found: Found, store: &[u64], order: Order, work: &[u64], answer: &mut
     }
 }
 
-// The alphabet of the description that a table and its list store stand for, cut to an order.
+// The alphabet of the description that a table and its list store stand for, cut to an order. A table that stands for no legal
+// description gets some answer: of it no more is promised than that there is one.
 pub fn alphabet(
     table: Table,
     store: &[u64],

@@ -4,14 +4,8 @@ use mathlib.Core.Path.{_∙_}
 use mathlib.Core.Logic.{inl, inr}
 use native.Mathlib.Omega.{arith}
 use Rattle.rounds.proofs.Listings.{answered-short, answered-illegal, answered-right}
-use borrow.Author.Needs.{needs}
 use Rattle.rounds.proofs.alphabet.Statement.{statement}
 use Rattle.rounds.proofs.alphabet.Tie as tie
-use Rattle.rounds.proofs.alphabet.Reads as reads
-use Rattle.rounds.proofs.alphabet.Lts as lts
-use Rattle.rounds.proofs.clearing.clear.Reads as clear-reads
-use Rattle.rounds.proofs.listing.Reads as listing-reads
-use Rattle.rounds.proofs.turns.until_stable.Reads as until-stable-reads
 
 returns : tie.Need-returns
 returns c = answered-short (c .before .before .before .before .args .table) (c .before .before .before .before .args .store .now) (c .before .before .before .before .args .order) (c .before .before .before .before .args .work .now) (c .before .before .before .before .args .answer .now) (inl (c .if1 .taken))

@@ -1,16 +1,11 @@
 -- `rounds::listing` meets its contract: what the rounds came to, in the answer area.
 -- Assumes nothing.
-use native.Mathlib.Omega.{arith}
-use mathlib.Core.Path.{_≡_, refl, sym, ap, subst, _∙_}
+use mathlib.Core.Path.{refl}
 use mathlib.Core.Logic.{inl, inr}
 use Rattle.rounds.proofs.Listings.{listing-large, listing-never, listing-cut}
 use borrow.Author.Needs.{needs}
 use Rattle.rounds.proofs.listing.Statement.{statement}
 use Rattle.rounds.proofs.listing.Tie as tie
-use Rattle.rounds.proofs.listing.Reads as reads
-use Rattle.rounds.proofs.listing.Lts as lts
-use Rattle.rounds.proofs.cutting.cut.Reads as cut-reads
-use Rattle.table.proofs.lists.words_of.Reads as words-of-reads
 
 enum-known-found : tie.Need-enum-known-found
 enum-known-found c = c .match .keys1

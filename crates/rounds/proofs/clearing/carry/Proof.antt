@@ -3,11 +3,8 @@
 use native.Mathlib.Omega.{arith}
 use Prim.Native.Nat.{_-_}
 use Rattle.rounds.proofs.Carrying.{Carrying, carrying-start, carrying-step, carrying-end}
-use borrow.Author.Needs.{needs}
 use Rattle.rounds.proofs.clearing.carry.Statement.{statement}
 use Rattle.rounds.proofs.clearing.carry.Tie as tie
-use Rattle.rounds.proofs.clearing.carry.Reads as reads
-use Rattle.rounds.proofs.clearing.carry.Lts as lts
 
 abbrev Inv-loop : tie.InvT-loop
 Inv-loop area₀ from to count i₀ area i = Carrying area₀ from to count area i

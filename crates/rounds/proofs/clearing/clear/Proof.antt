@@ -1,18 +1,12 @@
 -- `rounds::clearing::clear` meets its contract: zeros are put one after the other.
 -- Assumes nothing.
-use mathlib.Core.Path.{_≡_, refl, sym, ap, _∙_}
-use mathlib.Core.List.{List, [], _∷_, _++_}
-use Prim.Native.Nat.{ℕ, zero, suc, _+_, _-_, _≤_, _<_}
-use native.Mathlib.Numerals.{add-one}
+use mathlib.Core.Path.{sym}
+use Prim.Native.Nat.{_-_}
 use native.Mathlib.Omega.{arith}
-use lib.ListN.{length, getD, take, drop, set, replicate, length-set, length-replicate, getD-replicate, length-take, length-drop}
-use borrow.Author.Needs.{needs}
-use Rattle.rounds.specs.Cutting.{put}
-use Rattle.rounds.proofs.Filling.{Filling, filling-start, filling-step, filling-end, filling-read, length-zeros, length-part, getD-part}
+use lib.ListN.{replicate, getD-replicate}
+use Rattle.rounds.proofs.Filling.{Filling, filling-start, filling-step, filling-end, length-zeros}
 use Rattle.rounds.proofs.clearing.clear.Statement.{statement}
 use Rattle.rounds.proofs.clearing.clear.Tie as tie
-use Rattle.rounds.proofs.clearing.clear.Reads as reads
-use Rattle.rounds.proofs.clearing.clear.Lts as lts
 
 abbrev Inv-loop : tie.InvT-loop
 Inv-loop area₀ count i₀ area i = Filling (replicate count 0) count area₀ area i

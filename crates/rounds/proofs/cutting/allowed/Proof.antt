@@ -5,9 +5,6 @@ use Rattle.rounds.proofs.Keeping.{allows-all, allows-tau, allows-listed
 use borrow.Author.Needs.{needs}
 use Rattle.rounds.proofs.cutting.allowed.Statement.{statement}
 use Rattle.rounds.proofs.cutting.allowed.Tie as tie
-use Rattle.rounds.proofs.cutting.allowed.Reads as reads
-use Rattle.rounds.proofs.cutting.allowed.Lts as lts
-use Rattle.rounds.proofs.cutting.listed.Reads as listed-reads
 
 returns : tie.Need-returns
 returns c = allows-all (c .before .before .args .all) (c .before .before .args .list .now) (c .before .before .args .word) (c .if1 .taken)

@@ -1,17 +1,13 @@
 -- `rounds::cutting::cut` meets its contract: the words that the order allows are put one after the other.
 -- Assumes nothing.
-use mathlib.Core.Path.{_≡_, refl, sym, ap, _∙_}
+use mathlib.Core.Path.{sym, _∙_}
 use mathlib.Core.Logic.{⊎-elim}
-use Prim.Native.Nat.{_-_, _≤_}
+use Prim.Native.Nat.{_-_}
 use native.Mathlib.Omega.{arith}
-use lib.ListN.{length, drop}
-use borrow.Author.Needs.{needs}
+use lib.ListN.{length}
 use Rattle.rounds.proofs.Keeping.{Cut, cut-start, cut-room, cut-keep, cut-skip, cut-end}
 use Rattle.rounds.proofs.cutting.cut.Statement.{statement}
 use Rattle.rounds.proofs.cutting.cut.Tie as tie
-use Rattle.rounds.proofs.cutting.cut.Reads as reads
-use Rattle.rounds.proofs.cutting.cut.Lts as lts
-use Rattle.rounds.proofs.cutting.allowed.Reads as allowed-reads
 
 abbrev Inv-loop : tie.InvT-loop
 Inv-loop all list set answer₀ n₀ i₀ answer n i = Cut all list set answer₀ i n answer

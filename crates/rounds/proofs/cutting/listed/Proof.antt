@@ -1,19 +1,13 @@
 -- `rounds::cutting::listed` meets its contract.
 -- Assumes nothing.
-use mathlib.Core.Path.{_≡_, refl, sym, ap, _∙_}
-use mathlib.Core.List.{List, [], _∷_, _++_}
-use Prim.Native.Nat.{ℕ, zero, suc, _+_, _-_, _≤_, _<_}
-use native.Mathlib.Numerals.{add-one}
+use mathlib.Core.Path.{_≡_, refl, sym, _∙_}
+use Prim.Native.Nat.{_-_, _≤_}
 use native.Mathlib.Omega.{arith}
-use lib.ListN.{length, getD, take, drop, set, replicate, length-set, length-replicate, getD-replicate, length-take, length-drop}
+use lib.ListN.{length, drop}
 use Rattle.rounds.proofs.Filling.{listed-here, listed-on, listed-out}
-use borrow.Author.Needs.{needs}
 use Rattle.sets.specs.Building.{listedIn}
-use Rattle.rounds.proofs.Filling.{Filling, filling-start, filling-step, filling-end, filling-read}
 use Rattle.rounds.proofs.cutting.listed.Statement.{statement}
 use Rattle.rounds.proofs.cutting.listed.Tie as tie
-use Rattle.rounds.proofs.cutting.listed.Reads as reads
-use Rattle.rounds.proofs.cutting.listed.Lts as lts
 
 abbrev Inv-loop : tie.InvT-loop
 Inv-loop list word i₀ i = (i ≤ length list) × (listedIn word (drop i list) ≡ listedIn word list)

@@ -5,13 +5,9 @@ use native.Mathlib.Omega.{arith}
 use lib.ListN.{length}
 use mathlib.Core.Path.{ap}
 use Rattle.labels.specs.declared.Label.{Label}
-use borrow.Author.Needs.{needs}
 use Rattle.rounds.proofs.Exchanged.{Over, over-start, over-step, over-end}
 use Rattle.rounds.proofs.exchanging.exchanges.Statement.{statement}
 use Rattle.rounds.proofs.exchanging.exchanges.Tie as tie
-use Rattle.rounds.proofs.exchanging.exchanges.Reads as reads
-use Rattle.rounds.proofs.exchanging.exchanges.Lts as lts
-use Rattle.labels.proofs.bags.single.Reads as single-reads
 
 abbrev Inv-loop : tie.InvT-loop
 Inv-loop rules list₀ i₀ list i = Over rules list i

@@ -8,8 +8,6 @@ use lib.Seq.{take-all}
 use borrow.Author.Needs.{needs}
 use Rattle.rounds.proofs.exchanging.first_rules.Statement.{statement}
 use Rattle.rounds.proofs.exchanging.first_rules.Tie as tie
-use Rattle.rounds.proofs.exchanging.first_rules.Reads as reads
-use Rattle.rounds.proofs.exchanging.first_rules.Lts as lts
 
 slice-aggregate-result : tie.Need-slice-aggregate-result
 slice-aggregate-result c = sym (length-take 16 (c .before .before .args .rules .now) ∙ min-eq-left (omega arith))

@@ -1,14 +1,8 @@
 -- `rounds::operators::communicate` meets its contract: the rules are taken over, and no more words than they have are lent.
 -- Assumes nothing.
 use Rattle.rounds.proofs.Exchanged.{first-few, lent-within, lent-length}
-use borrow.Author.Needs.{needs}
 use Rattle.rounds.proofs.operators.communicate.Statement.{statement}
 use Rattle.rounds.proofs.operators.communicate.Tie as tie
-use Rattle.rounds.proofs.operators.communicate.Reads as reads
-use Rattle.rounds.proofs.operators.communicate.Lts as lts
-use Rattle.rounds.proofs.exchanging.exchanges.Reads as exchanges-reads
-use Rattle.rounds.proofs.exchanging.first_rules.Reads as first-rules-reads
-use Rattle.rounds.proofs.operators.through.Reads as through-reads
 
 first-rules-requires : tie.Need-first-rules-requires
 first-rules-requires c κs = tt

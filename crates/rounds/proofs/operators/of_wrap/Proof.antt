@@ -1,16 +1,8 @@
 -- `rounds::operators::of_wrap` meets its contract: each operator goes its way, with its list.
 -- Assumes nothing.
 use native.Mathlib.Omega.{arith}
-use borrow.Author.Needs.{needs}
 use Rattle.rounds.proofs.operators.of_wrap.Statement.{statement}
 use Rattle.rounds.proofs.operators.of_wrap.Tie as tie
-use Rattle.rounds.proofs.operators.of_wrap.Reads as reads
-use Rattle.rounds.proofs.operators.of_wrap.Lts as lts
-use Rattle.rounds.proofs.operators.communicate.Reads as communicate-reads
-use Rattle.rounds.proofs.operators.through.Reads as through-reads
-use Rattle.rounds.proofs.starts.part_at.Reads as part-at-reads
-use Rattle.table.proofs.lists.rule_words_of.Reads as rule-words-of-reads
-use Rattle.table.proofs.lists.words_of.Reads as words-of-reads
 
 part-at-requires : tie.Need-part-at-requires
 part-at-requires c κs = (c .before .before .before .pre, omega arith)

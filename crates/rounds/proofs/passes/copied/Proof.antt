@@ -5,14 +5,6 @@ use Rattle.rounds.proofs.Copying.{none-copied, large-copied, carry-fits
 use borrow.Author.Needs.{needs}
 use Rattle.rounds.proofs.passes.copied.Statement.{statement}
 use Rattle.rounds.proofs.passes.copied.Tie as tie
-use Rattle.rounds.proofs.passes.copied.Reads as reads
-use Rattle.rounds.proofs.passes.copied.Lts as lts
-use Rattle.rounds.proofs.clearing.carry.Reads as carry-reads
-use Rattle.rounds.proofs.starts.end_of.Reads as end-of-reads
-use Rattle.rounds.proofs.starts.left_of.Reads as left-of-reads
-use Rattle.rounds.proofs.starts.place_of.Reads as place-of-reads
-use Rattle.rounds.proofs.starts.start_of.Reads as start-of-reads
-use Rattle.sets.proofs.placing.room.Reads as room-reads
 
 place-of-requires : tie.Need-place-of-requires
 place-of-requires c κs = search needs

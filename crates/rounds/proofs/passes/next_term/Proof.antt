@@ -1,16 +1,10 @@
 -- `rounds::passes::next_term` meets its contract
 -- Assumes nothing.
-use mathlib.Core.Path.{_≡_, sym, ap, subst, _∙_}
-use lib.Dec.{T}
+use mathlib.Core.Path.{sym, _∙_}
 use Rattle.rounds.proofs.Progress.{turn-copied, turn-worked}
 use borrow.Author.Needs.{needs}
 use Rattle.rounds.proofs.passes.next_term.Statement.{statement}
 use Rattle.rounds.proofs.passes.next_term.Tie as tie
-use Rattle.rounds.proofs.passes.next_term.Reads as reads
-use Rattle.rounds.proofs.passes.next_term.Lts as lts
-use Rattle.rounds.proofs.passes.copied.Reads as copied-reads
-use Rattle.rounds.proofs.sameness.unchanged.Reads as unchanged-reads
-use Rattle.rounds.proofs.terms.work_out.Reads as work-out-reads
 
 unchanged-requires : tie.Need-unchanged-requires
 unchanged-requires c κs = search needs

@@ -1,17 +1,12 @@
 -- `rounds::passes::pass` meets its contract: term by term.
 -- Assumes nothing.
 use native.Mathlib.Omega.{arith}
-use mathlib.Core.Path.{_≡_, refl, sym, ap, subst, _∙_}
+use mathlib.Core.Path.{sym, _∙_}
 use Prim.Native.Nat.{_-_}
-use Rattle.table.specs.declared.Table.{Table}
 use Rattle.rounds.proofs.Progress.{Progress, progress-start, progress-end, progress-large, progress-over, progress-step}
 use borrow.Author.Needs.{needs}
 use Rattle.rounds.proofs.passes.pass.Statement.{statement}
 use Rattle.rounds.proofs.passes.pass.Tie as tie
-use Rattle.rounds.proofs.passes.pass.Reads as reads
-use Rattle.rounds.proofs.passes.pass.Lts as lts
-use Rattle.rounds.proofs.passes.next_term.Reads as next-term-reads
-use Rattle.rounds.proofs.starts.left_of.Reads as left-of-reads
 
 abbrev Inv-loop : tie.InvT-loop
 Inv-loop store older before work₀ table bodies this₀ n₀ work this n = Progress table store older before work₀ work this n

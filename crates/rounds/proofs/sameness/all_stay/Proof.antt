@@ -7,12 +7,8 @@ use native.Mathlib.Omega.{arith}
 use borrow.Author.Tests.{not-true, not-false}
 use Rattle.rounds.specs.Steady.{allStay}
 use Rattle.rounds.proofs.Staying.{stay-fails, stay-goes, stay-ends}
-use borrow.Author.Needs.{needs}
 use Rattle.rounds.proofs.sameness.all_stay.Statement.{statement}
 use Rattle.rounds.proofs.sameness.all_stay.Tie as tie
-use Rattle.rounds.proofs.sameness.all_stay.Reads as reads
-use Rattle.rounds.proofs.sameness.all_stay.Lts as lts
-use Rattle.rounds.proofs.sameness.stays.Reads as stays-reads
 
 abbrev Inv-loop : tie.InvT-loop
 Inv-loop older newer bodies i₀ i = (i ≤ length bodies) × (allStay older newer (drop i bodies) ≡ allStay older newer bodies)

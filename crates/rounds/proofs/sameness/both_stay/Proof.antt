@@ -4,9 +4,6 @@ use mathlib.Core.Path.{sym, _∙_}
 use borrow.Author.Needs.{needs}
 use Rattle.rounds.proofs.sameness.both_stay.Statement.{statement}
 use Rattle.rounds.proofs.sameness.both_stay.Tie as tie
-use Rattle.rounds.proofs.sameness.both_stay.Reads as reads
-use Rattle.rounds.proofs.sameness.both_stay.Lts as lts
-use Rattle.rounds.proofs.sameness.stays.Reads as stays-reads
 
 stays-requires : tie.Need-stays-requires
 stays-requires c κs = search needs

@@ -3,9 +3,6 @@
 use borrow.Author.Needs.{needs}
 use Rattle.rounds.proofs.sameness.stays.Statement.{statement}
 use Rattle.rounds.proofs.sameness.stays.Tie as tie
-use Rattle.rounds.proofs.sameness.stays.Reads as reads
-use Rattle.rounds.proofs.sameness.stays.Lts as lts
-use Rattle.rounds.proofs.sameness.size_at.Reads as size-at-reads
 
 size-at-requires : tie.Need-size-at-requires
 size-at-requires c κs = search needs

@@ -3,11 +3,6 @@
 use borrow.Author.Needs.{needs}
 use Rattle.rounds.proofs.sameness.unchanged.Statement.{statement}
 use Rattle.rounds.proofs.sameness.unchanged.Tie as tie
-use Rattle.rounds.proofs.sameness.unchanged.Reads as reads
-use Rattle.rounds.proofs.sameness.unchanged.Lts as lts
-use Rattle.rounds.proofs.sameness.both_stay.Reads as both-stay-reads
-use Rattle.rounds.proofs.sameness.stays.Reads as stays-reads
-use Rattle.rounds.proofs.starts.start_of.Reads as start-of-reads
 
 enum-told : tie.Need-enum-told
 enum-told c = search needs

@@ -7,9 +7,6 @@ use native.Mathlib.Numerals.{add-one}
 use borrow.Author.Needs.{needs}
 use Rattle.rounds.proofs.starts.end_of.Statement.{statement}
 use Rattle.rounds.proofs.starts.end_of.Tie as tie
-use Rattle.rounds.proofs.starts.end_of.Reads as reads
-use Rattle.rounds.proofs.starts.end_of.Lts as lts
-use Rattle.rounds.proofs.starts.start_of.Reads as start-of-reads
 
 add-start-of : tie.Need-add-start-of
 add-start-of c = search needs

@@ -4,9 +4,6 @@ use native.Mathlib.Omega.{arith}
 use borrow.Author.Needs.{needs}
 use Rattle.rounds.proofs.starts.left_of.Statement.{statement}
 use Rattle.rounds.proofs.starts.left_of.Tie as tie
-use Rattle.rounds.proofs.starts.left_of.Reads as reads
-use Rattle.rounds.proofs.starts.left_of.Lts as lts
-use Rattle.rounds.proofs.starts.start_of.Reads as start-of-reads
 
 start-of-requires : tie.Need-start-of-requires
 start-of-requires c κs = search needs

@@ -5,10 +5,6 @@ use Prim.Native.Nat.{suc}
 use borrow.Author.Needs.{needs}
 use Rattle.rounds.proofs.starts.part_at.Statement.{statement}
 use Rattle.rounds.proofs.starts.part_at.Tie as tie
-use Rattle.rounds.proofs.starts.part_at.Reads as reads
-use Rattle.rounds.proofs.starts.part_at.Lts as lts
-use Rattle.rounds.proofs.starts.end_of.Reads as end-of-reads
-use Rattle.rounds.proofs.starts.start_of.Reads as start-of-reads
 
 start-of-requires : tie.Need-start-of-requires
 start-of-requires c κs = search needs

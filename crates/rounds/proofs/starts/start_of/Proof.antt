@@ -6,8 +6,6 @@ use lib.ListN.{List·getD-eq-default}
 use borrow.Author.Needs.{needs}
 use Rattle.rounds.proofs.starts.start_of.Statement.{statement}
 use Rattle.rounds.proofs.starts.start_of.Tie as tie
-use Rattle.rounds.proofs.starts.start_of.Reads as reads
-use Rattle.rounds.proofs.starts.start_of.Lts as lts
 
 mul-result : tie.Need-mul-result
 mul-result c = search needs

@@ -3,10 +3,6 @@
 use borrow.Author.Needs.{needs}
 use Rattle.rounds.proofs.terms.of_act.Statement.{statement}
 use Rattle.rounds.proofs.terms.of_act.Tie as tie
-use Rattle.rounds.proofs.terms.of_act.Reads as reads
-use Rattle.rounds.proofs.terms.of_act.Lts as lts
-use Rattle.labels.proofs.bags.single.Reads as single-reads
-use Rattle.rounds.proofs.making.leaf.Reads as leaf-reads
 
 single-requires : tie.Need-single-requires
 single-requires c κs = search needs

@@ -3,10 +3,6 @@
 use borrow.Author.Needs.{needs}
 use Rattle.rounds.proofs.terms.of_body.Statement.{statement}
 use Rattle.rounds.proofs.terms.of_body.Tie as tie
-use Rattle.rounds.proofs.terms.of_body.Reads as reads
-use Rattle.rounds.proofs.terms.of_body.Lts as lts
-use Rattle.rounds.proofs.starts.start_of.Reads as start-of-reads
-use Rattle.rounds.proofs.terms.of_one.Reads as of-one-reads
 
 start-of-requires : tie.Need-start-of-requires
 start-of-requires c κs = search needs

@@ -3,10 +3,6 @@
 use borrow.Author.Needs.{needs}
 use Rattle.rounds.proofs.terms.of_both.Statement.{statement}
 use Rattle.rounds.proofs.terms.of_both.Tie as tie
-use Rattle.rounds.proofs.terms.of_both.Reads as reads
-use Rattle.rounds.proofs.terms.of_both.Lts as lts
-use Rattle.rounds.proofs.making.both.Reads as both-reads
-use Rattle.rounds.proofs.starts.part_at.Reads as part-at-reads
 
 part-at-requires : tie.Need-part-at-requires
 part-at-requires c κs = search needs

@@ -3,10 +3,6 @@
 use borrow.Author.Needs.{needs}
 use Rattle.rounds.proofs.terms.of_either.Statement.{statement}
 use Rattle.rounds.proofs.terms.of_either.Tie as tie
-use Rattle.rounds.proofs.terms.of_either.Reads as reads
-use Rattle.rounds.proofs.terms.of_either.Lts as lts
-use Rattle.rounds.proofs.starts.part_at.Reads as part-at-reads
-use Rattle.sets.proofs.joining.union.Reads as union-reads
 
 part-at-requires : tie.Need-part-at-requires
 part-at-requires c κs = search needs

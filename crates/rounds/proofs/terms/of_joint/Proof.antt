@@ -3,10 +3,6 @@
 use borrow.Author.Needs.{needs}
 use Rattle.rounds.proofs.terms.of_joint.Statement.{statement}
 use Rattle.rounds.proofs.terms.of_joint.Tie as tie
-use Rattle.rounds.proofs.terms.of_joint.Reads as reads
-use Rattle.rounds.proofs.terms.of_joint.Lts as lts
-use Rattle.rounds.proofs.starts.part_at.Reads as part-at-reads
-use Rattle.sets.proofs.multiplying.add_product.Reads as add-product-reads
 
 part-at-requires : tie.Need-part-at-requires
 part-at-requires c κs = search needs

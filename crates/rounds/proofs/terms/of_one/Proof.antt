@@ -3,10 +3,6 @@
 use borrow.Author.Needs.{needs}
 use Rattle.rounds.proofs.terms.of_one.Statement.{statement}
 use Rattle.rounds.proofs.terms.of_one.Tie as tie
-use Rattle.rounds.proofs.terms.of_one.Reads as reads
-use Rattle.rounds.proofs.terms.of_one.Lts as lts
-use Rattle.rounds.proofs.operators.through.Reads as through-reads
-use Rattle.rounds.proofs.starts.part_at.Reads as part-at-reads
 
 part-at-requires : tie.Need-part-at-requires
 part-at-requires c κs = search needs

@@ -3,10 +3,6 @@
 use borrow.Author.Needs.{needs}
 use Rattle.rounds.proofs.terms.of_tau.Statement.{statement}
 use Rattle.rounds.proofs.terms.of_tau.Tie as tie
-use Rattle.rounds.proofs.terms.of_tau.Reads as reads
-use Rattle.rounds.proofs.terms.of_tau.Lts as lts
-use Rattle.labels.proofs.packing.tau.Reads as tau-reads
-use Rattle.rounds.proofs.making.leaf.Reads as leaf-reads
 
 tau-requires : tie.Need-tau-requires
 tau-requires c κs = search needs

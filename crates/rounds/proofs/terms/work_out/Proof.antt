@@ -1,22 +1,10 @@
 -- `rounds::terms::work_out` meets its contract: each kind is built by one call.
 -- Assumes nothing.
+use borrow.Author.Needs.{needs}
 use native.Mathlib.Omega.{arith}
 use Rattle.rounds.proofs.Makings.{nothing-grown}
-use borrow.Author.Needs.{needs}
 use Rattle.rounds.proofs.terms.work_out.Statement.{statement}
 use Rattle.rounds.proofs.terms.work_out.Tie as tie
-use Rattle.rounds.proofs.terms.work_out.Reads as reads
-use Rattle.rounds.proofs.terms.work_out.Lts as lts
-use Rattle.rounds.proofs.operators.of_wrap.Reads as of-wrap-reads
-use Rattle.rounds.proofs.starts.left_of.Reads as left-of-reads
-use Rattle.rounds.proofs.starts.place_of.Reads as place-of-reads
-use Rattle.rounds.proofs.terms.of_act.Reads as of-act-reads
-use Rattle.rounds.proofs.terms.of_body.Reads as of-body-reads
-use Rattle.rounds.proofs.terms.of_both.Reads as of-both-reads
-use Rattle.rounds.proofs.terms.of_either.Reads as of-either-reads
-use Rattle.rounds.proofs.terms.of_joint.Reads as of-joint-reads
-use Rattle.rounds.proofs.terms.of_one.Reads as of-one-reads
-use Rattle.rounds.proofs.terms.of_tau.Reads as of-tau-reads
 
 place-of-requires : tie.Need-place-of-requires
 place-of-requires c κs = c .before .before .before .before .before .pre .1
@@ -43,7 +31,7 @@ enum-known-term-2 : tie.Need-enum-known-term-2
 enum-known-term-2 c = c .match .keys4
 
 of-body-requires : tie.Need-of-body-requires
-of-body-requires c κs = c .before .before .before .before .before .before .before .before .before .before .before .pre .0
+of-body-requires c κs = search needs
 
 enum-known-term-3 : tie.Need-enum-known-term-3
 enum-known-term-3 c = c .match .keys5

@@ -3,20 +3,13 @@
 use lib.Seq.{length-take-le}
 use lib.ListN.{length}
 use native.Mathlib.Omega.{arith}
-use mathlib.Core.Path.{_≡_, refl, sym, ap, subst, _∙_}
-use Prim.Native.Nat.{_-_, _≤_}
+use mathlib.Core.Path.{_≡_, sym, _∙_}
+use Prim.Native.Nat.{_-_}
 use borrow.Author.Tests.{not-true, not-false}
 use Rattle.rounds.proofs.Rounding.{Turned, turned-start, turned-end, turned-large, turned-stable, lower-fits, turned-step}
 use borrow.Author.Needs.{needs}
 use Rattle.rounds.proofs.turns.until_stable.Statement.{statement}
 use Rattle.rounds.proofs.turns.until_stable.Tie as tie
-use Rattle.rounds.proofs.turns.until_stable.Reads as reads
-use Rattle.rounds.proofs.turns.until_stable.Lts as lts
-use Rattle.rounds.proofs.clearing.carry.Reads as carry-reads
-use Rattle.rounds.proofs.passes.pass.Reads as pass-reads
-use Rattle.rounds.proofs.sameness.all_stay.Reads as all-stay-reads
-use Rattle.rounds.proofs.starts.part_at.Reads as part-at-reads
-use Rattle.rounds.proofs.starts.start_of.Reads as start-of-reads
 
 abbrev Inv-loop : tie.InvT-loop
 Inv-loop table store work₀ bodies equations older₀ before₀ k₀ work older before k = Turned table store work₀ work older before k
@@ -46,10 +39,10 @@ add-k : tie.Need-add-k Inv-loop μ-loop
 add-k c = omega arith
 
 slice-aggregate-all-stay : tie.Need-slice-aggregate-all-stay Inv-loop μ-loop
-slice-aggregate-all-stay c = sym (c .before .before .before .before .before .before .before .before .before .before .before .loop .inv .size)
+slice-aggregate-all-stay c = sym (omega (arith, c .before .before .before .before .before .before .before .before .before .before .before .loop .inv .size, c .before .before .before .before .before .before .pass .ensures .size))
 
 slice-aggregate-all-stay-2 : tie.Need-slice-aggregate-all-stay-2 Inv-loop μ-loop
-slice-aggregate-all-stay-2 c = sym (c .before .before .before .before .before .before .before .pass .ensures .size)
+slice-aggregate-all-stay-2 c = sym (omega (arith, c .before .before .before .before .before .before .before .before .before .before .before .before .loop .inv .size, c .before .before .before .before .before .before .before .pass .ensures .size))
 
 array-share-prefix-bodies : tie.Need-array-share-prefix-bodies Inv-loop μ-loop
 array-share-prefix-bodies c = let e : length (c .before .before .before .before .before .before .before .before .before .before .before .before .before .before .before .before .args .table .bodies) ≡ 16 = search needs in omega (arith, c .before .before .before .before .before .before .before .before .before .before .before .before .loop .inv .equations)
