@@ -1,60 +1,23 @@
--- The farthest place where a word was stuck, and the kinds by their packed words.
+-- The farthest place where a word was stuck.
 -- Assumes nothing.
 use mathlib.Core.Path.{_≡_, refl, sym, ap, subst, _∙_}
 use mathlib.Core.Bool.{Bool, true, false}
 use mathlib.Core.List.{List, [], _∷_}
-use Prim.Native.Nat.{ℕ, zero, suc, _+_, _*_, _/_, _%_, _^_, _≤_, _<_, max}
-use native.Mathlib.Nat.{pow-suc, div-lt-iff-lt-mul, not-suc-le-zero, le-of-suc-le-suc, zero-max}
+use Prim.Native.Nat.{ℕ, zero, suc, _+_, _≤_, max}
+use native.Mathlib.Nat.{not-suc-le-zero, zero-max}
 use native.Mathlib.Omega.{arith}
-use native.Mathlib.Numerals.{add-one}
-use lib.Dec.{eqb, ltb, leb, lit<}
-use lib.Seq.{drop-cons}
-use lib.ListN.{length, getD, drop, length-drop, drop-of-length-le}
-use borrow.Author.Tests.{lt-ltb, le-ltb, ltb-true, ltb-false, eqb-true, eqb-false, eq-eqb, ne-eqb}
+use lib.Dec.{eqb, ltb}
+use lib.ListN.{length, drop, length-drop}
+use borrow.Author.Tests.{lt-ltb, le-ltb, ltb-true, ltb-false}
 use Rattle.meaning.specs.Bytes.{Text}
-use Rattle.table.specs.Decoded.{nameOf}
 use Rattle.forms.specs.Text.{Past, past, stuck, literal}
-use Rattle.forms.specs.Forms.{Line, Kind, kinds, farther, ofKind, alone, ofName, ofOne, ofTwo, ofList}
-use Rattle.meaning.specs.Descriptions.{tau, delta}
-use Rattle.forms.specs.Terms.{either, oneOf, twoOf, contents, listed, LineRead}
-use Rattle.forms.specs.Kinds.{restOf, noKind, fartherFrom, wrapOf, fartherStep, kindPlace, KindFound, KindRead}
-use Rattle.forms.specs.declared.kinds.KindStep.{KindStep}
-use Rattle.forms.specs.declared.kinds.KindStep.the-variants as K
-use Rattle.forms.specs.declared.terms.WrapKind.{WrapKind}
+use Rattle.forms.specs.Forms.{Line, farther}
+use Rattle.forms.specs.Terms.{LineRead}
+use Rattle.forms.specs.Kinds.{fartherFrom, fartherStep}
 use Rattle.forms.specs.declared.TermStep.{TermStep}
 use Rattle.forms.specs.declared.TermStep.the-variants as T
-use Rattle.forms.specs.Places.{placeOf, Stands, Steps}
-use Rattle.forms.specs.declared.Step.{Step}
 use Rattle.forms.specs.declared.Step.the-variants.{To, Stuck}
-use Rattle.forms.proofs.Rests.{rest-cons}
-use Rattle.forms.proofs.Steps.{went, stays}
-
--- A packed word, byte by byte.
-module _ (line : Text) (next left : ℕ) (some : 0 < left) where
-  pub packed-none : (k : ℕ) → left < 256 ^ k → length line ≤ next → stuck (drop next line) ≡ literal (nameOf k left) (drop next line)
-  unfolding nameOf literal
-  packed-none zero h e = let j : left < 1 = h in absurd (omega arith)
-  packed-none (suc k) h e = rw (ne-eqb left 0 (λ z. omega (arith, z)), nameOf, drop-of-length-le line e)
-
-  pub packed-other : (k : ℕ) → left < 256 ^ k → next < length line → (getD line next 0 ≡ left % 256 → ⊥) → stuck (drop next line) ≡ literal (nameOf k left) (drop next line)
-  unfolding nameOf literal
-  packed-other zero h e d = let j : left < 1 = h in absurd (omega arith)
-  packed-other (suc k) h e d = rw (ne-eqb left 0 (λ z. omega (arith, z)), nameOf, rest-cons line next e, ne-eqb (left % 256) (getD line next 0) (λ z. d (sym z)), literal)
-
-  pub packed-more : (k : ℕ) → left < 256 ^ k → next < length line → getD line next 0 ≡ left % 256
-      → (m : ℕ) × (left / 256 < 256 ^ m) × (literal (nameOf m (left / 256)) (drop (next + 1) line) ≡ literal (nameOf k left) (drop next line))
-  unfolding nameOf literal
-  packed-more zero h e d = let j : left < 1 = h in absurd (omega arith)
-  packed-more (suc k) h e d = (
-    k,
-    div-lt-iff-lt-mul (lit< tt) .1 (rw (pow-suc 256 k) at h),
-    rw (ne-eqb left 0 (λ z. omega (arith, z)), nameOf, rest-cons line next e, eq-eqb (left % 256) (getD line next 0) (sym d), literal),
-  )
-
-pub packed-all : (k : ℕ) {s : Text} → past tt s ≡ literal (nameOf k 0) s
-unfolding nameOf literal
-packed-all zero = refl
-packed-all (suc k) = refl
+use Rattle.forms.proofs.Wraps.{textIn, IsStuck}
 
 -- Places joined: the farther one stays.
 module _ (line : Text) where
@@ -106,182 +69,16 @@ module _ (line : Text) where
   join-more (suc f) p h k i (past l r) = from-some (max (suc f) p) (omega arith) (past l r)
   join-more (suc f) p h k i (stuck t) = from-some (max (suc f) p) (omega arith) (stuck t) ∙ join-third (suc f) p h k t
 
--- One kind after the other.
-module _ (ks : List Kind) (k : ℕ) (s : Text) where
-  pub kind-stuck : {r : Text} → k < length ks → stuck r ≡ literal (getD ks k noKind .word) s → farther r (ofKind (drop (k + 1) ks) s) ≡ ofKind (drop k ks) s
-  unfolding ofKind
-  kind-stuck h e = rw (add-one k, drop-cons ks k noKind h, ← e, ofKind)
-
-  pub kind-past : {r : Text} → k < length ks → past tt r ≡ literal (getD ks k noKind .word) s → getD ks k noKind .rest r ≡ ofKind (drop k ks) s
-  unfolding ofKind
-  kind-past h e = rw (drop-cons ks k noKind h, ← e, ofKind)
-
-  pub kind-none : length ks ≤ k → stuck s ≡ ofKind (drop k ks) s
-  unfolding ofKind
-  kind-none h = rw (drop-of-length-le ks h)
-
--- What holds at each number below another.
-unfoldable pub Below : (ℕ → Type 0) → ℕ → Type 0
-Below P zero = Unit {0}
-Below P (suc n) = P n × Below P n
-
-pub below : (P : ℕ → Type 0) (n k : ℕ) → k < n → Below P n → P k
-unfolding Below
-below P zero k h b = absurd (not-suc-le-zero h)
-below P (suc n) k h b = cases (eqb k n) refl (λ j. below P n k j (b .1))
-  where
-    cases : (t : Bool) → eqb k n ≡ t → (k < n → P k) → P k
-    cases true e f = rw (eqb-true k n e) (b .0)
-    cases false e f = let d = eqb-false k n e in f (omega arith)
-
--- The kinds by their places: the word in the code's table, and what follows it.
-abbrev pub packedKinds : List ℕ
-packedKinds =
-    7627617 ∷ 7692660 ∷ 418565088612 ∷ 6710642 ∷ 7173491 ∷ 1684959075 ∷ 111477645076579 ∷ 111546414229097 ∷ 7431539 ∷ 435527247213 ∷ 111494975286636
-    ∷ 1668184435 ∷ 461229747298 ∷ 1701079400 ∷ 111520460465522 ∷ 1835888483 ∷ 512970484833 ∷ []
-
-abbrev pub dispatched : ℕ → Text → Past Line
-dispatched k s =
-    either (ltb k 1) (ofName s) (either (ltb k 2) (alone tau s) (either (ltb k 3) (alone delta s) (either (ltb k 6) (ofOne (oneOf k) s)
-    (either (ltb k 12) (ofTwo (twoOf k) s) (ofList (contents (wrapOf k)) (listed (wrapOf k)) s)))))
-
-abbrev AtKind : ℕ → Type 0
-AtKind k = (nameOf 8 (getD packedKinds k 0) ≡ getD kinds k noKind .word) × ((s : Text) → dispatched k s ≡ restOf k s)
-
-at-kinds : Below AtKind 17
-unfolding Below kinds nameOf
-at-kinds = (
-  (refl, λ s. refl),
-  (
-    (refl, λ s. refl),
-    (
-      (refl, λ s. refl),
-      (
-        (refl, λ s. refl),
-        (
-          (refl, λ s. refl),
-          (
-            (refl, λ s. refl),
-            (
-              (refl, λ s. refl),
-              (
-                (refl, λ s. refl),
-                (
-                  (refl, λ s. refl),
-                  ((refl, λ s. refl), ((refl, λ s. refl), ((refl, λ s. refl), ((refl, λ s. refl), ((refl, λ s. refl), ((refl, λ s. refl), ((refl, λ s. refl), ((refl, λ s. refl), tt)))))))),
-                ),
-              ),
-            ),
-          ),
-        ),
-      ),
-    ),
-  ),
-)
-
-kind-word : (k : ℕ) → k < 17 → nameOf 8 (getD packedKinds k 0) ≡ getD kinds k noKind .word
-kind-word k h = below AtKind 17 k h at-kinds .0
-
-kind-rest : (k : ℕ) → k < 17 → (s : Text) → dispatched k s ≡ restOf k s
-kind-rest k h = below AtKind 17 k h at-kinds .1
-
--- What follows a kind's word, by the kind's place.
-module _ (k : ℕ) (h : k < 17) (s : Text) where
-  pub rest-act : k < 1 → ofName s ≡ restOf k s
-  rest-act a = rw (lt-ltb k 1 a) at (kind-rest k h s)
-
-  pub rest-tau : 1 ≤ k → k < 2 → alone tau s ≡ restOf k s
-  rest-tau a b = rw (le-ltb k 1 a, lt-ltb k 2 b) at (kind-rest k h s)
-
-  pub rest-delta : 2 ≤ k → k < 3 → alone delta s ≡ restOf k s
-  rest-delta a b = rw (le-ltb k 1 (omega arith), le-ltb k 2 a, lt-ltb k 3 b) at (kind-rest k h s)
-
-  pub rest-one : 3 ≤ k → k < 6 → ofOne (oneOf k) s ≡ restOf k s
-  rest-one a b = rw (le-ltb k 1 (omega arith), le-ltb k 2 (omega arith), le-ltb k 3 a, lt-ltb k 6 b) at (kind-rest k h s)
-
-  pub rest-two : 6 ≤ k → k < 12 → ofTwo (twoOf k) s ≡ restOf k s
-  rest-two a b = rw (le-ltb k 1 (omega arith), le-ltb k 2 (omega arith), le-ltb k 3 (omega arith), le-ltb k 6 a, lt-ltb k 12 b) at (kind-rest k h s)
-
-  pub rest-list : (w : WrapKind) → w ≡ wrapOf k → 12 ≤ k → ofList (contents w) (listed w) s ≡ restOf k s
-  rest-list w e a = rw e (rw (le-ltb k 1 (omega arith), le-ltb k 2 (omega arith), le-ltb k 3 (omega arith), le-ltb k 6 (omega arith), le-ltb k 12 a) at (kind-rest k h s))
-
-pub kind-count : length kinds ≡ 17
-unfolding kinds
-kind-count = refl
-
--- Some kinds were looked at, and no word of theirs stands there.
-pub record Sought (line : Text) (at far k : ℕ) : Type 0 where
-  pub few : k ≤ 17
-  pub inside : far ≤ length line
-  pub reached : 1 ≤ k → at ≤ far
-  pub so-far : fartherFrom far line (ofKind (drop k kinds) (drop at line)) ≡ ofKind kinds (drop at line)
-
-pub sought-none : (line : Text) (at : ℕ) → Sought line at 0 0
-sought-none line at = record { few = omega arith; inside = omega arith; reached = λ h. absurd (not-suc-le-zero h); so-far = refl }
-
-module _ (line : Text) (at far k : ℕ) (s : Sought line at far k) where
-  module _ {r : Step} (h : k < 17) (w : Steps (λ v next. tt) line at r (literal (nameOf 8 (getD packedKinds k 0)) (drop at line))) where
-    pub sought-found : {v next q : ℕ} → r ≡ To v next → q ≡ placeOf r → KindFound line (ofKind kinds (drop at line)) k q far
-    sought-found {next = next} e f =
-        let g = went w e in
-        rw (f ∙ ap placeOf e)
-        (record {
-          says =
-              ap (fartherFrom far line) (kind-past kinds k (drop at line) (rw kind-count h) (g .says ∙ ap (λ t. literal t (drop at line)) (kind-word k h)))
-              ∙ s .so-far;
-          known = h;
-          within = g .within;
-          reached = s .inside;
-        })
-
-    pub sought-more : {p q : ℕ} → 1 ≤ at → r ≡ Stuck p → q ≡ max far p → Sought line at q (k + 1)
-    sought-more {p} i e f =
-        let g : Stands line at p (stuck (drop p line)) (literal (nameOf 8 (getD packedKinds k 0)) (drop at line)) = stays w e (ap placeOf (sym e)) in
-        rw f
-        (record {
-          few = omega arith;
-          inside = omega (arith, s .inside, g .within);
-          reached = λ _. omega (arith, g .after);
-          so-far =
-              join-more line far p (s .inside) (g .within) (omega (arith, g .after)) (ofKind (drop (k + 1) kinds) (drop at line))
-              ∙ ap (fartherFrom far line) (kind-stuck kinds k (drop at line) (rw kind-count h) (g .says ∙ ap (λ t. literal t (drop at line)) (kind-word k h)))
-              ∙ s .so-far;
-        })
-
-  pub sought-all : 17 ≤ k → stuck (drop far line) ≡ ofKind kinds (drop at line)
-  sought-all h =
-      let m : max far at ≡ far = omega (arith, s .reached (omega arith)) in
-      ap (λ p. stuck (drop p line)) (sym m)
-      ∙ join-stuck line far at (s .inside)
-      ∙ ap (fartherFrom far line) (kind-none kinds k (drop at line) (rw kind-count h))
-      ∙ s .so-far
-
--- The answer of a search for the kind, taken apart.
-module _ (line : Text) (due : Past Line) (r : KindStep) (h : KindRead line due r) where
-  pub kind-to : {k next far : ℕ} → r ≡ K.To k next far → KindFound line due k next far
-  kind-to e = rw e at h
-
-  pub kind-stays : {p q : ℕ} → r ≡ K.Stuck p → q ≡ kindPlace r → stuck (drop q line) ≡ due
-  kind-stays e f = rw (f ∙ ap kindPlace e) (rw e at h)
-
 -- A key that was passed.
-abbrev textIn : Past (Unit {0}) → Text
-textIn (past u r) = r
-textIn (stuck r) = r
-
-abbrev IsPast : Past (Unit {0}) → Type 0
-IsPast (past u r) = Unit {0}
-IsPast (stuck r) = ⊥
-
 literal-length : (w s : Text) {r : Text} → past tt r ≡ literal w s → length s ≡ length w + length r
 unfolding literal
 literal-length [] s e = omega (arith, ap (λ x. length (textIn x)) e)
-literal-length (c ∷ w) [] e = absurd (subst IsPast e tt)
+literal-length (c ∷ w) [] e = absurd (subst IsStuck (sym e) tt)
 literal-length (c ∷ w) (b ∷ s) {r} e = cases (eqb c b) refl (literal-length w s)
   where
     cases : (t : Bool) → eqb c b ≡ t → (past tt r ≡ literal w s → length s ≡ length w + length r) → length (b ∷ s) ≡ length (c ∷ w) + length r
     cases true f g = let i = g (rw (f, literal) at e) in omega arith
-    cases false f g = absurd (subst IsPast (rw (f, literal) at e) tt)
+    cases false f g = absurd (subst IsStuck (sym (rw (f, literal) at e)) tt)
 
 pub key-passed : (w line : Text) (at : ℕ) → at ≤ length line → past tt (drop at line) ≡ literal w line → at ≡ length w
 key-passed w line at h e = omega (arith, literal-length w line e, length-drop at line)

@@ -14,5 +14,6 @@ pub mod Contents
 pub mod Ends
 pub mod Wraps
 pub mod Farthest
+pub mod Kinded
 pub mod Slotted
 pub mod Ordered

@@ -92,7 +92,7 @@ plain-words (LMerge t u) p = refl
 plain-words (Sync t u) p = refl
 plain-words (Wrap o t) p = absurd p
 
-over-nothing : (store : List ℕ) → store ≡ over [] store
+pub over-nothing : (store : List ℕ) → store ≡ over [] store
 unfolding over
 over-nothing store = refl
 

@@ -2,17 +2,14 @@
 -- Assumes nothing.
 use mathlib.Core.Path.{_≡_, refl, sym, ap, subst, _∙_}
 use mathlib.Core.Bool.{Bool, true, false}
-use mathlib.Core.List.{List, [], _∷_, map}
+use mathlib.Core.List.{List, []}
 use Prim.Native.Nat.{ℕ, _≤_, _<_}
 use lib.ListN.{length, drop, length-map}
 use Rattle.meaning.specs.Bytes.{Text, ascii}
-use Rattle.table.specs.Encoded.{orderFor}
-use Rattle.table.specs.declared.Order.{Order}
 use Rattle.table.specs.declared.Order.the-variants.{All, Only}
 use Rattle.forms.specs.Text.{Past, past, stuck, onward, sameText, literal, ended}
 use Rattle.forms.specs.Forms.{OrderLine, all, only, Parts, orderLine}
-use Rattle.forms.specs.Faults.{fine, orderSaid, orderFault, labelSaid}
-use Rattle.forms.specs.Tallies.{foundOf}
+use Rattle.forms.specs.Faults.{orderFault, labelSaid}
 use Rattle.forms.specs.Places.{saidPlace}
 use Rattle.forms.specs.Entries.{labelEntry}
 use Rattle.forms.specs.Lists.{wholeList, over, ListRead}
@@ -25,7 +22,7 @@ use Rattle.forms.specs.declared.labels.SaidStep.the-variants as S
 use Rattle.forms.specs.declared.lists.ListKind.the-variants.{Labels}
 use Rattle.forms.specs.declared.terms.WrapKind.the-variants.{Allow}
 use Rattle.forms.proofs.Steps.{said-stays}
-use Rattle.forms.proofs.Operands.{ended-none, ended-some}
+use Rattle.forms.proofs.Operands.{ended-none, ended-some, over-nothing}
 use Rattle.forms.proofs.Wraps.{wrap-stuck, wrap-went, listed-faults, listed-words}
 
 abbrev after-labels : List Parts → Text → Past OrderLine
@@ -54,10 +51,6 @@ module _ (words : List Text) (line : Text) (at : ℕ) {before after : List ℕ} 
         faults = ap (λ s. s .found) (l .2) ∙ listed-faults Allow words (l .0);
         stored = λ z. l .3 ∙ ap (λ ws. over ws before) (listed-words Allow words (l .0) z);
       }
-
-over-nothing : (store : List ℕ) → store ≡ over [] store
-unfolding over
-over-nothing store = refl
 
 pub all-taken : (words : List Text) (store : List ℕ) → OrderTaken words (past all []) store store All Fine
 unfolding orderFault

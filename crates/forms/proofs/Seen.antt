@@ -1,22 +1,25 @@
 -- Entries of two parts and a sign between them, as what they say.
 -- Assumes nothing.
-use mathlib.Core.Path.{_≡_, refl, sym, ap, _∙_}
+use mathlib.Core.Path.{_≡_, refl, ap, _∙_}
 use mathlib.Core.List.{List, [], _∷_, map}
 use Prim.Native.Nat.{ℕ, min}
 use mathlib.Core.Bool.{Bool, true, false}
+use native.Mathlib.Nat.{le-trans}
 use native.Mathlib.Omega.{arith}
 use borrow.Author.Tests.{leb-true, leb-false, le-leb, lt-leb}
 use lib.Dec.{leb, ltb}
 use lib.ListN.{length, length-map}
 use Rattle.meaning.specs.Bytes.{Text}
-use Rattle.meaning.specs.Answers.{name, amount}
+use Rattle.meaning.specs.Answers.{name}
 use Rattle.table.specs.Decoded.{nameOf}
 use Rattle.forms.specs.Text.{Past, past, stuck, onward, literal, number, word}
-use Rattle.forms.specs.Forms.{Part, Parts, WordPair, WordRule, part, label, pair, rule, colon, greater}
-use Rattle.forms.specs.Faults.{Found, worse, unless, nameNumber, nameFault, actions}
+use Rattle.forms.specs.Forms.{Parts, part, label, pair, rule, colon, greater}
+use Rattle.forms.specs.Faults.{Found, unless, nameNumber, nameFault, actions}
 use Rattle.forms.specs.Tallies.{Said}
-use Rattle.forms.specs.Places.{Stands}
-use Rattle.forms.specs.Entries.{seen, partSaid, labelEntry, pairEntry, ruleEntry}
+use Rattle.forms.specs.Places.{Stands, Says}
+use Rattle.forms.specs.Sides.{withRight, rightSide, Sided, twoOrMore, Enough}
+use Rattle.forms.specs.declared.labels.SaidStep.{SaidStep}
+use Rattle.forms.specs.Entries.{seen, partSaid, nameEntry, labelEntry, pairEntry, ruleEntry}
 
 -- what is due, in another form
 pub become : {A : Type 0} {line : Text} {at place : ℕ} {answer due other : Past A} → due ≡ other → Stands line at place answer due → Stands line at place answer other
@@ -55,22 +58,6 @@ pub name-faulted : {f : Found} {n : ℕ} (names : List ℕ) (w : Text) → f ≡
 unfolding nameFault
 name-faulted names w e h = rw (length-map names (nameOf 8), ← h) e
 
-pub pair-seen : (words : List Text) (s : Text)
-    → onward (word s) (λ v r. onward (onward (literal (greater ∷ []) r) (λ _ q. word q)) (λ w p. past (pairEntry words (record { left = v; right = w })) p))
-    ≡ seen (pairEntry words) pair s
-unfolding pair
-pair-seen words s =
-    in-two (λ v w. record { left = v; right = w }) (pairEntry words) (λ v w. pairEntry words (record { left = v; right = w })) (λ v w. refl) (word s) (literal (greater ∷ [])) word
-
--- A rule from what its left side says.
-abbrev pub ruleFrom : List Text → Said → Text → Said
-ruleFrom words l w =
-    record {
-      found = worse (worse (l .found) (unless (leb 2 (l .second)) amount)) (nameFault words w);
-      first = l .first;
-      second = nameNumber words w;
-    }
-
 at-least-two : (n : ℕ) → leb 2 (min 32 n) ≡ leb 2 n
 at-least-two n = cases (leb 2 n) refl
   where
@@ -78,17 +65,48 @@ at-least-two n = cases (leb 2 n) refl
     cases true e = let h = leb-true 2 n e in le-leb 2 (min 32 n) (omega arith)
     cases false e = let h = leb-false 2 n e in lt-leb 2 (min 32 n) (omega arith)
 
-rule-same : (words : List Text) (a : Parts) (w : Text) → ruleFrom words (labelEntry words a) w ≡ ruleEntry words (record { left = a; right = w })
+rule-same : (words : List Text) (a : Parts) (w : Text) → withRight words (twoOrMore (labelEntry words a)) w ≡ ruleEntry words (record { left = a; right = w })
 rule-same words a w = rw (at-least-two (actions a))
 
 pub carried : {A B C : Type 0} (say : A → B) (k : B → Text → Past C) (x : Past A) → onward (onward x (λ a r. past (say a) r)) k ≡ onward x (λ a r. k (say a) r)
 carried say k (past a r) = refl
 carried say k (stuck r) = refl
 
+-- Entries of two sides: the right one after a left one that was read.
+pub pair-seen : (words : List Text) (s : Text) → onward (seen (nameEntry words) word s) (rightSide words) ≡ seen (pairEntry words) pair s
+unfolding pair
+pair-seen words s =
+    carried (nameEntry words) (rightSide words) (word s)
+    ∙ in-two (λ v w. record { left = v; right = w }) (pairEntry words) (λ v w. withRight words (nameEntry words v) w) (λ v w. refl) (word s) (literal (greater ∷ [])) word
+
 pub rule-seen : (words : List Text) (s : Text)
-    → onward (seen (labelEntry words) label s) (λ l r. onward (onward (literal (greater ∷ []) r) (λ _ q. word q)) (λ w p. past (ruleFrom words l w) p))
-    ≡ seen (ruleEntry words) rule s
+    → onward (onward (seen (labelEntry words) label s) (λ l p. past (twoOrMore l) p)) (rightSide words) ≡ seen (ruleEntry words) rule s
 unfolding rule
 rule-seen words s =
-    carried (labelEntry words) (λ l r. onward (onward (literal (greater ∷ []) r) (λ _ q. word q)) (λ w p. past (ruleFrom words l w) p)) (label s)
-    ∙ in-two (λ a w. record { left = a; right = w }) (ruleEntry words) (λ a w. ruleFrom words (labelEntry words a) w) (rule-same words) (label s) (literal (greater ∷ [])) word
+    carried twoOrMore (rightSide words) (seen (labelEntry words) label s)
+    ∙ carried (labelEntry words) (λ l r. rightSide words (twoOrMore l) r) (label s)
+    ∙ in-two (λ a w. record { left = a; right = w }) (ruleEntry words) (λ a w. withRight words (twoOrMore (labelEntry words a)) w) (rule-same words) (label s) (literal (greater ∷ [])) word
+
+pub both-sides : {words : List Text} {line : Text} {at : ℕ} {left r : SaidStep} {due other : Past Said} → Says line at left due → Sided words line left r
+    → onward due (rightSide words) ≡ other → Says line at r other
+both-sides {words} s t e =
+    record {
+      stands =
+          record {
+            says = t .stands .says ∙ ap (λ d. onward d (rightSide words)) (s .stands .says) ∙ e;
+            after = le-trans (s .stands .after) (t .stands .after);
+            within = t .stands .within;
+          };
+    }
+
+pub enough-said : {line : Text} {at : ℕ} {label r : SaidStep} {due : Past Said} → Says line at label due → Enough label r
+    → Says line at r (onward due (λ l p. past (twoOrMore l) p))
+enough-said {line} s t =
+    record {
+      stands =
+          record {
+            says = t .says line ∙ ap (λ d. onward d (λ l p. past (twoOrMore l) p)) (s .stands .says);
+            after = rw (t .places) (s .stands .after);
+            within = rw (t .places) (s .stands .within);
+          };
+    }

@@ -1,28 +1,26 @@
 -- The terms in the slots against the terms that they stand for, and the faults of a term after them.
 -- Assumes nothing.
-use mathlib.Core.Path.{_≡_, refl, sym, ap, ap₂, _∙_}
+use mathlib.Core.Path.{_≡_, refl, ap, ap₂, _∙_}
 use mathlib.Core.Bool.{Bool, true, false, _&&_}
 use mathlib.Core.List.{List, [], _∷_, map}
 use Prim.Native.Nat.{ℕ, zero, suc, _≤_}
 use native.Mathlib.Nat.{not-suc-le-zero, le-of-suc-le-suc}
-use lib.ListN.{length, getD, drop}
+use lib.ListN.{length, getD}
 use types.Run.{OneOf, miss}
 use denote.Enum.Declared.{tagOf}
 use Rattle.meaning.specs.Bytes.{Text}
 use Rattle.meaning.specs.Descriptions as D
 use Rattle.meaning.specs.Legal.{isMultiAction}
 use Rattle.meaning.specs.Answers.{range, operand}
-use Rattle.table.specs.Encoded.{filled, slotsFrom, termFor, termWords}
+use Rattle.table.specs.Encoded.{filled, slotsFrom, termFor}
 use Rattle.table.specs.Terms.{bareTerm}
 use Rattle.table.proofs.Term as TermType
 use Rattle.table.specs.declared.Term.{Term}
 use Rattle.table.specs.declared.Term.the-variants.{Delta, Tau, Act, Ref, Sum, Cond, Choice, IfElse, Seq, Merge, LMerge, Sync, Wrap}
 use Rattle.table.specs.declared.Slot.{Slot}
-use Rattle.forms.specs.Text.{Past, past, stuck}
 use Rattle.forms.specs.Forms.{Line, termLine}
 use Rattle.forms.specs.Faults.{Found, fine, worse, unless, inRange, operandsFit, termSaid, wordsOfFault, termFault}
 use Rattle.forms.specs.Tallies.{foundOf}
-use Rattle.forms.specs.Lists.{over}
 use Rattle.forms.specs.Terms.{LineTerm, LineRead, bareSlot, TermTaken, TermRead}
 use Rattle.forms.specs.declared.Found as G
 use Rattle.forms.specs.declared.TermStep.{TermStep}
@@ -78,20 +76,20 @@ fit-slots terms (D.sync t u) h = ap₂ {C = Bool} _&&_ (multi-slots 96 0 terms t
 fit-slots terms (D.wrap o t) h = refl
 
 -- what is no sync asks nothing of its operands
-pub fit-other : (terms : List D.Term) (x : Term) → OneOf (0 ∷ 1 ∷ 2 ∷ 3 ∷ 4 ∷ 5 ∷ 6 ∷ 7 ∷ 8 ∷ 9 ∷ 10 ∷ 12 ∷ []) (tagOf TermType.the-type x) → true ≡ operandsFit terms (bareTerm x)
-fit-other terms Delta e = refl
-fit-other terms Tau e = refl
-fit-other terms (Act a) e = refl
-fit-other terms (Ref e′) e = refl
-fit-other terms (Sum t) e = refl
-fit-other terms (Cond t) e = refl
-fit-other terms (Choice t u) e = refl
-fit-other terms (IfElse t u) e = refl
-fit-other terms (Seq t u) e = refl
-fit-other terms (Merge t u) e = refl
-fit-other terms (LMerge t u) e = refl
-fit-other terms (Sync t u) e = absurd (miss (0 ∷ 1 ∷ 2 ∷ 3 ∷ 4 ∷ 5 ∷ 6 ∷ 7 ∷ 8 ∷ 9 ∷ 10 ∷ 12 ∷ []) 11 tt e)
-fit-other terms (Wrap o t) e = refl
+pub fit-other : (x : Term) (terms : List D.Term) → OneOf (0 ∷ 1 ∷ 2 ∷ 3 ∷ 4 ∷ 5 ∷ 6 ∷ 7 ∷ 8 ∷ 9 ∷ 10 ∷ 12 ∷ []) (tagOf TermType.the-type x) → true ≡ operandsFit terms (bareTerm x)
+fit-other Delta terms e = refl
+fit-other Tau terms e = refl
+fit-other (Act a) terms e = refl
+fit-other (Ref e′) terms e = refl
+fit-other (Sum t) terms e = refl
+fit-other (Cond t) terms e = refl
+fit-other (Choice t u) terms e = refl
+fit-other (IfElse t u) terms e = refl
+fit-other (Seq t u) terms e = refl
+fit-other (Merge t u) terms e = refl
+fit-other (LMerge t u) terms e = refl
+fit-other (Sync t u) terms e = absurd (miss (0 ∷ 1 ∷ 2 ∷ 3 ∷ 4 ∷ 5 ∷ 6 ∷ 7 ∷ 8 ∷ 9 ∷ 10 ∷ 12 ∷ []) 11 tt e)
+fit-other (Wrap o t) terms e = refl
 
 -- All faults of a line.
 module _ (words : List Text) (equations : ℕ) (terms : List D.Term) (slots : List Slot) (few : length terms ≤ 96)

@@ -83,11 +83,11 @@ listed-operator Comm words n c = rw (same-length (ruleEntry words) (ruleSaid wor
 listed-operator Allow words n c = rw (same-length (labelEntry words) (labelSaid words) c)
 
 -- What was read, back from what it says.
-abbrev textIn : {A : Type 0} → Past A → Text
+abbrev pub textIn : {A : Type 0} → Past A → Text
 textIn (past a r) = r
 textIn (stuck r) = r
 
-abbrev IsStuck : {A : Type 0} → Past A → Type 0
+abbrev pub IsStuck : {A : Type 0} → Past A → Type 0
 IsStuck (past a r) = ⊥
 IsStuck (stuck r) = Unit {0}
 

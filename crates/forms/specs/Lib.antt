@@ -5,6 +5,7 @@ pub mod Faults
 pub mod Tallies
 pub mod Places
 pub mod Entries
+pub mod Sides
 pub mod Lists
 pub mod Terms
 pub mod Kinds

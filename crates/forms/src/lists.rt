@@ -8,7 +8,8 @@ ghost use lib.ListN.{length, drop, set};
 ghost use Rattle.table.specs.Decoded.{nameOf};
 ghost use Rattle.forms.specs.Text.{sameText, word};
 ghost use Rattle.forms.specs.Forms.{pair, rule};
-ghost use Rattle.forms.specs.Places.{Says};
+ghost use Rattle.forms.specs.Places.{saidPlace, Says};
+ghost use Rattle.forms.specs.Sides.{Enough, Sided};
 ghost use Rattle.forms.specs.Entries.{seen, nameEntry, pairEntry, ruleEntry};
 ghost use Rattle.forms.specs.Lists.{entryOf, wordCount, entryWord, weightFor, limitFor, entryStored, listOf, takesNone, wholeList, ListRead};
 use crate::Found;
@@ -53,26 +54,48 @@ fn read_name(line: &[u8], at: usize, names: &[u64]) -> SaidStep
     SaidStep::To(said, next)
 }
 
-fn read_pair(line: &[u8], at: usize, names: &[u64]) -> SaidStep
-    requires { ⌜ at ≤ length (now line) ⌝ }
-    ensures { λ r. ⌜ Says (now (line .entry)) at r (seen (pairEntry (map (nameOf 8) (now (names .entry)))) pair (drop at (now (line .entry)))) ⌝ }
+// An entry whose left side was read: `>` and a name follow.
+fn with_right(left: SaidStep, line: &[u8], names: &[u64]) -> SaidStep
+    requires { ⌜ saidPlace left ≤ length (now line) ⌝ }
+    ensures { λ r. ⌜ Sided (map (nameOf 8) (now (names .entry))) (now (line .entry)) left r ⌝ }
 {
-    let left = read_word(line, at);
-    let Step::To(v, after) = left else {
-        return SaidStep::Stuck(stuck_at(left));
+    let SaidStep::To(l, after) = left else {
+        return left;
     };
     let right = word_after(line, after, b">");
     let Step::To(w, next) = right else {
         return SaidStep::Stuck(stuck_at(right));
     };
-    let m = find_name(names, v);
     let n = find_name(names, w);
-    let one = name_fault(m, names.len());
-    let other = name_fault(n, names.len());
+    let known = name_fault(n, names.len());
+    let fault = l.fault;
     let said = Said {
-        fault: worse_of(one, other),
-        first: m as u64,
+        fault: worse_of(fault, known),
+        first: l.first,
         second: n as u64,
+    };
+    SaidStep::To(said, next)
+}
+
+fn read_pair(line: &[u8], at: usize, names: &[u64]) -> SaidStep
+    requires { ⌜ at ≤ length (now line) ⌝ }
+    ensures { λ r. ⌜ Says (now (line .entry)) at r (seen (pairEntry (map (nameOf 8) (now (names .entry)))) pair (drop at (now (line .entry)))) ⌝ }
+{
+    with_right(read_name(line, at, names), line, names)
+}
+
+// A rule's left side has at least two actions.
+fn two_or_more(label: SaidStep) -> SaidStep
+    ensures { λ r. ⌜ Enough label r ⌝ }
+{
+    let SaidStep::To(l, next) = label else {
+        return label;
+    };
+    let fault = l.fault;
+    let said = Said {
+        fault: worse_of(fault, amount_unless(2 <= l.second)),
+        first: l.first,
+        second: l.second,
     };
     SaidStep::To(said, next)
 }
@@ -81,25 +104,8 @@ fn read_rule(line: &[u8], at: usize, names: &[u64]) -> SaidStep
     requires { ⌜ (at ≤ length (now line)) × (length (now names) ≤ 12) ⌝ }
     ensures { λ r. ⌜ Says (now (line .entry)) at r (seen (ruleEntry (map (nameOf 8) (now (names .entry)))) rule (drop at (now (line .entry)))) ⌝ }
 {
-    let left = read_label(line, at, names);
-    let SaidStep::To(label, after) = left else {
-        return SaidStep::Stuck(said_stuck_at(left));
-    };
-    let right = word_after(line, after, b">");
-    let Step::To(w, next) = right else {
-        return SaidStep::Stuck(stuck_at(right));
-    };
-    let n = find_name(names, w);
-    let known = name_fault(n, names.len());
-    let two = amount_unless(2 <= label.second);
-    let fault = label.fault;
-    let whole = worse_of(fault, two);
-    let said = Said {
-        fault: worse_of(whole, known),
-        first: label.first,
-        second: n as u64,
-    };
-    SaidStep::To(said, next)
+    let label = read_label(line, at, names);
+    with_right(two_or_more(label), line, names)
 }
 
 fn read_entry(kind: ListKind, line: &[u8], at: usize, names: &[u64]) -> SaidStep

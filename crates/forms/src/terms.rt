@@ -263,9 +263,9 @@ fn wrap_of(k: usize) -> WrapKind
 
 // What follows the word of the kind at a place among the kinds.
 fn read_kind(
-    k: usize,
     line: &[u8],
     at: usize,
+    k: usize,
     names: &[u64],
     n: usize,
     store: &mut [u64],
@@ -313,7 +313,7 @@ fn read_line(line: &[u8], names: &[u64], n: usize, store: &mut [u64]) -> TermSte
     let KindStep::To(k, next, far) = kind else {
         return TermStep::Stuck(kind_stuck_at(kind));
     };
-    farthest(read_kind(k, line, next, names, n, store), far)
+    farthest(read_kind(line, next, k, names, n, store), far)
 }
 
 // Whether the term at a number is a multi-action; past the slots there is none.

@@ -1,6 +1,5 @@
 -- `forms::faults::found_unless` meets its contract: a fault unless the test holds.
 -- Assumes nothing.
-use borrow.Author.Needs.{needs}
 use Rattle.forms.proofs.faults.found_unless.Statement.{statement}
 use Rattle.forms.proofs.faults.found_unless.Tie as tie
 

@@ -1,9 +1,8 @@
 -- `forms::kinds::find_kind` meets its contract: one kind after the other, the farthest place kept.
 -- Assumes nothing.
-use mathlib.Core.Path.{_≡_, refl, sym, ap, _∙_}
-use Prim.Native.Nat.{_≤_, _<_, _-_, _+_}
+use Prim.Native.Nat.{_-_}
 use native.Mathlib.Omega.{arith}
-use Rattle.forms.proofs.Farthest.{Sought, sought-none, sought-found, sought-more, sought-all}
+use Rattle.forms.proofs.Kinded.{Sought, sought-none, sought-found, sought-more, sought-all}
 use Rattle.forms.proofs.kinds.find_kind.Statement.{statement}
 use Rattle.forms.proofs.kinds.find_kind.Tie as tie
 

@@ -1,12 +1,12 @@
 -- `forms::kinds::read_packed` meets its contract: what is left of the word against what is left of the line stays the answer.
 -- Assumes nothing.
 use mathlib.Core.Path.{_≡_, refl, sym, ap, _∙_}
-use Prim.Native.Nat.{ℕ, _≤_, _<_, _+_, _^_, _/_, _%_}
+use Prim.Native.Nat.{ℕ, _≤_, _<_, _^_}
 use native.Mathlib.Omega.{arith}
-use lib.ListN.{length, drop, getD}
+use lib.ListN.{length, drop}
 use Rattle.table.specs.Decoded.{nameOf}
 use Rattle.forms.specs.Text.{literal}
-use Rattle.forms.proofs.Farthest.{packed-none, packed-other, packed-more, packed-all}
+use Rattle.forms.proofs.Kinded.{packed-none, packed-other, packed-more, packed-all}
 use Rattle.forms.proofs.kinds.read_packed.Statement.{statement}
 use Rattle.forms.proofs.kinds.read_packed.Tie as tie
 

@@ -6,7 +6,7 @@ use Rattle.forms.specs.Text.{past}
 use Rattle.forms.specs.Forms.{all}
 use Rattle.forms.specs.declared.Found.the-variants.{Fine}
 use Rattle.forms.specs.declared.OrderStep.the-variants.{To}
-use mathlib.Core.Path.{_≡_, refl, sym, ap, _∙_}
+use mathlib.Core.Path.{sym, _∙_}
 use mathlib.Core.List.{[], map}
 use mathlib.Core.Bool.{true, false}
 use native.Mathlib.Omega.{arith}

@@ -1,7 +1,7 @@
 -- `forms::terms::farthest` meets its contract: the farther of two places stays.
 -- Assumes nothing.
 use borrow.Author.Needs.{needs}
-use mathlib.Core.Path.{_≡_, refl, ap}
+use mathlib.Core.Path.{ap}
 use Rattle.forms.specs.declared.TermStep.the-variants as TermStep
 use Rattle.forms.proofs.terms.farthest.Statement.{statement}
 use Rattle.forms.proofs.terms.farthest.Tie as tie

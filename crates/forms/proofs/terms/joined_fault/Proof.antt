@@ -1,7 +1,7 @@
 -- `forms::terms::joined_fault` meets its contract: the three faults joined.
 -- Assumes nothing.
 use borrow.Author.Needs.{needs}
-use mathlib.Core.Path.{_≡_, refl, sym, ap, ap₂, _∙_}
+use mathlib.Core.Path.{ap, ap₂, _∙_}
 use Rattle.meaning.specs.Answers.{range, operand}
 use Rattle.forms.specs.Faults.{worse, unless}
 use Rattle.forms.specs.Tallies.{foundOf}

@@ -3,12 +3,12 @@
 use borrow.Author.Needs.{needs}
 use mathlib.Core.List.{map}
 use native.Mathlib.Omega.{arith}
-use lib.ListN.{length, getD, length-map, List·getD-map, List·getD-eq-default}
+use lib.ListN.{length, length-map, List·getD-map, List·getD-eq-default}
 use Rattle.meaning.specs.Descriptions.{delta}
 use Rattle.meaning.specs.Legal.{isMultiAction}
 use Rattle.forms.specs.Terms.{bareSlot}
 use Rattle.forms.proofs.Slotted.{blankSlot}
-use mathlib.Core.Path.{_≡_, refl, sym, ap, _∙_}
+use mathlib.Core.Path.{_≡_, sym, ap, _∙_}
 use Rattle.forms.proofs.terms.multi_at.Statement.{statement}
 use Rattle.forms.proofs.terms.multi_at.Tie as tie
 

@@ -1,7 +1,7 @@
 -- `forms::terms::operands_fit` meets its contract: only sync asks anything of its operands.
 -- Assumes nothing.
 use borrow.Author.Needs.{needs}
-use mathlib.Core.Path.{_≡_, refl, sym, ap, _∙_}
+use mathlib.Core.Path.{sym, _∙_}
 use mathlib.Core.List.{map}
 use Rattle.forms.specs.Terms.{bareSlot}
 use Rattle.forms.proofs.Slotted.{fit-other}
@@ -12,7 +12,7 @@ enum-known-x : tie.Need-enum-known-x
 enum-known-x c = search needs
 
 returns : tie.Need-returns
-returns c = fit-other (map bareSlot (c .before .args .slots)) (c .before .args .x) (c .match .keys2)
+returns c = fit-other (c .before .args .x) (map bareSlot (c .before .args .slots)) (c .match .keys2)
 
 multi-at-requires : tie.Need-multi-at-requires
 multi-at-requires c κs = search needs

@@ -8,7 +8,7 @@ use Rattle.table.specs.Decoded.{nameOf}
 use Rattle.forms.specs.Forms.{alone, ofOne, ofTwo}
 use Rattle.forms.specs.Terms.{oneOf, twoOf}
 use Rattle.forms.proofs.Operands.{plain-line, line-become}
-use Rattle.forms.proofs.Farthest.{rest-act, rest-tau, rest-delta, rest-one, rest-two, rest-list}
+use Rattle.forms.proofs.Kinded.{rest-act, rest-tau, rest-delta, rest-one, rest-two, rest-list}
 use Rattle.forms.proofs.terms.read_kind.Statement.{statement}
 use Rattle.forms.proofs.terms.read_kind.Tie as tie
 

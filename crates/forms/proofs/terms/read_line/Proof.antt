@@ -1,7 +1,7 @@
 -- `forms::terms::read_line` meets its contract: the key, the kind, and what follows it.
 -- Assumes nothing.
 use borrow.Author.Needs.{needs}
-use mathlib.Core.Path.{_≡_, refl, ap, _∙_}
+use mathlib.Core.Path.{_≡_, ap, _∙_}
 use mathlib.Core.List.{map}
 use native.Mathlib.Omega.{arith}
 use lib.ListN.{drop}
@@ -9,10 +9,11 @@ use Rattle.meaning.specs.Bytes.{ascii}
 use Rattle.table.specs.Decoded.{nameOf}
 use Rattle.forms.specs.Text.{onward}
 use Rattle.forms.specs.Forms.{kinds, ofKind, termLine}
-use Rattle.forms.specs.Kinds.{restOf, fartherFrom, fartherStep, KindFound}
+use Rattle.forms.specs.Kinds.{fartherStep, KindFound}
 use Rattle.forms.proofs.Steps.{went, stays}
 use Rattle.forms.proofs.Operands.{line-become}
-use Rattle.forms.proofs.Farthest.{key-passed, kind-to, kind-stays, line-farther}
+use Rattle.forms.proofs.Farthest.{key-passed, line-farther}
+use Rattle.forms.proofs.Kinded.{kind-to, kind-stays}
 use Rattle.forms.proofs.terms.read_line.Statement.{statement}
 use Rattle.forms.proofs.terms.read_line.Tie as tie
 

@@ -1,0 +1,45 @@
+-- `forms::lists::two_or_more` meets its contract: one fault more to join.
+-- Assumes nothing.
+use borrow.Author.Needs.{needs}
+use mathlib.Core.Path.{refl, ap, _∙_}
+use lib.ListN.{drop}
+use Rattle.forms.specs.Text.{past}
+use Rattle.forms.specs.Faults.{worse}
+use Rattle.forms.specs.Tallies.{foundOf}
+use Rattle.forms.proofs.Seen.{said-same}
+use Rattle.forms.proofs.lists.two_or_more.Statement.{statement}
+use Rattle.forms.proofs.lists.two_or_more.Tie as tie
+
+enum-known-label : tie.Need-enum-known-label
+enum-known-label c = search needs
+
+enum-told : tie.Need-enum-told
+enum-told c = search needs
+
+returns : tie.Need-returns
+returns c = rw (c .enum-told .given .1) (record { places = refl; says = λ line. refl })
+
+amount-unless-requires : tie.Need-amount-unless-requires
+amount-unless-requires c κs = search needs
+
+worse-of-requires : tie.Need-worse-of-requires
+worse-of-requires c κs = search needs
+
+returns-2 : tie.Need-returns-2
+returns-2 c =
+    rw (c .before .before .before .before .label .given .1)
+    (record {
+      places = refl;
+      says = λ line. ap (λ s. past s (drop (c .before .before .before .before .label .given .0 .1 .0) line)) (said-same (c .worse-of .ensures ∙ ap (worse (foundOf (c .before .before .before .before .label .given .0 .0 .fault))) (c .before .amount-unless .ensures)) refl refl);
+    })
+
+pub two-or-more-spec : {M : Type 1} → statement M
+two-or-more-spec =
+    tie.close
+    (tie.spec
+    enum-known-label
+    enum-told
+    returns
+    amount-unless-requires
+    worse-of-requires
+    returns-2)
