@@ -16,7 +16,7 @@ use Rattle.table.specs.Decoded.{nameOf}
 use Rattle.forms.specs.Text.{Past, past, stuck, literal}
 use Rattle.forms.specs.Forms.{Line, Kind, kinds, farther, ofKind, alone, ofName, ofOne, ofTwo, ofList}
 use Rattle.meaning.specs.Descriptions.{tau, delta}
-use Rattle.forms.specs.Terms.{either, oneOf, twoOf, contents, listed}
+use Rattle.forms.specs.Terms.{either, madeOf, contents, listed}
 use Rattle.forms.specs.Kinds.{restOf, noKind, fartherFrom, wrapOf, kindPlace, KindFound, KindRead}
 use Rattle.forms.specs.declared.kinds.KindStep.{KindStep}
 use Rattle.forms.specs.declared.kinds.KindStep.the-variants as K
@@ -91,8 +91,8 @@ packedKinds =
 
 abbrev pub dispatched : ℕ → Text → Past Line
 dispatched k s =
-    either (ltb k 1) (ofName s) (either (ltb k 2) (alone tau s) (either (ltb k 3) (alone delta s) (either (ltb k 6) (ofOne (oneOf k) s)
-    (either (ltb k 12) (ofTwo (twoOf k) s) (ofList (contents (wrapOf k)) (listed (wrapOf k)) s)))))
+    either (ltb k 1) (ofName s) (either (ltb k 2) (alone tau s) (either (ltb k 3) (alone delta s) (either (ltb k 6) (ofOne (madeOf k 0) s)
+    (either (ltb k 12) (ofTwo (madeOf k) s) (ofList (contents (wrapOf k)) (listed (wrapOf k)) s)))))
 
 abbrev AtKind : ℕ → Type 0
 AtKind k = (nameOf 8 (getD packedKinds k 0) ≡ getD kinds k noKind .word) × ((s : Text) → dispatched k s ≡ restOf k s)
@@ -145,10 +145,10 @@ module _ (k : ℕ) (h : k < 17) (s : Text) where
   pub rest-delta : 2 ≤ k → k < 3 → alone delta s ≡ restOf k s
   rest-delta a b = rw (le-ltb k 1 (omega arith), le-ltb k 2 a, lt-ltb k 3 b) at (kind-rest k h s)
 
-  pub rest-one : 3 ≤ k → k < 6 → ofOne (oneOf k) s ≡ restOf k s
+  pub rest-one : 3 ≤ k → k < 6 → ofOne (madeOf k 0) s ≡ restOf k s
   rest-one a b = rw (le-ltb k 1 (omega arith), le-ltb k 2 (omega arith), le-ltb k 3 a, lt-ltb k 6 b) at (kind-rest k h s)
 
-  pub rest-two : 6 ≤ k → k < 12 → ofTwo (twoOf k) s ≡ restOf k s
+  pub rest-two : 6 ≤ k → k < 12 → ofTwo (madeOf k) s ≡ restOf k s
   rest-two a b = rw (le-ltb k 1 (omega arith), le-ltb k 2 (omega arith), le-ltb k 3 (omega arith), le-ltb k 6 a, lt-ltb k 12 b) at (kind-rest k h s)
 
   pub rest-list : (w : WrapKind) → w ≡ wrapOf k → 12 ≤ k → ofList (contents w) (listed w) s ≡ restOf k s

@@ -42,13 +42,9 @@ pub one-seen : (make : ℕ → D.Term) (s : Text) → onward (operand s) (λ t q
 unfolding ofOne
 one-seen make s = regrouped (literal (space ∷ []) s) (λ _ q. number q) (λ t q. alone-with (make t) q)
 
-second-seen : (make : ℕ → ℕ → D.Term) (x : Past ℕ) → onward x (λ t q. onward (operand q) (λ u o. alone-with (make t u) o)) ≡ onward x (λ t q. ofOne (make t) q)
-second-seen make (past t q) = one-seen (make t) q
-second-seen make (stuck q) = refl
-
-pub two-seen : (make : ℕ → ℕ → D.Term) (s : Text) → onward (operand s) (λ t q. onward (operand q) (λ u o. alone-with (make t u) o)) ≡ ofTwo make s
+pub two-seen : (make : ℕ → ℕ → D.Term) (s : Text) → onward (operand s) (λ t q. ofOne (make t) q) ≡ ofTwo make s
 unfolding ofTwo
-two-seen make s = second-seen make (operand s) ∙ regrouped (literal (space ∷ []) s) (λ _ q. number q) (λ t q. ofOne (make t) q)
+two-seen make s = regrouped (literal (space ∷ []) s) (λ _ q. number q) (λ t q. ofOne (make t) q)
 
 pub plain-become : (line : Text) {due other : Past Line} (r : TermStep) → due ≡ other → PlainRead line due r → PlainRead line other r
 plain-become line r e h = subst (λ d. PlainRead line d r) e h

@@ -4,7 +4,7 @@ use mathlib.Core.Path.{_≡_}
 use mathlib.Core.Bool.{Bool, true, false}
 use mathlib.Core.List.{List, [], _∷_, map}
 use Prim.Native.Nat.{ℕ, _≤_, _<_}
-use lib.Dec.{eqb}
+use lib.Dec.{eqb, ltb}
 use lib.ListN.{drop, length}
 use Rattle.meaning.specs.Bytes.{Text}
 use Rattle.meaning.specs.Descriptions as D
@@ -53,6 +53,10 @@ oneOf k t = either (eqb k 3) (D.ref t) (either (eqb k 4) (D.sum t) (D.cond t))
 abbrev pub twoOf : ℕ → ℕ → ℕ → D.Term
 twoOf k t u =
     either (eqb k 6) (D.choice t u) (either (eqb k 7) (D.ifelse t u) (either (eqb k 8) (D.seq t u) (either (eqb k 9) (D.merge t u) (either (eqb k 10) (D.lmerge t u) (D.sync t u)))))
+
+-- by the last number, and one before it for the kinds with two
+abbrev pub madeOf : ℕ → ℕ → ℕ → D.Term
+madeOf k t u = either (ltb k 6) (oneOf k u) (twoOf k t u)
 
 -- A line with its names looked up: the term at its number, the fault of its names and its list, and the list's words over the
 -- start of the store.

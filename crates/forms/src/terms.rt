@@ -9,7 +9,7 @@ ghost use Rattle.meaning.specs.Legal.{isMultiAction};
 ghost use Rattle.forms.specs.Text.{past, onward, ended};
 ghost use Rattle.forms.specs.Forms.{plain, ofName, ofOne, ofTwo, ofList, termLine};
 ghost use Rattle.forms.specs.Faults.{bothBelow, inRange, worse, unless, operandsFit};
-ghost use Rattle.forms.specs.Terms.{PlainRead, oneOf, twoOf, LineRead, Storeless, listKind, contents, listed, wrappedOf, bareSlot, TermAnswer};
+ghost use Rattle.forms.specs.Terms.{PlainRead, oneOf, twoOf, madeOf, LineRead, Storeless, listKind, contents, listed, wrappedOf, bareSlot, TermAnswer};
 ghost use Rattle.meaning.specs.Answers.{range, operand};
 ghost use Rattle.meaning.specs.Descriptions.{delta};
 ghost use Rattle.forms.specs.Tallies.{faultOf, foundOf};
@@ -84,30 +84,36 @@ fn two_of(k: usize, t: usize, u: usize) -> Term
     Term::Sync(t, u)
 }
 
-fn read_one(k: usize, line: &[u8], at: usize) -> TermStep
-    requires { ⌜ at ≤ length (now line) ⌝ }
-    ensures { λ r. ⌜ PlainRead (now (line .entry)) (ofOne (oneOf k) (drop at (now (line .entry)))) r ⌝ }
+fn made_of(k: usize, t: usize, u: usize) -> Term
+    ensures { λ r. ⌜ (bareTerm r ≡ madeOf k t u) × IsPlain r ⌝ }
 {
-    let first = number_after(line, at, b" ");
-    let Step::To(t, next) = first else {
-        return TermStep::Stuck(stuck_at(first));
+    if k < 6 {
+        return one_of(k, u);
+    }
+    two_of(k, t, u)
+}
+
+// The last number of a line, or the only one.
+fn read_last(k: usize, t: usize, line: &[u8], at: usize) -> TermStep
+    requires { ⌜ at ≤ length (now line) ⌝ }
+    ensures { λ r. ⌜ PlainRead (now (line .entry)) (ofOne (madeOf k t) (drop at (now (line .entry)))) r ⌝ }
+{
+    let last = number_after(line, at, b" ");
+    let Step::To(u, next) = last else {
+        return TermStep::Stuck(stuck_at(last));
     };
-    finish(line, next, one_of(k, t as usize))
+    finish(line, next, made_of(k, t, u as usize))
 }
 
 fn read_two(k: usize, line: &[u8], at: usize) -> TermStep
     requires { ⌜ at ≤ length (now line) ⌝ }
-    ensures { λ r. ⌜ PlainRead (now (line .entry)) (ofTwo (twoOf k) (drop at (now (line .entry)))) r ⌝ }
+    ensures { λ r. ⌜ PlainRead (now (line .entry)) (ofTwo (madeOf k) (drop at (now (line .entry)))) r ⌝ }
 {
     let first = number_after(line, at, b" ");
     let Step::To(t, after) = first else {
         return TermStep::Stuck(stuck_at(first));
     };
-    let second = number_after(line, after, b" ");
-    let Step::To(u, next) = second else {
-        return TermStep::Stuck(stuck_at(second));
-    };
-    finish(line, next, two_of(k, t as usize, u as usize))
+    read_last(k, t as usize, line, after)
 }
 
 fn read_act(line: &[u8], at: usize, names: &[u64], n: usize) -> TermStep
@@ -283,7 +289,7 @@ fn read_kind(
         return finish(line, at, Term::Delta);
     }
     if k < 6 {
-        return read_one(k, line, at);
+        return read_last(k, 0, line, at);
     }
     if k < 12 {
         return read_two(k, line, at);

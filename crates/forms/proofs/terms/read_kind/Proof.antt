@@ -6,7 +6,7 @@ use lib.ListN.{drop}
 use Rattle.meaning.specs.Descriptions.{tau, delta}
 use Rattle.table.specs.Decoded.{nameOf}
 use Rattle.forms.specs.Forms.{alone, ofOne, ofTwo}
-use Rattle.forms.specs.Terms.{oneOf, twoOf}
+use Rattle.forms.specs.Terms.{madeOf}
 use Rattle.forms.proofs.Operands.{plain-line, line-become}
 use Rattle.forms.proofs.Kinded.{rest-act, rest-tau, rest-delta, rest-one, rest-two, rest-list}
 use Rattle.forms.proofs.terms.read_kind.Statement.{statement}
@@ -44,15 +44,15 @@ returns-3 c =
     (rest-delta (a .k) (c .before .before .before .before .before .before .before .pre .4) (drop (a .at) (a .line .now)) (c .before .before .if2 .left) (c .before .if3 .taken))
     (plain-line (map (nameOf 8) (a .names .now)) (a .n) (a .line .now) (alone delta (drop (a .at) (a .line .now))) (a .store .now) (c .finish2 .result) (c .finish2 .ensures))
 
-read-one-requires : tie.Need-read-one-requires
-read-one-requires c κs = search needs
+read-last-requires : tie.Need-read-last-requires
+read-last-requires c κs = search needs
 
 returns-4 : tie.Need-returns-4
 returns-4 c =
     let a = c .before .before .before .before .before .before .before .before .args in
-    line-become (map (nameOf 8) (a .names .now)) (a .n) (a .line .now) (a .store .now) (a .store .now) (c .read-one .result)
+    line-become (map (nameOf 8) (a .names .now)) (a .n) (a .line .now) (a .store .now) (a .store .now) (c .read-last .result)
     (rest-one (a .k) (c .before .before .before .before .before .before .before .before .pre .4) (drop (a .at) (a .line .now)) (c .before .before .if3 .left) (c .before .if4 .taken))
-    (plain-line (map (nameOf 8) (a .names .now)) (a .n) (a .line .now) (ofOne (oneOf (a .k)) (drop (a .at) (a .line .now))) (a .store .now) (c .read-one .result) (c .read-one .ensures))
+    (plain-line (map (nameOf 8) (a .names .now)) (a .n) (a .line .now) (ofOne (madeOf (a .k) 0) (drop (a .at) (a .line .now))) (a .store .now) (c .read-last .result) (c .read-last .ensures))
 
 read-two-requires : tie.Need-read-two-requires
 read-two-requires c κs = search needs
@@ -62,7 +62,7 @@ returns-5 c =
     let a = c .before .before .before .before .before .before .before .before .before .args in
     line-become (map (nameOf 8) (a .names .now)) (a .n) (a .line .now) (a .store .now) (a .store .now) (c .read-two .result)
     (rest-two (a .k) (c .before .before .before .before .before .before .before .before .before .pre .4) (drop (a .at) (a .line .now)) (c .before .before .if4 .left) (c .before .if5 .taken))
-    (plain-line (map (nameOf 8) (a .names .now)) (a .n) (a .line .now) (ofTwo (twoOf (a .k)) (drop (a .at) (a .line .now))) (a .store .now) (c .read-two .result) (c .read-two .ensures))
+    (plain-line (map (nameOf 8) (a .names .now)) (a .n) (a .line .now) (ofTwo (madeOf (a .k)) (drop (a .at) (a .line .now))) (a .store .now) (c .read-two .result) (c .read-two .ensures))
 
 wrap-of-requires : tie.Need-wrap-of-requires
 wrap-of-requires c κs = search needs
@@ -90,7 +90,7 @@ read-kind-spec =
     returns-2
     finish-requires-2
     returns-3
-    read-one-requires
+    read-last-requires
     returns-4
     read-two-requires
     returns-5
