@@ -13,3 +13,10 @@ pub mod Sections
 pub mod LegalLines
 pub mod Acceptance
 pub mod Ends
+pub mod Walking
+pub mod Taking
+pub mod Freedom
+pub mod Termed
+pub mod Clearing
+pub mod Wholes
+pub mod Stores

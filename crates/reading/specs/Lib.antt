@@ -2,3 +2,5 @@
 pub mod Reading
 pub mod Writing
 pub mod Lines
+pub mod Walks
+pub mod Stored

@@ -112,17 +112,29 @@ pub record Whole : Type 0 where
   pub given : Description
   pub order : Order
 
+-- the lines from the root's on, from the terms' on, and all
+abbrev pub fromRoot : List Text → List Term → List ℕ → ℕ → ℕ → Text → Walk Whole
+fromRoot words terms bodies t line s =
+    walk (oneLine (takeNumber (ascii "root=") (λ r. ltb r t) range) line s) (λ root line s.
+    walk (oneLine (takeOrder words) line s) (λ order line s.
+    reached (record { given = record { words = words; terms = terms; bodies = bodies; root = root }; order = order }) line s))
+
+abbrev pub fromTerms : List Text → ℕ → ℕ → ℕ → Text → Walk Whole
+fromTerms words e t line s =
+    walk (lines (takeTerm words e) t [] line s) (λ terms line s.
+    walk (lines (takeBody t) e [] line s) (λ bodies line s.
+    fromRoot words terms bodies t line s))
+
 unfoldable pub wholeText : Text → Walk Whole
 wholeText text =
     walk (oneLine (takeNumber (ascii "names=") nameCount form) 1 text) (λ n line s.
     walk (lines takeName n [] line s) (λ words line s.
     walk (oneLine (takeNumber (ascii "equations=") equationCount form) line s) (λ e line s.
     walk (oneLine (takeNumber (ascii "terms=") termCount form) line s) (λ t line s.
-    walk (lines (takeTerm words e) t [] line s) (λ terms line s.
-    walk (lines (takeBody t) e [] line s) (λ bodies line s.
-    walk (oneLine (takeNumber (ascii "root=") (λ r. ltb r t) range) line s) (λ root line s.
-    walk (oneLine (takeOrder words) line s) (λ order line s.
-    reached (record { given = record { words = words; terms = terms; bodies = bodies; root = root }; order = order }) line s))))))))
+    fromTerms words e t line s))))
+
+abbrev pub described : Walk Whole → Reading
+described = allRead (λ w. read (w .given) (w .order))
 
 unfoldable pub readText : Text → Reading
-readText text = elim (ltb 8192 (length text)) [ true ↦ refused tooLong | false ↦ allRead (λ w. read (w .given) (w .order)) (wholeText text) ]
+readText text = elim (ltb 8192 (length text)) [ true ↦ refused tooLong | false ↦ described (wholeText text) ]

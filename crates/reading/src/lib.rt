@@ -1,2 +1,56 @@
 // Bytes to a checked table, or the refusal with its number and line.
+mod bodies;
 mod lines;
+mod names;
+mod orders;
+mod terms;
+mod whole;
+
+ghost use Rattle.reading.specs.Stored.{Stored};
+use crate::whole::clear;
+use crate::whole::read_lines;
+use crate::whole::refused;
+use forms::Fault;
+use table::Order;
+use table::Table;
+
+// How far reading has come: past a line, with the number or the packed name that it holds, and with the place and the number
+// of the next line; or the fault of a line and its number.
+pub enum Progress {
+    To(u64, usize, usize),
+    Bad(Fault, usize),
+}
+
+pub enum Answer {
+    Fine,
+    TooLong,
+    Bad(Fault, usize),
+}
+
+// What is read of a text; its lists are in the store.
+pub struct Read {
+    pub answer: Answer,
+    pub table: Table,
+    pub order: Order,
+}
+
+// The lists go to the first 3,104 words of the store. A text that is too long or a store that is too short changes nothing;
+// after any other refusal those words are 0.
+pub fn read_description(text: &[u8], store: &mut [u64]) -> Read
+    ensures { λ r. ⌜ Stored (now (text .entry)) (now (store .entry)) (now (store .exit)) r ⌝ }
+{
+    if 8192 < text.len() {
+        return refused(Answer::TooLong);
+    }
+    if store.len() < 3104 {
+        return refused(Answer::TooLong);
+    }
+    clear(&mut store[..3104]);
+    let read = read_lines(text, &mut store[..3104]);
+    let answer = read.answer;
+    let Answer::Fine = answer else {
+        clear(&mut store[..3104]);
+        return read;
+    };
+    read
+}

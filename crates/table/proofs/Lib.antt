@@ -2,3 +2,4 @@
 pub mod Parts
 pub mod Zeroed
 pub mod Stored
+pub mod Filled

@@ -9,7 +9,7 @@ read-label-requires : tie.Need-read-label-requires
 read-label-requires c κs = search needs
 
 two-or-more-requires : tie.Need-two-or-more-requires
-two-or-more-requires c κs = search needs
+two-or-more-requires c κs = tt
 
 with-right-requires : tie.Need-with-right-requires
 with-right-requires c κs = search needs

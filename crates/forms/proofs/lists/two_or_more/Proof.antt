@@ -1,6 +1,5 @@
 -- `forms::lists::two_or_more` meets its contract: one fault more to join.
 -- Assumes nothing.
-use borrow.Author.Needs.{needs}
 use mathlib.Core.Path.{refl, ap, _∙_}
 use lib.ListN.{drop}
 use Rattle.forms.specs.Text.{past}
@@ -11,19 +10,19 @@ use Rattle.forms.proofs.lists.two_or_more.Statement.{statement}
 use Rattle.forms.proofs.lists.two_or_more.Tie as tie
 
 enum-known-label : tie.Need-enum-known-label
-enum-known-label c = search needs
+enum-known-label c = c .match .keys1
 
 enum-told : tie.Need-enum-told
-enum-told c = search needs
+enum-told c = c .match .keys2
 
 returns : tie.Need-returns
 returns c = rw (c .enum-told .given .1) (record { places = refl; says = λ line. refl })
 
 amount-unless-requires : tie.Need-amount-unless-requires
-amount-unless-requires c κs = search needs
+amount-unless-requires c κs = tt
 
 worse-of-requires : tie.Need-worse-of-requires
-worse-of-requires c κs = search needs
+worse-of-requires c κs = tt
 
 returns-2 : tie.Need-returns-2
 returns-2 c =

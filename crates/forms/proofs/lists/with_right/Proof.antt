@@ -10,40 +10,40 @@ use Rattle.forms.proofs.lists.with_right.Statement.{statement}
 use Rattle.forms.proofs.lists.with_right.Tie as tie
 
 enum-known-left : tie.Need-enum-known-left
-enum-known-left c = search needs
+enum-known-left c = c .match .keys1
 
 enum-told : tie.Need-enum-told
-enum-told c = search needs
+enum-told c = c .match .keys2
 
 returns : tie.Need-returns
 returns c = search needs
 
 slice-aggregate-word-after : tie.Need-slice-aggregate-word-after
-slice-aggregate-word-after c = search needs
+slice-aggregate-word-after c = refl
 
 word-after-requires : tie.Need-word-after-requires
 word-after-requires c κs = rw (c .before .before .left .given .1) at (c .before .before .before .before .before .before .pre)
 
 enum-known-right : tie.Need-enum-known-right
-enum-known-right c = search needs
+enum-known-right c = c .match2 .keys1
 
 enum-told-2 : tie.Need-enum-told-2
-enum-told-2 c = search needs
+enum-told-2 c = c .match2 .keys2
 
 stuck-at-requires : tie.Need-stuck-at-requires
-stuck-at-requires c κs = search needs
+stuck-at-requires c κs = tt
 
 returns-2 : tie.Need-returns-2
 returns-2 c = record { stands = rw (c .before .before .before .before .before .before .left .given .1) (halts _ (c .before .before .before .word-after .ensures) (c .before .enum-told2 .given .1) (c .stuck-at .ensures)) }
 
 find-name-requires : tie.Need-find-name-requires
-find-name-requires c κs = search needs
+find-name-requires c κs = tt
 
 name-fault-requires : tie.Need-name-fault-requires
-name-fault-requires c κs = search needs
+name-fault-requires c κs = tt
 
 worse-of-requires : tie.Need-worse-of-requires
-worse-of-requires c κs = search needs
+worse-of-requires c κs = tt
 
 returns-3 : tie.Need-returns-3
 returns-3 c =

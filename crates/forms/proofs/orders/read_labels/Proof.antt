@@ -11,13 +11,13 @@ read-whole-requires : tie.Need-read-whole-requires
 read-whole-requires c κs = search needs
 
 enum-known-list : tie.Need-enum-known-list
-enum-known-list c = search needs
+enum-known-list c = c .match .keys1
 
 enum-told : tie.Need-enum-told
-enum-told c = search needs
+enum-told c = c .match .keys2
 
 said-stuck-at-requires : tie.Need-said-stuck-at-requires
-said-stuck-at-requires c κs = search needs
+said-stuck-at-requires c κs = tt
 
 same-length : tie.Need-same-length
 same-length c = search needs

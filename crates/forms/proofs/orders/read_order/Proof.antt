@@ -6,7 +6,7 @@ use Rattle.forms.specs.Text.{past}
 use Rattle.forms.specs.Forms.{all}
 use Rattle.forms.specs.declared.Found.the-variants.{Fine}
 use Rattle.forms.specs.declared.OrderStep.the-variants.{To}
-use mathlib.Core.Path.{sym, _∙_}
+use mathlib.Core.Path.{refl, sym, _∙_}
 use mathlib.Core.List.{[], map}
 use mathlib.Core.Bool.{true, false}
 use native.Mathlib.Omega.{arith}
@@ -23,25 +23,25 @@ returns-2 : tie.Need-returns-2
 returns-2 c j k = absurd (omega arith)
 
 slice-aggregate-read-literal : tie.Need-slice-aggregate-read-literal
-slice-aggregate-read-literal c = search needs
+slice-aggregate-read-literal c = refl
 
 read-literal-requires : tie.Need-read-literal-requires
 read-literal-requires c κs = search needs
 
 enum-known-key : tie.Need-enum-known-key
-enum-known-key c = search needs
+enum-known-key c = c .match .keys1
 
 enum-told : tie.Need-enum-told
-enum-told c = search needs
+enum-told c = c .match .keys2
 
 stuck-at-requires : tie.Need-stuck-at-requires
-stuck-at-requires c κs = search needs
+stuck-at-requires c κs = tt
 
 returns-3 : tie.Need-returns-3
 returns-3 c j k = order-stuck (c .before .before .before .before .before .before .before .before .before .before .args .line .now) (stays (c .before .before .before .read-literal .ensures) (c .before .enum-told .given .1) (c .stuck-at .ensures) .says)
 
 slice-aggregate-rest-is : tie.Need-slice-aggregate-rest-is
-slice-aggregate-rest-is c = search needs
+slice-aggregate-rest-is c = refl
 
 rest-is-requires : tie.Need-rest-is-requires
 rest-is-requires c κs = went (c .before .before .before .before .read-literal .ensures) (c .before .before .key .given .1) .within

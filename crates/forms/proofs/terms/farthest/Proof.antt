@@ -1,6 +1,5 @@
 -- `forms::terms::farthest` meets its contract: the farther of two places stays.
 -- Assumes nothing.
-use borrow.Author.Needs.{needs}
 use mathlib.Core.Path.{ap}
 use Rattle.forms.specs.declared.TermStep.the-variants as TermStep
 use Rattle.forms.proofs.terms.farthest.Statement.{statement}
@@ -16,7 +15,7 @@ returns : tie.Need-returns
 returns c = rw (c .enum-told .given .1)
 
 most-requires : tie.Need-most-requires
-most-requires c κs = search needs
+most-requires c κs = tt
 
 returns-2 : tie.Need-returns-2
 returns-2 c = rw (c .before .before .x .given .1) (ap TermStep.Stuck (c .most .ensures))

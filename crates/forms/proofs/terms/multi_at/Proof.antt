@@ -25,7 +25,7 @@ array-copy-out-slot : tie.Need-array-copy-out-slot
 array-copy-out-slot c = search needs
 
 is-multi-requires : tie.Need-is-multi-requires
-is-multi-requires c κs = search needs
+is-multi-requires c κs = tt
 
 returns-2 : tie.Need-returns-2
 returns-2 c = c .is-multi .ensures ∙ sym (ap isMultiAction (List·getD-map bareSlot (c .before .before .before .args .t1) (c .before .before .before .args .t) blankSlot))

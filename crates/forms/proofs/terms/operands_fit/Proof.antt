@@ -1,6 +1,5 @@
 -- `forms::terms::operands_fit` meets its contract: only sync asks anything of its operands.
 -- Assumes nothing.
-use borrow.Author.Needs.{needs}
 use mathlib.Core.Path.{sym, _∙_}
 use mathlib.Core.List.{map}
 use Rattle.forms.specs.Terms.{bareSlot}
@@ -9,16 +8,16 @@ use Rattle.forms.proofs.terms.operands_fit.Statement.{statement}
 use Rattle.forms.proofs.terms.operands_fit.Tie as tie
 
 enum-known-x : tie.Need-enum-known-x
-enum-known-x c = search needs
+enum-known-x c = c .match .keys1
 
 returns : tie.Need-returns
 returns c = fit-other (c .before .args .x) (map bareSlot (c .before .args .slots)) (c .match .keys2)
 
 multi-at-requires : tie.Need-multi-at-requires
-multi-at-requires c κs = search needs
+multi-at-requires c κs = tt
 
 multi-at-requires-2 : tie.Need-multi-at-requires-2
-multi-at-requires-2 c κs = search needs
+multi-at-requires-2 c κs = tt
 
 returns-2 : tie.Need-returns-2
 returns-2 c = rw (c .before .before .before .before .x .given .1, sym (c .before .before .multi-at .ensures) ∙ c .before .if1 .taken) (c .multi-at2 .ensures)

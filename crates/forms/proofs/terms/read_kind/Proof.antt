@@ -13,7 +13,7 @@ use Rattle.forms.proofs.terms.read_kind.Statement.{statement}
 use Rattle.forms.proofs.terms.read_kind.Tie as tie
 
 read-act-requires : tie.Need-read-act-requires
-read-act-requires c κs = search needs
+read-act-requires c κs = c .before .before .before .before .pre .0
 
 returns : tie.Need-returns
 returns c =
@@ -23,7 +23,7 @@ returns c =
     (c .read-act .ensures (a .store .now))
 
 finish-requires : tie.Need-finish-requires
-finish-requires c κs = search needs
+finish-requires c κs = (c .before .before .before .before .before .pre .0, tt)
 
 returns-2 : tie.Need-returns-2
 unfolding alone
@@ -34,7 +34,7 @@ returns-2 c =
     (plain-line (map (nameOf 8) (a .names .now)) (a .n) (a .line .now) (alone tau (drop (a .at) (a .line .now))) (a .store .now) (c .finish .result) (c .finish .ensures))
 
 finish-requires-2 : tie.Need-finish-requires-2
-finish-requires-2 c κs = search needs
+finish-requires-2 c κs = (c .before .before .before .before .before .before .pre .0, tt)
 
 returns-3 : tie.Need-returns-3
 unfolding alone
@@ -45,7 +45,7 @@ returns-3 c =
     (plain-line (map (nameOf 8) (a .names .now)) (a .n) (a .line .now) (alone delta (drop (a .at) (a .line .now))) (a .store .now) (c .finish2 .result) (c .finish2 .ensures))
 
 read-last-requires : tie.Need-read-last-requires
-read-last-requires c κs = search needs
+read-last-requires c κs = c .before .before .before .before .before .before .before .pre .0
 
 returns-4 : tie.Need-returns-4
 returns-4 c =
@@ -55,7 +55,7 @@ returns-4 c =
     (plain-line (map (nameOf 8) (a .names .now)) (a .n) (a .line .now) (ofOne (madeOf (a .k) 0) (drop (a .at) (a .line .now))) (a .store .now) (c .read-last .result) (c .read-last .ensures))
 
 read-two-requires : tie.Need-read-two-requires
-read-two-requires c κs = search needs
+read-two-requires c κs = c .before .before .before .before .before .before .before .before .pre .0
 
 returns-5 : tie.Need-returns-5
 returns-5 c =
@@ -65,10 +65,10 @@ returns-5 c =
     (plain-line (map (nameOf 8) (a .names .now)) (a .n) (a .line .now) (ofTwo (madeOf (a .k)) (drop (a .at) (a .line .now))) (a .store .now) (c .read-two .result) (c .read-two .ensures))
 
 wrap-of-requires : tie.Need-wrap-of-requires
-wrap-of-requires c κs = search needs
+wrap-of-requires c κs = tt
 
 read-wrap-requires : tie.Need-read-wrap-requires
-read-wrap-requires c κs = search needs
+read-wrap-requires c κs = let p = c .before .before .before .before .before .before .before .before .before .before .pre in (p .0, p .1, p .2, p .3)
 
 same-length : tie.Need-same-length
 same-length c = search needs

@@ -1,7 +1,7 @@
 -- `forms::terms::read_line` meets its contract: the key, the kind, and what follows it.
 -- Assumes nothing.
 use borrow.Author.Needs.{needs}
-use mathlib.Core.Path.{_≡_, ap, _∙_}
+use mathlib.Core.Path.{_≡_, refl, ap, _∙_}
 use mathlib.Core.List.{map}
 use native.Mathlib.Omega.{arith}
 use lib.ListN.{drop}
@@ -18,19 +18,19 @@ use Rattle.forms.proofs.terms.read_line.Statement.{statement}
 use Rattle.forms.proofs.terms.read_line.Tie as tie
 
 slice-aggregate-read-literal : tie.Need-slice-aggregate-read-literal
-slice-aggregate-read-literal c = search needs
+slice-aggregate-read-literal c = refl
 
 read-literal-requires : tie.Need-read-literal-requires
 read-literal-requires c κs = search needs
 
 enum-known-key : tie.Need-enum-known-key
-enum-known-key c = search needs
+enum-known-key c = c .match .keys1
 
 enum-told : tie.Need-enum-told
-enum-told c = search needs
+enum-told c = c .match .keys2
 
 stuck-at-requires : tie.Need-stuck-at-requires
-stuck-at-requires c κs = search needs
+stuck-at-requires c κs = tt
 
 returns : tie.Need-returns
 unfolding termLine
@@ -48,13 +48,13 @@ unfolding termLine
 passed c = ap (λ d. onward d (λ _ r. ofKind kinds r)) (went (c .before .before .before .before .read-literal .ensures) (c .before .before .key .given .1) .says)
 
 enum-known-kind : tie.Need-enum-known-kind
-enum-known-kind c = search needs
+enum-known-kind c = c .match2 .keys1
 
 enum-told-2 : tie.Need-enum-told-2
-enum-told-2 c = search needs
+enum-told-2 c = c .match2 .keys2
 
 kind-stuck-at-requires : tie.Need-kind-stuck-at-requires
-kind-stuck-at-requires c κs = search needs
+kind-stuck-at-requires c κs = tt
 
 found : (c : tie.After-known-told2)
     → KindFound (c .before .before .before .before .before .before .before .before .before .before .before .before .args .line .now) (ofKind kinds (drop (c .before .before .before .before .before .key .given .0 .1 .0) (c .before .before .before .before .before .before .before .before .before .before .before .before .args .line .now)))
@@ -73,7 +73,7 @@ read-kind-requires c κs =
     (f .within, p .0, p .1, p .2, f .known)
 
 farthest-requires : tie.Need-farthest-requires
-farthest-requires c κs = search needs
+farthest-requires c κs = tt
 
 same-length : tie.Need-same-length
 same-length c = search needs

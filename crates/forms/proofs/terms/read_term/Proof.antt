@@ -23,10 +23,10 @@ read-line-requires : tie.Need-read-line-requires
 read-line-requires c κs = search needs
 
 enum-known-said : tie.Need-enum-known-said
-enum-known-said c = search needs
+enum-known-said c = c .match .keys1
 
 enum-told : tie.Need-enum-told
-enum-told c = search needs
+enum-told c = c .match .keys2
 
 same-length : tie.Need-same-length
 same-length c = search needs
@@ -39,7 +39,7 @@ returns-4 c terms e i h j k =
     (c .before .before .before .before .read-line .result) (c .enum-told .given .1) (c .before .before .before .before .read-line .ensures)
 
 joined-fault-requires : tie.Need-joined-fault-requires
-joined-fault-requires c κs = search needs
+joined-fault-requires c κs = tt
 
 same-length-2 : tie.Need-same-length-2
 same-length-2 c = search needs

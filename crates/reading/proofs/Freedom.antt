@@ -1,0 +1,46 @@
+-- A name that may be given: none of the earlier ones, and none of the words tau, none and all.
+-- Assumes nothing.
+use mathlib.Core.Path.{_≡_, refl, sym, ap, _∙_}
+use mathlib.Core.Bool.{Bool, true, false, _&&_, not, false≢true}
+use mathlib.Core.List.{List, [], _∷_}
+use Prim.Native.Nat.{ℕ, suc, _≤_, _<_}
+use lib.Dec.{leb, ltb}
+use lib.ListN.{length}
+use borrow.Author.Tests.{lt-ltb, le-ltb}
+use Rattle.meaning.specs.Bytes.{Text, ascii}
+use Rattle.forms.specs.Text.{sameText}
+use Rattle.forms.specs.Faults.{nameNumber}
+use Rattle.forms.proofs.Looked.{same-self, same-true}
+use Rattle.reading.specs.Reading.{isFree}
+
+same-turned : (s t : Text) → sameText t s ≡ true → sameText s t ≡ true
+same-turned s t e = rw (same-true t s e) (same-self s)
+
+same-sym : (s t : Text) → sameText s t ≡ sameText t s
+same-sym s t = cases (sameText s t) (sameText t s) refl refl
+  where
+    cases : (a b : Bool) → sameText s t ≡ a → sameText t s ≡ b → a ≡ b
+    cases true true p q = refl
+    cases false false p q = refl
+    cases true false p q = sym (same-turned t s p) ∙ q
+    cases false true p q = sym p ∙ same-turned s t q
+
+-- not the first, the second or the third of three
+passed : (x y z : Bool) → leb 3 (elim x as (λ _. ℕ) [ true ↦ 0 | false ↦ suc (elim y as (λ _. ℕ) [ true ↦ 0 | false ↦ suc (elim z as (λ _. ℕ) [ true ↦ 0 | false ↦ 1 ]) ]) ]) ≡ (not x && not y && not z)
+passed true y z = refl
+passed false true z = refl
+passed false false true = refl
+passed false false false = refl
+
+pub third-number : (a b c w : Text) → leb 3 (nameNumber (a ∷ b ∷ c ∷ []) w) ≡ (not (sameText w a) && not (sameText w b) && not (sameText w c))
+unfolding nameNumber
+third-number a b c w = rw (same-sym w a, same-sym w b, same-sym w c) (passed (sameText a w) (sameText b w) (sameText c w))
+
+module _ (words : List Text) (w : Text) where
+  pub held-before : nameNumber words w < length words → false ≡ isFree words w
+  unfolding isFree
+  held-before h = rw (lt-ltb (nameNumber words w) (length words) h)
+
+  pub free-if : length words ≤ nameNumber words w → leb 3 (nameNumber (ascii "tau" ∷ ascii "none" ∷ ascii "all" ∷ []) w) ≡ isFree words w
+  unfolding isFree
+  free-if h = rw (le-ltb (nameNumber words w) (length words) h) (third-number (ascii "tau") (ascii "none") (ascii "all") w)

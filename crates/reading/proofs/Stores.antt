@@ -1,0 +1,90 @@
+-- What reading leaves in the store, and that its contract settles it.
+-- Assumes nothing.
+use mathlib.Core.Path.{_≡_, refl, sym, ap, ap₂, _∙_}
+use mathlib.Core.Bool.{Bool, true, false}
+use mathlib.Core.List.{List, [], _∷_, _++_}
+use Prim.Native.Nat.{ℕ, _≤_, _<_}
+use native.Mathlib.Omega.{arith}
+use lib.Dec.{leb, ltb}
+use lib.ListN.{length, drop}
+use borrow.Author.Tests.{lt-ltb, le-ltb, le-leb, lt-leb}
+use types.Run.{OneOf, miss}
+use denote.Enum.Declared.{tagOf}
+use Rattle.reading.proofs.Answer.{the-type}
+use Rattle.meaning.specs.Bytes.{Text}
+use Rattle.meaning.specs.Answers.{tooLong, inLine, large, noRoom}
+use Rattle.table.specs.declared.Order.the-variants.{All}
+use Rattle.table.specs.Encoded.{filled, tableOf, blank}
+use Rattle.table.proofs.Filled.{filled-replicate}
+use Rattle.reading.specs.Reading.{Reading, read, refused, described, wholeText, readText}
+use Rattle.reading.specs.Stored.{readFor, storeFor, withRoom, readWith, Stored, Ended}
+use Rattle.reading.specs.declared.Answer.{Answer}
+use Rattle.reading.specs.declared.Answer.the-variants.{Fine, TooLong, Bad}
+use Rattle.reading.specs.declared.Read.{Read}
+
+-- Any two results that meet the contract are equal, and so are the stores.
+pub stored-once : {text : Text} {before after after′ : List ℕ} {r r′ : Read} → Stored text before after r → Stored text before after′ r′ → (r ≡ r′) × (after ≡ after′)
+stored-once s t = (s .result ∙ sym (t .result), s .store ∙ sym (t .store))
+
+-- Refusal 1 comes first.
+too-long : (b : Bool) → withRoom b (refused tooLong) ≡ refused tooLong
+too-long true = refl
+too-long false = refl
+
+module _ (text : Text) where
+  long-refused : 8192 < length text → readText text ≡ refused tooLong
+  unfolding readText
+  long-refused h = rw (lt-ltb 8192 (length text) h, readText)
+
+  short-read : length text ≤ 8192 → readText text ≡ described (wholeText text)
+  unfolding readText
+  short-read h = rw (le-ltb 8192 (length text) h, readText)
+
+module _ (text : Text) (room : ℕ) where
+  pub text-long : 8192 < length text → readWith text room ≡ refused tooLong
+  unfolding readWith
+  text-long h = ap (withRoom (leb 3104 room)) (long-refused text h) ∙ too-long (leb 3104 room)
+
+  pub room-short : room < 3104 → readWith text room ≡ refused tooLong
+  unfolding readWith
+  room-short h = rw (lt-leb 3104 room h)
+
+  pub both-fit : length text ≤ 8192 → 3104 ≤ room → readWith text room ≡ described (wholeText text)
+  unfolding readWith
+  both-fit h k = rw (le-leb 3104 room k) (short-read text h)
+
+module _ (text : Text) (before : List ℕ) {r : Read} where
+  pub refused-first : readWith text (length before) ≡ refused tooLong → r ≡ record { answer = TooLong; table = tableOf blank; order = All } → Stored text before before r
+  refused-first e h = record { result = h ∙ ap readFor (sym e); store = ap (λ x. storeFor x before) (sym e) }
+
+-- By the answer the store is kept or cleared.
+module _ (before : List ℕ) {front : List ℕ} {r : Read} where
+  kept : (due : Reading) → Ended due front r → r .answer ≡ Fine → front ++ drop 3104 before ≡ storeFor due before
+  kept (read d o) e h = ap (λ l. l ++ drop 3104 before) (e .left)
+  kept (refused tooLong) e h = absurd (e .left)
+  kept (refused (inLine f line)) e h = let k = sym (ap (λ x. x .answer) (e .result)) ∙ h in let z : _≡_ {A = ℕ} 0 1 = cc in absurd (omega arith)
+  kept (refused large) e h = absurd (e .left)
+  kept (refused noRoom) e h = absurd (e .left)
+
+  cleared : {zeros : List ℕ} (due : Reading) → Ended due front r → (r .answer ≡ Fine → ⊥) → zeros ≡ filled 3104 0 [] → zeros ++ drop 3104 before ≡ storeFor due before
+  cleared (read d o) e h z = absurd (h (ap (λ x. x .answer) (e .result)))
+  cleared (refused tooLong) e h z = absurd (e .left)
+  cleared (refused (inLine f line)) e h z = ap (λ l. l ++ drop 3104 before) (z ∙ sym (filled-replicate 0 3104))
+  cleared (refused large) e h z = absurd (e .left)
+  cleared (refused noRoom) e h z = absurd (e .left)
+
+  module _ (text : Text) (fits : readWith text (length before) ≡ described (wholeText text)) (e : Ended (described (wholeText text)) front r) where
+    same : r ≡ readFor (readWith text (length before))
+    same = e .result ∙ ap readFor (sym fits)
+
+    pub fine-stored : {after : List ℕ} → r .answer ≡ Fine → after ≡ front ++ drop 3104 before → Stored text before after r
+    fine-stored h q = record { result = same; store = q ∙ kept (described (wholeText text)) e h ∙ ap (λ x. storeFor x before) (sym fits) }
+
+    pub bad-stored : {zeros after : List ℕ} → (r .answer ≡ Fine → ⊥) → zeros ≡ filled 3104 0 [] → after ≡ zeros ++ drop 3104 before → Stored text before after r
+    bad-stored h z q = record { result = same; store = q ∙ cleared (described (wholeText text)) e h z ∙ ap (λ x. storeFor x before) (sym fits) }
+
+-- one of the other answers
+pub not-fine : (a : Answer) → OneOf (1 ∷ 2 ∷ []) (tagOf the-type a) → a ≡ Fine → ⊥
+not-fine Fine h e = miss (1 ∷ 2 ∷ []) 0 tt h
+not-fine TooLong h e = let z : _≡_ {A = ℕ} 0 1 = cc in omega arith
+not-fine (Bad f line) h e = let z : _≡_ {A = ℕ} 0 1 = cc in omega arith

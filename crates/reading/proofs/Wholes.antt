@@ -1,0 +1,182 @@
+-- The whole text: sections one after the other, and what is left when they are read.
+-- Assumes nothing.
+use mathlib.Core.Path.{_≡_, refl, sym, ap, ap₂, _∙_}
+use mathlib.Core.Bool.{Bool, true, false, _&&_}
+use mathlib.Core.List.{List, [], _∷_, _++_, map, append-nil}
+use Prim.Native.Nat.{ℕ, suc, _+_, _-_, _^_, _≤_, _<_}
+use native.Mathlib.Omega.{arith}
+use lib.Dec.{leb, ltb}
+use lib.ListN.{length, getD, take, drop, length-append, length-map, drop-of-length-le}
+use lib.Seq.{take-at, drop-at, take-all, length-take-le}
+use borrow.Author.Tests.{lt-ltb, le-ltb, le-leb, leb-true, leb-false}
+use Rattle.meaning.specs.Bytes.{Text, ascii}
+use Rattle.meaning.specs.Descriptions as D
+use Rattle.meaning.specs.Answers as A
+use Rattle.meaning.specs.Answers.{form, range, Refusal, inLine}
+use Rattle.table.specs.declared.Order.{Order}
+use Rattle.table.specs.declared.Table.{Table}
+use Rattle.table.specs.declared.Term.the-variants.{Delta}
+use Rattle.table.specs.declared.Slot.{Slot}
+use Rattle.table.specs.Decoded.{nameOf}
+use Rattle.table.specs.Encoded.{filled, wordOf, slotsFrom, termsWords, orderWords, orderFor, tableOf, storeOf}
+use Rattle.table.proofs.Filled.{filled-length, filled-two, filled-front}
+use Rattle.forms.specs.Text.{Past, past, stuck}
+use Rattle.forms.specs.Forms.{countLine}
+use Rattle.forms.specs.Tallies.{faultOf}
+use Rattle.forms.specs.Lists.{over}
+use Rattle.forms.specs.declared.Fault.{Fault}
+use Rattle.forms.specs.declared.Fault.the-variants.{Form, Name, Range, Amount, Operand}
+use Rattle.forms.proofs.Rests.{rest-cons}
+use Rattle.forms.proofs.Looked.{word-name}
+use Rattle.reading.specs.Reading.{Taken, takenIf, formed, takeNumber, nameCount, equationCount, termCount, Cut, cut, noLine, firstLine, Walk, reached, halted, walk, afterLine, lineWalk, oneLine, Reading, read, refused, Whole, described}
+use Rattle.reading.specs.Walks.{between}
+use Rattle.reading.specs.Stored.{faultFor, readFor, Ended, refusalOf, Padded}
+use Rattle.reading.specs.declared.Answer.the-variants as N
+use Rattle.reading.specs.declared.Read.{Read}
+use Rattle.reading.specs.declared.Progress.{Progress}
+use Rattle.reading.specs.declared.Progress.the-variants.{To, Bad}
+use Rattle.reading.proofs.Termed.{over-free}
+
+pub fault-back : (f : Fault) → faultFor (faultOf f) ≡ f
+fault-back Form = refl
+fault-back Name = refl
+fault-back Range = refl
+fault-back Amount = refl
+fault-back Operand = refl
+
+-- Numbers by the tests that document 01 gives, and by those of the code.
+module _ (key : Text) (f g : ℕ → Bool) (same : (n : ℕ) → f n ≡ g n) (x : A.Fault) (line : ℕ) where
+  pub other-test : (s : Text) → oneLine (takeNumber key f x) line s ≡ oneLine (takeNumber key g x) line s
+  unfolding takeNumber
+  other-test s = go (firstLine s)
+    where
+      with-number : (d : Past ℕ) → formed d (λ n. takenIf (f n) x n) ≡ formed d (λ n. takenIf (g n) x n)
+      with-number (past n r) = ap (λ t. takenIf t x n) (same n)
+      with-number (stuck r) = refl
+
+      go : (c : Cut) → lineWalk (takeNumber key f x) line c ≡ lineWalk (takeNumber key g x) line c
+      go (cut l rest) = ap (λ t. afterLine line t rest) (with-number (countLine key l))
+      go noLine = refl
+
+at-most : (n m : ℕ) → ltb n (suc m) ≡ leb n m
+at-most n m = cases (leb n m) refl
+  where
+    cases : (t : Bool) → leb n m ≡ t → ltb n (suc m) ≡ t
+    cases true e = lt-ltb n (suc m) (omega (arith, leb-true n m e))
+    cases false e = le-ltb n (suc m) (omega (arith, leb-false n m e))
+
+pub below-test : (t n : ℕ) → between 0 t n ≡ ltb n t
+below-test t n = rw (le-leb 0 n (omega arith))
+
+pub names-test : (n : ℕ) → between 1 13 n ≡ nameCount n
+names-test n = rw (at-most n 12)
+
+pub equations-test : (n : ℕ) → between 0 17 n ≡ equationCount n
+equations-test n = rw (le-leb 0 n (omega arith), at-most n 16)
+
+pub terms-test : (n : ℕ) → between 1 97 n ≡ termCount n
+terms-test n = rw (at-most n 96)
+
+-- A step that ends the reading, and one after which it goes on.
+module _ {A : Type 0} {due : Walk A} (k : A → ℕ → Text → Walk Whole) {after : List ℕ} {r : Read} where
+  pub ends-bad : {p : Progress} {f : Fault} {line : ℕ} → p ≡ Bad f line → halted (inLine (faultOf f) line) ≡ due → r ≡ readFor (refused (refusalOf p)) → Ended (described (walk due k)) after r
+  ends-bad e q h = rw (← q) (record { result = rw e at h; left = tt })
+
+  pub ends-on : {a : A} {line : ℕ} {s : Text} → reached a line s ≡ due → Ended (described (k a line s)) after r → Ended (described (walk due k)) after r
+  ends-on q h = rw (← q) h
+
+-- The end of the text.
+abbrev pub whole-with : D.Description → ℕ → D.Order → Whole
+whole-with d root o = record { given = record { words = d .words; terms = d .terms; bodies = d .bodies; root = root }; order = o }
+
+module _ (w : Whole) (line end : ℕ) (text : Text) {after : List ℕ} {r : Read} where
+  pub ends-short : end < length text → r ≡ readFor (refused (inLine form line)) → Ended (described (reached w line (drop end text))) after r
+  ends-short h e = rw (rest-cons text end h) (record { result = e; left = tt })
+
+  pub ends-whole : length text ≤ end → Ended (read (w .given) (w .order)) after r → Ended (described (reached w line (drop end text))) after r
+  ends-whole h e = rw (drop-of-length-le text h) e
+
+-- The order's words.
+module _ (n : ℕ) (front ws : List ℕ) {store : List ℕ} (l : length front ≡ n) (s : store ≡ front ++ filled 32 0 []) where
+  behind : drop n store ≡ filled 32 0 []
+  behind = rw s (drop-at front (filled 32 0 []) n l)
+
+  size : length store - n ≡ 32
+  size = let e = filled-length {A = ℕ} 0 32 [] in rw (s, length-append) (omega arith)
+
+  pub words-stored : {after : List ℕ} → after ≡ over ws (take (length store - n) (drop n store)) → take n store ++ (after ++ drop (length store - n) (drop n store)) ≡ front ++ filled 32 0 ws
+  words-stored q =
+      let b : take n store ≡ front = rw s (take-at front (filled 32 0 []) n l) in
+      let e = filled-length {A = ℕ} 0 32 [] in
+      let f : length (filled {A = ℕ} 32 0 []) ≤ 32 = omega arith in
+      let z : drop 32 (filled {A = ℕ} 32 0 []) ≡ [] = drop-of-length-le (filled 32 0 []) f in
+      let y : take 32 (filled {A = ℕ} 32 0 []) ≡ filled 32 0 [] = take-all 32 (filled 32 0 []) f in
+      rw (q, size, behind, b, y, z, append-nil, over-free 32 ws)
+
+pub order-stored : (d : D.Description) (o : D.Order) {store after : List ℕ} → store ≡ filled 3072 0 (termsWords (d .terms)) ++ filled 32 0 []
+    → after ≡ over (orderWords o) (take (length store - 3072) (drop 3072 store))
+    → take 3072 store ++ (after ++ drop (length store - 3072) (drop 3072 store)) ≡ storeOf d o
+unfolding storeOf
+order-stored d o s q = words-stored 3072 (filled 3072 0 (termsWords (d .terms))) (orderWords o) (filled-length 0 3072 (termsWords (d .terms))) s q
+
+-- The table with its root.
+abbrev rooted : Table → ℕ → Table
+rooted t root = record { names = t .names; named = t .named; bodies = t .bodies; equations = t .equations; slots = t .slots; terms = t .terms; root = root }
+
+pub with-root : (d : D.Description) (o : D.Order) (root : ℕ) {t : Table} {x : Order} → t ≡ tableOf d → x ≡ orderFor o
+    → _≡_ {A = Read} (record { answer = N.Fine; table = rooted t root; order = x })
+    (readFor (read (record { words = d .words; terms = d .terms; bodies = d .bodies; root = root }) o))
+unfolding tableOf
+with-root d o root e q = rw (e, q)
+
+-- A store that is all 0, in two parts.
+module _ (n m k : ℕ) {store : List ℕ} (s : store ≡ filled n 0 []) (e : n ≡ m + k) where
+  pub front-free : take m store ≡ filled m 0 []
+  front-free = rw (s, filled-two {A = ℕ} 0 n m k e) (take-at (filled m 0 []) (filled k 0 []) m (filled-length 0 m []))
+
+  pub rest-free : drop m store ≡ filled k 0 []
+  rest-free = rw (s, filled-two {A = ℕ} 0 n m k e) (drop-at (filled m 0 []) (filled k 0 []) m (filled-length 0 m []))
+
+-- Words that give back the names they stand for.
+pub words-back : (ws : List ℕ) → ((i : ℕ) → getD ws i 0 < 2 ^ 64) → map wordOf (map (nameOf 8) ws) ≡ ws
+words-back [] h = refl
+words-back (w ∷ ws) h = ap₂ {C = List ℕ} _∷_ (word-name 8 w (h 0)) (words-back ws (λ i. h (suc i)))
+
+-- The table of what was read before the root.
+same-table : {names names′ bodies bodies′ : List ℕ} {named named′ equations equations′ terms terms′ root : ℕ} {slots slots′ : List Slot}
+    → names ≡ names′ → named ≡ named′ → bodies ≡ bodies′ → equations ≡ equations′ → slots ≡ slots′ → terms ≡ terms′
+    → _≡_ {A = Table} (record { names = names; named = named; bodies = bodies; equations = equations; slots = slots; terms = terms; root = root })
+    (record { names = names′; named = named′; bodies = bodies′; equations = equations′; slots = slots′; terms = terms′; root = root })
+same-table p q r s t u = rw (p, q, r, s, t, u)
+
+pub names-length : {names : List ℕ} {named : ℕ} → Padded names named → length names ≡ 12
+names-length p = ap length (p .padded) ∙ filled-length 0 12 _
+
+pub table-read : (names bodies zeros : List ℕ) (named equations count : ℕ) (slots : List Slot) (terms : List D.Term)
+    → Padded names named → equations ≤ 16 → length bodies ≡ equations → zeros ≡ filled 16 0 []
+    → slots ≡ filled 96 (record { term = Delta }) (slotsFrom 0 terms) → length terms ≡ count
+    → _≡_ {A = Table} (record { names = names; named = named; bodies = bodies ++ drop equations zeros; equations = equations; slots = slots; terms = count; root = 0 })
+    (tableOf (record { words = map (nameOf 8) (take named names); terms = terms; bodies = bodies; root = 0 }))
+unfolding tableOf
+table-read names bodies zeros named equations count slots terms p e b z s c =
+    let l : length names ≡ 12 = names-length p in
+    let w : length (map (nameOf 8) (take named names)) ≡ named = length-map (take named names) (nameOf 8) ∙ length-take-le named names (omega (arith, p .few)) in
+    let f : bodies ++ drop equations zeros ≡ filled 16 0 bodies = rw (z, ← b) (filled-front 0 16 bodies (omega arith)) in
+    let n : names ≡ filled 12 0 (map wordOf (map (nameOf 8) (take named names))) = rw (words-back (take named names) (p .fits)) (p .padded) in
+    same-table n (sym w) f (sym b) s (sym c)
+
+pub held-length : {store : List ℕ} (ts : List D.Term) → store ≡ filled 3072 0 (termsWords ts) ++ filled 32 0 [] → length store ≡ 3104
+held-length ts s =
+    let a = filled-length {A = ℕ} 0 3072 (termsWords ts) in
+    let b = filled-length {A = ℕ} 0 32 [] in
+    rw (s, length-append) (omega arith)
+
+-- The names in their array.
+module _ (ws zeros : List ℕ) (named : ℕ) (l : length ws ≡ named) (h : named ≤ 12) (z : zeros ≡ filled 12 0 []) where
+  pub names-front : take named (ws ++ drop named zeros) ≡ ws
+  names-front = take-at ws (drop named zeros) named l
+
+  pub names-padded : ((i : ℕ) → getD ws i 0 < 2 ^ 64) → Padded (ws ++ drop named zeros) named
+  names-padded f =
+      let p : ws ++ drop named zeros ≡ filled 12 0 ws = rw (z, ← l) (filled-front 0 12 ws (omega arith)) in
+      record { few = h; padded = p ∙ ap (filled 12 0) (sym names-front); fits = rw names-front f }

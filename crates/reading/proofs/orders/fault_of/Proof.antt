@@ -1,0 +1,28 @@
+-- `reading::orders::fault_of` meets its contract.
+-- Assumes nothing.
+use borrow.Author.Needs.{needs}
+use mathlib.Core.Path.{_≡_, refl, sym, ap}
+use Rattle.reading.specs.Walks.{orderProgress}
+use Rattle.reading.proofs.orders.fault_of.Statement.{statement}
+use Rattle.reading.proofs.orders.fault_of.Tie as tie
+use Rattle.reading.proofs.orders.fault_of.Reads as reads
+use Rattle.reading.proofs.orders.fault_of.Lts as lts
+
+-- src/terms.rt:107:29
+enum-known-step : tie.Need-enum-known-step
+enum-known-step c = search needs
+
+-- src/terms.rt:108:27
+enum-known-step-2 : tie.Need-enum-known-step-2
+enum-known-step-2 c = search needs
+
+-- src/terms.rt:103:1
+returns : tie.Need-returns
+returns c = ap orderProgress (sym (c .before .step .given .1))
+
+-- src/terms.rt:103:1
+returns-2 : tie.Need-returns-2
+returns-2 c = ap orderProgress (sym (c .before .step2 .given .1))
+
+pub fault-of-spec : {M : Type 1} → statement M
+fault-of-spec = tie.close (tie.spec enum-known-step enum-known-step-2 returns returns-2)

@@ -1,0 +1,98 @@
+-- What reading leaves: the answer with its table and order, and the list store.
+-- Assumes nothing.
+use mathlib.Core.Path.{_≡_}
+use mathlib.Core.Bool.{Bool, true, false}
+use mathlib.Core.List.{List, [], _++_, map}
+use Prim.Native.Nat.{ℕ, _^_, _≤_, _<_}
+use lib.Dec.{leb}
+use lib.ListN.{length, getD, take, drop, replicate}
+use Rattle.meaning.specs.Bytes.{Text}
+use Rattle.meaning.specs.Answers.{Fault, form, name, range, amount, operand, Refusal, tooLong, inLine, large, noRoom}
+use Rattle.table.specs.declared.Order.the-variants.{All}
+use Rattle.table.specs.declared.Table.{Table}
+use Rattle.table.specs.Decoded.{nameOf}
+use Rattle.table.specs.Encoded.{filled, termsWords, tableOf, blank, orderFor, storeOf}
+use Rattle.forms.specs.declared.Fault as F
+use Rattle.forms.specs.declared.Fault.the-variants.{Form, Name, Range, Amount, Operand}
+use Rattle.reading.specs.Reading.{Reading, read, refused, readText}
+use Rattle.reading.specs.declared.Answer.{Answer}
+use Rattle.reading.specs.declared.Answer.the-variants.{Fine, TooLong, Bad}
+use Rattle.reading.specs.declared.Read.{Read}
+use Rattle.reading.specs.declared.Progress.{Progress}
+use Rattle.reading.specs.declared.Progress.the-variants as P
+use Rattle.reading.specs.declared.Progress.the-variants.{To}
+use Rattle.forms.specs.Tallies.{faultOf}
+use Rattle.meaning.specs.Descriptions.{Description}
+
+abbrev pub faultFor : Fault → F.Fault
+faultFor form = Form
+faultFor name = Name
+faultFor range = Range
+faultFor amount = Amount
+faultFor operand = Operand
+
+-- (refusals 7 and 8 are none of a text)
+abbrev pub answerFor : Refusal → Answer
+answerFor tooLong = TooLong
+answerFor (inLine f line) = Bad (faultFor f) line
+answerFor large = TooLong
+answerFor noRoom = TooLong
+
+abbrev pub readFor : Reading → Read
+readFor (read d o) = record { answer = Fine; table = tableOf d; order = orderFor o }
+readFor (refused r) = record { answer = answerFor r; table = tableOf blank; order = All }
+
+-- The first 3,104 words hold the lists, or 0 after a bad line; after refusal 1 they are unchanged.
+abbrev pub storeRefused : Refusal → List ℕ → List ℕ
+storeRefused tooLong before = before
+storeRefused (inLine f line) before = replicate 3104 0 ++ drop 3104 before
+storeRefused large before = before
+storeRefused noRoom before = before
+
+abbrev pub storeFor : Reading → List ℕ → List ℕ
+storeFor (read d o) before = storeOf d o ++ drop 3104 before
+storeFor (refused r) before = storeRefused r before
+
+-- A store that is too short is refused as a text that is too long.
+abbrev pub withRoom : Bool → Reading → Reading
+withRoom true x = x
+withRoom false x = refused tooLong
+
+unfoldable pub readWith : Text → ℕ → Reading
+readWith text room = withRoom (leb 3104 room) (readText text)
+
+pub record Stored (text : Text) (before after : List ℕ) (r : Read) : Type 0 where
+  pub result : r ≡ readFor (readWith text (length before))
+  pub store : after ≡ storeFor (readWith text (length before)) before
+
+-- The same over a store of 3,104 words that were 0; the refusal of a line does not clear it yet.
+abbrev pub OfLine : Refusal → Type 0
+OfLine tooLong = ⊥
+OfLine (inLine f line) = Unit {0}
+OfLine large = ⊥
+OfLine noRoom = ⊥
+
+abbrev pub Left : Reading → List ℕ → Type 0
+Left (read d o) after = after ≡ storeOf d o
+Left (refused r) after = OfLine r
+
+pub record Ended (due : Reading) (after : List ℕ) (r : Read) : Type 0 where
+  pub result : r ≡ readFor due
+  pub left : Left due after
+
+-- A refusal of a line; one that goes on has none.
+abbrev pub refusalOf : Progress → Refusal
+refusalOf (To v at line) = tooLong
+refusalOf (P.Bad f line) = inLine (faultOf f) line
+
+-- Names in an array with 0 after them.
+pub record Padded (names : List ℕ) (named : ℕ) : Type 0 where
+  pub few : named ≤ 12
+  pub padded : names ≡ filled 12 0 (take named names)
+  pub fits : (i : ℕ) → getD (take named names) i 0 < 2 ^ 64
+
+-- A table and a store that hold a description but for its root and its order.
+pub record Held (d : Description) (table : Table) (store : List ℕ) : Type 0 where
+  pub named : map (nameOf 8) (take (table .named) (table .names)) ≡ d .words
+  pub tabled : table ≡ tableOf d
+  pub stored : store ≡ filled 3072 0 (termsWords (d .terms)) ++ filled 32 0 []
