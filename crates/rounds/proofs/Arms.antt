@@ -22,7 +22,7 @@ use Rattle.sets.specs.declared.Way.the-variants.{Copy}
 use Rattle.sets.specs.Parts.{partBefore}
 use Rattle.sets.specs.Building.{Building, done, Grown}
 use Rattle.sets.proofs.Meant.{AllPack}
-use Rattle.rounds.specs.Making.{leafBuilt, throughBuilt, eitherBuilt, jointBuilt, bothBuilt}
+use Rattle.shapes.specs.Making.{leafBuilt, throughBuilt, eitherBuilt, jointBuilt, bothBuilt}
 use Rattle.rounds.specs.Terms.{fitted, copyBuilt}
 use Rattle.rounds.specs.Working.{half, partly, setOf, Ready, Worked}
 use Rattle.rounds.proofs.Shaped.{Settled, wayOf, wayWords, leaf-settled, copy-settled, either-settled, joint-settled, both-settled, through-settled}

@@ -27,9 +27,10 @@ use Rattle.sets.specs.declared.Built.{Built}
 use Rattle.sets.specs.declared.Built.the-variants.{TooLarge, Holds}
 use Rattle.sets.specs.Parts.{partBefore, roomAt, laid}
 use Rattle.sets.specs.Building.{Grown}
-use Rattle.rounds.specs.Steady.{sizeAt, stays}
+use Rattle.shapes.specs.Steady.{sizeAt, stays}
 use Rattle.rounds.specs.Working.{half, whole, partly, setOf, Ready, Worked}
-use Rattle.rounds.specs.Terms.{Low, partIn, placeIn, leftIn, copyBuilt, unchanged}
+use Rattle.shapes.specs.Steady.{unchanged}
+use Rattle.rounds.specs.Terms.{Low, partIn, placeIn, leftIn, copyBuilt}
 use Rattle.rounds.proofs.Areas.{part-taken}
 use Rattle.rounds.proofs.Turning.{same-size}
 use Rattle.rounds.proofs.Staying.{size-is, stays→}

@@ -24,9 +24,10 @@ use Rattle.sets.specs.declared.Way.{Way}
 use Rattle.sets.specs.declared.Way.the-variants.{Copy}
 use Rattle.sets.specs.Parts.{roomAt}
 use Rattle.sets.specs.Building.{Grown}
-use Rattle.rounds.specs.Making.{leafBuilt, throughBuilt}
+use Rattle.shapes.specs.Making.{leafBuilt, throughBuilt}
 use Rattle.rounds.specs.Working.{half, partly, Ready, Worked}
-use Rattle.rounds.specs.Terms.{partIn, placeIn, leftIn, wayFor, built}
+use Rattle.shapes.specs.Ways.{wayFor}
+use Rattle.rounds.specs.Terms.{partIn, placeIn, leftIn, built}
 use Rattle.rounds.proofs.Settling.{placeOf, leftOf}
 use Rattle.rounds.proofs.Shaped.{wayWords}
 use Rattle.rounds.proofs.Stores.{way-same, words-same}

@@ -14,9 +14,9 @@ use Rattle.sets.specs.declared.Way.the-variants.{Plus}
 use Rattle.sets.specs.Building.{goesOn, imaged, row, multiplied}
 use Rattle.sets.specs.Joining.{joined, ascent, fitting, united}
 use Rattle.sets.proofs.Steps.{Steady, steady-each, steady-enter, steady-imaged}
-use Rattle.rounds.specs.Making.{leafBuilt, throughBuilt, eitherBuilt, jointBuilt, bothBuilt}
+use Rattle.shapes.specs.Making.{leafBuilt, throughBuilt, eitherBuilt, jointBuilt, bothBuilt}
 use Rattle.rounds.specs.Terms.{fitted, copyBuilt}
-use Rattle.rounds.proofs.Filling.{length-zeros}
+use Rattle.shapes.proofs.Filling.{length-zeros}
 
 module _ (room : ℕ) where
   pub leaf-fits : (w : ℕ) → length (leafBuilt room w [] .set) ≤ room

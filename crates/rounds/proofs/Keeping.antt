@@ -1,16 +1,50 @@
 -- The cut to the order, word by word.
 -- Assumes nothing.
-use mathlib.Core.Path.{_≡_, refl, ap, _∙_}
+use mathlib.Core.Path.{_≡_, refl, sym, ap, _∙_}
 use mathlib.Core.Bool.{Bool, true, false}
 use mathlib.Core.List.{List, [], _∷_}
 use Prim.Native.Nat.{ℕ, suc, _+_, _≤_, _<_, zero-le, suc-le-suc}
 use native.Mathlib.Nat.{le-step}
+use native.Mathlib.Numerals.{add-one}
 use native.Mathlib.Omega.{arith}
+use lib.Seq.{drop-cons}
 use borrow.Author.Tests.{eq-eqb, ne-eqb}
 use lib.ListN.{length, getD, drop, set, drop-of-length-le, length-drop}
 use Rattle.sets.specs.Building.{listedIn}
-use Rattle.rounds.specs.Cutting.{allows, cutWords, put}
-use Rattle.rounds.proofs.Filling.{Filling, filling-start, filling-step, filling-end, left-first, cut-taken, cut-left}
+use Rattle.shapes.specs.Putting.{put}
+use Rattle.rounds.specs.Cutting.{allows, cutWords}
+use Rattle.shapes.proofs.Filling.{Filling, filling-start, filling-step, filling-end, left-first}
+
+cut-one : (all : Bool) (list ws : List ℕ) (w : ℕ) → allows all list w ≡ true → cutWords all list (w ∷ ws) ≡ w ∷ cutWords all list ws
+unfolding cutWords
+cut-one all list ws w t = rw (t, cutWords)
+
+cut-none : (all : Bool) (list ws : List ℕ) (w : ℕ) → allows all list w ≡ false → cutWords all list (w ∷ ws) ≡ cutWords all list ws
+unfolding cutWords
+cut-none all list ws w t = rw (t, cutWords)
+
+pub cut-taken : (all : Bool) (list l : List ℕ) (i : ℕ) → i < length l → allows all list (getD l i 0) ≡ true
+    → cutWords all list (drop i l) ≡ getD l i 0 ∷ cutWords all list (drop (i + 1) l)
+cut-taken all list l i h t =
+    rw (add-one i) (ap (cutWords all list) (drop-cons l i 0 h) ∙ cut-one all list (drop (suc i) l) (getD l i 0) t)
+
+pub cut-left : (all : Bool) (list l : List ℕ) (i : ℕ) → i < length l → allows all list (getD l i 0) ≡ false
+    → cutWords all list (drop i l) ≡ cutWords all list (drop (i + 1) l)
+cut-left all list l i h t =
+    rw (add-one i) (ap (cutWords all list) (drop-cons l i 0 h) ∙ cut-none all list (drop (suc i) l) (getD l i 0) t)
+
+-- A word looked for in a list, from a place on.
+pub listed-here : (w : ℕ) (l : List ℕ) (i : ℕ) → i < length l → getD l i 0 ≡ w → listedIn w (drop i l) ≡ true
+unfolding listedIn
+listed-here w l i h e = rw (drop-cons l i 0 h, eq-eqb w (getD l i 0) (sym e))
+
+pub listed-on : (w : ℕ) (l : List ℕ) (i : ℕ) → i < length l → (getD l i 0 ≡ w → ⊥) → listedIn w (drop i l) ≡ listedIn w (drop (i + 1) l)
+unfolding listedIn
+listed-on w l i h n = rw (add-one i, drop-cons l i 0 h, ne-eqb w (getD l i 0) (λ e. n (sym e)))
+
+pub listed-out : (w : ℕ) (l : List ℕ) (i : ℕ) → length l ≤ i → listedIn w (drop i l) ≡ false
+unfolding listedIn
+listed-out w l i h = rw (drop-of-length-le l h)
 
 pub allows-all : (all : Bool) (list : List ℕ) (w : ℕ) → all ≡ true → true ≡ allows all list w
 unfolding allows

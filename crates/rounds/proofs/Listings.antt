@@ -32,7 +32,8 @@ use Rattle.rounds.specs.declared.Answer.{Answer}
 use Rattle.rounds.specs.declared.Answer.the-variants as A
 use Rattle.rounds.specs.declared.turns.Found.{Found}
 use Rattle.rounds.specs.declared.turns.Found.the-variants as F
-use Rattle.rounds.specs.Cutting.{cutWords, put}
+use Rattle.shapes.specs.Putting.{put}
+use Rattle.rounds.specs.Cutting.{cutWords}
 use Rattle.rounds.specs.Working.{whole}
 use Rattle.rounds.specs.Alphabets.{alphabetOf, answerWords, cleared, Answered, Stands, Ends, Reached, Listing}
 use Rattle.rounds.proofs.Areas.{part-taken}

@@ -22,9 +22,10 @@ use Rattle.sets.specs.declared.Built.the-variants.{TooLarge, Holds}
 use Rattle.sets.specs.Parts.{roomAt}
 use Rattle.sets.specs.Building.{Grown}
 use Rattle.rounds.specs.Working.{half, whole, Ready, Kept, Worked, Between}
-use Rattle.rounds.specs.Terms.{Low, partIn, placeIn, leftIn, built, copyBuilt, unchanged}
+use Rattle.shapes.specs.Steady.{unchanged}
+use Rattle.rounds.specs.Terms.{Low, partIn, placeIn, leftIn, built, copyBuilt}
 use Rattle.rounds.specs.Passes.{TermWorked, Passed}
-use Rattle.rounds.proofs.Filling.{length-zeros}
+use Rattle.shapes.proofs.Filling.{length-zeros}
 use Rattle.rounds.proofs.Passing.{kept-self, kept-trans, next-fits, term-kept, ready-next}
 use Rattle.rounds.proofs.Turning.{ready-start, round-done, round-over}
 use Rattle.rounds.proofs.Dispatch.{starts-here, kind-worked}

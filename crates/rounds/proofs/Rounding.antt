@@ -26,13 +26,13 @@ use Rattle.table.proofs.Stored.{bodies-of}
 use Rattle.rounds.specs.declared.passes.Round.{Round}
 use Rattle.rounds.specs.declared.turns.Found.the-variants.{TooLarge, At}
 use Rattle.rounds.specs.Laid.{flat, Begins}
-use Rattle.rounds.specs.Steady.{allStay}
+use Rattle.shapes.specs.Steady.{allStay}
 use Rattle.rounds.specs.Working.{half, whole, Kept, RoundDone, RoundOver, Between}
 use Rattle.rounds.specs.Terms.{Low}
 use Rattle.rounds.specs.Passes.{RoundEnds, Passed}
 use Rattle.rounds.specs.Alphabets.{Reached}
 use Rattle.rounds.proofs.Areas.{laid-part, total-take, total-part}
-use Rattle.rounds.proofs.Filling.{length-zeros}
+use Rattle.shapes.proofs.Filling.{length-zeros}
 use Rattle.rounds.proofs.Passing.{kept-self, kept-trans, at-most}
 use Rattle.rounds.proofs.Turning.{none-over}
 use Rattle.rounds.proofs.Staying.{stable-if, unstable-if, lowered, lowered-kept}

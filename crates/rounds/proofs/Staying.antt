@@ -1,16 +1,14 @@
 -- Equation sets that stay, told by the numbers of labels; and the round lowered for the next.
 -- Assumes nothing.
 use mathlib.Core.Path.{_≡_, refl, sym, ap, ap₂, subst, _∙_}
-use mathlib.Core.Bool.{true, false}
 use mathlib.Core.List.{List, [], _∷_, _++_, map, tail}
 use Prim.Native.Nat.{ℕ, suc, _+_, _-_, _≤_, _<_}
 use native.Mathlib.Nat.{min-eq-left}
-use native.Mathlib.Numerals.{add-one}
 use native.Mathlib.Omega.{arith}
 use native.Mathlib.Decide.{decLt}
 use lib.Dec.{T, eqb→eq, eqb-refl}
-use lib.ListN.{length, getD, take, drop, length-append, length-take, length-drop, drop-of-length-le}
-use lib.Seq.{drop-cons, drop-append-add, drop-drop, take-at}
+use lib.ListN.{length, getD, take, drop, length-append, length-take, length-drop}
+use lib.Seq.{drop-append-add, drop-drop, take-at}
 use Rattle.meaning.specs.Labels.{Label}
 use Rattle.meaning.specs.Sets.{at}
 use Rattle.meaning.specs.Descriptions.{Description, termCount}
@@ -20,7 +18,7 @@ use Rattle.meaning.specs.Limits.{total}
 use Rattle.meaning.proofs.Tests.{and-left, and-right, and-both}
 use Rattle.meaning.proofs.Stable.{Stable}
 use Rattle.rounds.specs.Laid.{flat, Begins}
-use Rattle.rounds.specs.Steady.{sizeAt, stays, allStay}
+use Rattle.shapes.specs.Steady.{sizeAt, stays, allStay}
 use Rattle.rounds.specs.Working.{half, whole, Kept, RoundDone, Between}
 use Rattle.rounds.proofs.Areas.{length-flat}
 use Rattle.rounds.proofs.Passing.{at-most}
@@ -93,17 +91,3 @@ lowered-kept count now work′ h l e =
           (subst (λ (m : ℕ). drop (m + (whole - count)) (take count (drop half now) ++ drop count now) ≡ drop whole now) size
           (drop-append-add (take count (drop half now)) (drop count now) (whole - count) ∙ drop-drop (whole - count) count now ∙ ap (λ (m : ℕ). drop m now) k));
     }
-
--- The bodies looked at one after the other.
-module _ (older newer bodies : List ℕ) (i : ℕ) (h : i < length bodies) where
-  pub stay-fails : stays older newer (getD bodies i 0) ≡ false → allStay older newer (drop i bodies) ≡ false
-  unfolding allStay
-  stay-fails e = rw (drop-cons bodies i 0 h, e)
-
-  pub stay-goes : stays older newer (getD bodies i 0) ≡ true → allStay older newer (drop (i + 1) bodies) ≡ allStay older newer (drop i bodies)
-  unfolding allStay
-  stay-goes e = rw (add-one i, drop-cons bodies i 0 h, e)
-
-pub stay-ends : (older newer bodies : List ℕ) (i : ℕ) → length bodies ≤ i → allStay older newer (drop i bodies) ≡ true
-unfolding allStay
-stay-ends older newer bodies i h = rw (drop-of-length-le bodies h)

@@ -15,8 +15,8 @@ use Rattle.table.specs.Encoded as T
 use Rattle.table.proofs.Stored.{term-words}
 use Rattle.labels.specs.Stored.{pairWord, ruleWords}
 use Rattle.labels.proofs.Meant.{single-number}
-use Rattle.rounds.specs.Exchanging.{exchangeWords, exchangeList}
-use Rattle.rounds.specs.Terms.{ruleList, wayFor, wordsFor}
+use Rattle.shapes.specs.Exchanging.{exchangeWords, exchangeList}
+use Rattle.shapes.specs.Ways.{ruleList, wayFor, wordsFor}
 use Rattle.rounds.proofs.Shaped.{wayOf, wayWords}
 
 -- Strictly ascending numbers below m are at most m.

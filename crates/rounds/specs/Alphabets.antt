@@ -22,7 +22,7 @@ use Rattle.rounds.specs.declared.Answer.{Answer}
 use Rattle.rounds.specs.declared.Answer.the-variants as A
 use Rattle.rounds.specs.declared.turns.Found.{Found}
 use Rattle.rounds.specs.declared.turns.Found.the-variants as F
-use Rattle.rounds.specs.Cutting.{put}
+use Rattle.shapes.specs.Putting.{put}
 use Rattle.rounds.specs.Working.{whole, Kept}
 
 -- An outcome as the code answers it, and the answer area after it.

@@ -1,10 +1,7 @@
 -- What the code of the rounds says of its areas.
 pub mod Laid
 pub mod Cutting
-pub mod Exchanging
 pub mod Working
-pub mod Steady
-pub mod Making
 pub mod Terms
 pub mod Passes
 pub mod Alphabets

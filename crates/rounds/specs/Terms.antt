@@ -1,24 +1,19 @@
 -- The set of a term of the table, as it is built in the work area from the sets that stand there.
 -- Assumes nothing.
-use mathlib.Core.Bool.{Bool, true, false, _&&_}
+use mathlib.Core.Bool.{Bool, true, false}
 use mathlib.Core.List.{List, []}
 use Prim.Native.Nat.{ℕ, suc, _+_, _-_, _≤_}
 use lib.Dec.{leb}
-use lib.ListN.{length, getD, take}
+use lib.ListN.{length, getD}
 use Rattle.meaning.specs.Labels.{number, single}
-use Rattle.table.specs.declared.Operator.{Operator}
-use Rattle.table.specs.declared.Operator.the-variants as O
 use Rattle.table.specs.declared.Term.{Term}
 use Rattle.table.specs.declared.Term.the-variants.{Delta, Tau, Act, Ref, Sum, Cond, Choice, IfElse, Seq, Merge, LMerge, Sync, Wrap}
-use Rattle.table.specs.Decoded.{wordsAt}
-use Rattle.sets.specs.declared.Way.{Way}
-use Rattle.sets.specs.declared.Way.the-variants.{Copy, Block, Hide, Rename, Comm, Allow}
+use Rattle.sets.specs.declared.Way.the-variants.{Copy}
 use Rattle.sets.specs.Parts.{partBefore}
 use Rattle.sets.specs.Building.{Building, done, stopped}
-use Rattle.rounds.specs.declared.starts.Part.{Part}
-use Rattle.rounds.specs.Exchanging.{exchangeList}
-use Rattle.rounds.specs.Making.{leafBuilt, throughBuilt, eitherBuilt, jointBuilt, bothBuilt}
-use Rattle.rounds.specs.Steady.{stays}
+use Rattle.shapes.specs.declared.Part.{Part}
+use Rattle.shapes.specs.Ways.{wayFor, wordsFor}
+use Rattle.shapes.specs.Making.{leafBuilt, throughBuilt, eitherBuilt, jointBuilt, bothBuilt}
 use Rattle.rounds.specs.Working.{half}
 
 -- places that lie within half of the work area
@@ -38,24 +33,6 @@ placeIn this n = half + getD this n 0
 
 abbrev pub leftIn : List ℕ → ℕ → ℕ
 leftIn this n = half - getD this n 0
-
--- The way of an operator, and its list as the way takes it: of rules, the first eight.
-abbrev pub ruleList : List ℕ → List ℕ
-ruleList ws = take (length (take 16 ws)) (exchangeList (take 16 ws))
-
-abbrev pub wayFor : Operator → Way
-wayFor (O.Block p) = Block
-wayFor (O.Hide p) = Hide
-wayFor (O.Rename p) = Rename
-wayFor (O.Comm p) = Comm
-wayFor (O.Allow p) = Allow
-
-abbrev pub wordsFor : List ℕ → Operator → List ℕ
-wordsFor store (O.Block p) = wordsAt store p 1
-wordsFor store (O.Hide p) = wordsAt store p 1
-wordsFor store (O.Rename p) = wordsAt store p 1
-wordsFor store (O.Comm p) = ruleList (wordsAt store p 2)
-wordsFor store (O.Allow p) = wordsAt store p 1
 
 -- What is built for each kind of term.
 abbrev pub built : (room at : ℕ) (store bodies before this work : List ℕ) → Term → List ℕ → Building
@@ -80,19 +57,3 @@ fitted false s = stopped []
 
 abbrev pub copyBuilt : ℕ → List ℕ → List ℕ → Building
 copyBuilt room s t = fitted (leb (length s) room) s
-
--- Whether the sets that a term's is built of stayed since the round before. A leaf is built of none, and so is worked out anew.
-abbrev pub unchanged : (bodies older before this : List ℕ) → Term → Bool
-unchanged bodies older before this Delta = false
-unchanged bodies older before this Tau = false
-unchanged bodies older before this (Act a) = false
-unchanged bodies older before this (Ref e) = stays older before (getD bodies e 0)
-unchanged bodies older before this (Sum t) = stays before this t
-unchanged bodies older before this (Cond t) = stays before this t
-unchanged bodies older before this (Choice t u) = stays before this t && stays before this u
-unchanged bodies older before this (IfElse t u) = stays before this t && stays before this u
-unchanged bodies older before this (Seq t u) = stays before this t && stays before this u
-unchanged bodies older before this (Merge t u) = stays before this t && stays before this u
-unchanged bodies older before this (LMerge t u) = stays before this t && stays before this u
-unchanged bodies older before this (Sync t u) = stays before this t && stays before this u
-unchanged bodies older before this (Wrap o t) = stays before this t

@@ -5,7 +5,8 @@ ghost use Prim.Native.Nat.{_≤_};
 ghost use lib.Dec.{eqb};
 ghost use lib.ListN.{length};
 ghost use Rattle.sets.specs.Building.{listedIn};
-ghost use Rattle.rounds.specs.Cutting.{allows, cutWords, put};
+ghost use Rattle.shapes.specs.Putting.{put};
+ghost use Rattle.rounds.specs.Cutting.{allows, cutWords};
 
 // Whether a word is in a list.
 fn listed(list: &[u64], word: u64) -> bool

@@ -1,13 +1,13 @@
 // One round: the terms' sets, one after the other.
 use crate::clearing::carry;
-use crate::sameness::unchanged;
-use crate::starts::end_of;
 use crate::starts::left_of;
 use crate::starts::place_of;
-use crate::starts::start_of;
 use crate::terms::work_out;
 use sets::Built;
 use sets::placing::room;
+use shapes::sameness::unchanged;
+use shapes::starts::end_of;
+use shapes::starts::start_of;
 use table::Slot;
 use table::Table;
 use table::Term;

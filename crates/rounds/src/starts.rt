@@ -1,34 +1,13 @@
-// Where the sets of terms begin, counted from the start of their half of the work area.
+// Where the sets of terms stand in their half of the work area.
+use shapes::Part;
+use shapes::starts::end_of;
+use shapes::starts::start_of;
 ghost use mathlib.Core.Path.{_≡_};
-ghost use Prim.Native.Nat.{suc, _-_, _≤_};
-ghost use lib.ListN.{getD};
+ghost use Prim.Native.Nat.{_≤_};
 ghost use Rattle.rounds.specs.Terms.{Low, partOf, placeIn, leftIn};
 
 // The middle of what is used of the work area: so many labels all sets may have together.
 pub const HALF: usize = 2048;
-
-// A set in the work area, from a place up to another.
-pub struct Part {
-    pub from: usize,
-    pub to: usize,
-}
-
-// Past the end of the list it is 0.
-pub fn start_of(starts: &[usize], i: usize) -> usize
-    ensures { λ r. ⌜ r ≡ getD (now (starts .entry)) i 0 ⌝ }
-{
-    if i < starts.len() { starts[i] } else { 0 }
-}
-
-pub fn end_of(starts: &[usize], i: usize) -> usize
-    ensures { λ r. ⌜ r ≡ getD (now (starts .entry)) (suc i) 0 ⌝ }
-{
-    if i < starts.len() {
-        start_of(starts, i + 1)
-    } else {
-        0
-    }
-}
 
 // The set of a term in the half that begins at `base`.
 pub fn part_at(starts: &[usize], i: usize, base: usize) -> Part

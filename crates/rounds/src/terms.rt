@@ -1,20 +1,21 @@
 // The set of a term, worked out from the sets of its operands, which stand before it in this round's half, or from that of an
 // equation's body in the round before.
-use crate::making::both;
-use crate::making::leaf;
-use crate::operators::of_wrap;
-use crate::operators::through;
 use crate::starts::HALF;
 use crate::starts::left_of;
 use crate::starts::part_at;
 use crate::starts::place_of;
-use crate::starts::start_of;
 use labels::bags::single;
 use labels::packing::tau;
 use sets::Built;
 use sets::Way;
 use sets::joining::union;
 use sets::multiplying::add_product;
+use shapes::making::both;
+use shapes::making::leaf;
+use shapes::operators::through;
+use shapes::operators::wrapped;
+use shapes::starts::start_of;
+use table::Operator;
 use table::Term;
 ghost use mathlib.Core.List.{[]};
 ghost use Prim.Native.Nat.{_≤_};
@@ -23,7 +24,8 @@ ghost use Rattle.meaning.specs.Labels.{number, single};
 ghost use Rattle.sets.specs.declared.Way.the-variants.{Copy};
 ghost use Rattle.sets.specs.Parts.{roomAt};
 ghost use Rattle.sets.specs.Building.{Grown};
-ghost use Rattle.rounds.specs.Making.{leafBuilt, throughBuilt, eitherBuilt, jointBuilt, bothBuilt};
+ghost use Rattle.shapes.specs.Making.{leafBuilt, throughBuilt, eitherBuilt, jointBuilt, bothBuilt};
+ghost use Rattle.shapes.specs.Ways.{wayFor, wordsFor};
 ghost use Rattle.rounds.specs.Terms.{Low, partIn, placeIn, leftIn, built};
 
 fn of_tau(work: &mut [u64], at: usize, most: usize) -> Built
@@ -94,6 +96,21 @@ fn of_joint(work: &mut [u64], this: &[usize], t: usize, u: usize, at: usize, mos
     let a = part_at(this, t, HALF);
     let b = part_at(this, u, HALF);
     add_product(work, a.from, a.to, b.from, b.to, at, 0, most)
+}
+
+fn of_wrap(
+    work: &mut [u64],
+    store: &[u64],
+    this: &[usize],
+    operator: Operator,
+    t: usize,
+    at: usize,
+    most: usize,
+) -> Built
+    requires { ⌜ Low (now this) ⌝ }
+    ensures { λ r. ⌜ Grown (throughBuilt (roomAt at most (length (now (work .entry)))) (wayFor operator) (wordsFor (now (store .entry)) operator) (partIn at 2048 (now (this .entry)) t (now (work .entry)))) at 0 (now (work .entry)) (now (work .exit)) r ⌝ }
+{
+    wrapped(work, store, part_at(this, t, HALF), operator, at, most)
 }
 
 // A term's kind decides what its set is built of.

@@ -1,10 +1,10 @@
 // Round after round, until a limit is passed or the equations' sets stay.
 use crate::clearing::carry;
 use crate::passes::pass;
-use crate::sameness::all_stay;
 use crate::starts::HALF;
 use crate::starts::part_at;
-use crate::starts::start_of;
+use shapes::sameness::all_stay;
+use shapes::starts::start_of;
 use table::Table;
 ghost use Prim.Native.Nat.{_≤_};
 ghost use lib.ListN.{length};

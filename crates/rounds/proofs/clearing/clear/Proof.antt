@@ -4,7 +4,7 @@ use mathlib.Core.Path.{sym}
 use Prim.Native.Nat.{_-_}
 use native.Mathlib.Omega.{arith}
 use lib.ListN.{replicate, getD-replicate}
-use Rattle.rounds.proofs.Filling.{Filling, filling-start, filling-step, filling-end, length-zeros}
+use Rattle.shapes.proofs.Filling.{Filling, filling-start, filling-step, filling-end, length-zeros}
 use Rattle.rounds.proofs.clearing.clear.Statement.{statement}
 use Rattle.rounds.proofs.clearing.clear.Tie as tie
 

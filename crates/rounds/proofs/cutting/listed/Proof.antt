@@ -4,7 +4,7 @@ use mathlib.Core.Path.{_≡_, refl, sym, _∙_}
 use Prim.Native.Nat.{_-_, _≤_}
 use native.Mathlib.Omega.{arith}
 use lib.ListN.{length, drop}
-use Rattle.rounds.proofs.Filling.{listed-here, listed-on, listed-out}
+use Rattle.rounds.proofs.Keeping.{listed-here, listed-on, listed-out}
 use Rattle.sets.specs.Building.{listedIn}
 use Rattle.rounds.proofs.cutting.listed.Statement.{statement}
 use Rattle.rounds.proofs.cutting.listed.Tie as tie

@@ -2,7 +2,7 @@
 -- Assumes nothing.
 use borrow.Author.Needs.{needs}
 use native.Mathlib.Omega.{arith}
-use Rattle.rounds.proofs.Makings.{nothing-grown}
+use Rattle.shapes.proofs.Makings.{nothing-grown}
 use Rattle.rounds.proofs.terms.work_out.Statement.{statement}
 use Rattle.rounds.proofs.terms.work_out.Tie as tie
 

@@ -1,0 +1,6 @@
+-- What the sets of terms are built by, and what tells that they stay.
+pub mod Putting
+pub mod Exchanging
+pub mod Making
+pub mod Ways
+pub mod Steady
