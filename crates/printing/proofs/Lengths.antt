@@ -1,14 +1,17 @@
 -- How long a text can be: what a lent area must have to hold every one.
 -- Assumes nothing.
 use mathlib.Core.Path.{_≡_, refl, sym, ap, _∙_}
+use mathlib.Core.Bool.{Bool, true, false}
 use mathlib.Core.List.{List, [], _∷_, _++_, map}
+use lib.Dec.{leb}
+use borrow.Author.Tests.{leb-true}
 use Prim.Native.Nat.{ℕ, suc, _+_, _*_, _≤_}
 use native.Mathlib.Omega.{arith}
 use lib.ListN.{length, length-append, length-map}
 use Rattle.meaning.specs.Bytes.{Text, ascii}
 use Rattle.meaning.specs.Labels.{Label}
 use Rattle.printing.specs.Printed.{decimal, line, labelText, labelLines, answerText, refusedText}
-use Rattle.printing.specs.Areas.{wordsOf, countsOf}
+use Rattle.printing.specs.Areas.{wordsOf, countsOf, Printed}
 use Rattle.printing.proofs.Decimal.{length-decimal}
 use Rattle.printing.proofs.Line.{length-line}
 use Rattle.printing.proofs.Tau.{length-label}
@@ -60,3 +63,11 @@ length-refusal reason at =
       length-decimal reason,
       length-decimal at,
     )
+
+-- What is answered lies within the area.
+pub printed-within : (s before after : Text) (n : ℕ) → Printed s before after n → n ≤ length before
+printed-within s before after n p = within (leb (length s) (length before)) refl (p .size)
+  where
+    within : (b : Bool) → leb (length s) (length before) ≡ b → n ≡ elim b [ true ↦ length s | false ↦ 0 ] → n ≤ length before
+    within true e k = omega (arith, k, leb-true (length s) (length before) e)
+    within false e k = omega (arith, k)
