@@ -1,0 +1,195 @@
+-- From what a call comes to, to the text that is printed of it.
+-- Assumes nothing.
+use mathlib.Core.Path.{_≡_, refl, sym, ap, ap₂, subst, _∙_}
+use mathlib.Core.Bool.{Bool, true, false}
+use mathlib.Core.Logic.{inl, inr}
+use mathlib.Core.List.{List, [], _∷_, _++_, map}
+use Prim.Native.Nat.{ℕ, suc, _≤_, _<_}
+use native.Mathlib.Omega.{arith}
+use lib.Dec.{T, leb, leb→le}
+use Rattle.meaning.proofs.Tests.{and-left, and-right, or-cases}
+use lib.ListN.{length, take, drop, length-map, length-take}
+use Rattle.printing.proofs.Lengths.{length-answer, length-refusal}
+use lib.Seq.{take-at}
+use Rattle.meaning.specs.Bytes.{Text}
+use Rattle.meaning.specs.Labels.{Label, size, number}
+use Rattle.meaning.specs.Sets.{_∈_}
+use Rattle.meaning.specs.Descriptions.{Description, Order, names}
+use Rattle.meaning.specs.Legal.{Legal, Each}
+use Rattle.meaning.specs.Answers as A
+use Rattle.meaning.specs.Answers.{Outcome, tooLarge, listed, Lists, Answers, Refusal, tooLong, inLine, large, noRoom, Fault, form, name, range, amount, operand, faultNumber, reasonOf, lineOf, Verdict}
+use Rattle.meaning.proofs.Digits.{small}
+use Rattle.meaning.proofs.Answers.{answer-right}
+use Rattle.meaning.proofs.Listings.{listed-held, listed-few}
+use Rattle.reading.specs.Reading.{Reading, read, refused, readText}
+use Rattle.reading.specs.Writing.{inName, NameForm, LegalWords}
+use Rattle.reading.proofs.Acceptance.{accepted→}
+use Rattle.table.specs.Encoded.{filled, wordOf}
+use Rattle.forms.specs.Text.{isLower, isDigit}
+use Rattle.printing.specs.Printed.{refusedText, answerText}
+use Rattle.printing.specs.Areas.{wordsOf, countsOf, Printed}
+use Rattle.printing.proofs.Callers.{Bytes, Fits, same-answer}
+use Rattle.rimecutter.specs.Calls.{Call, refusing, answering, tooShort, ofOutcome, ofReading, unlessShort, call, verdictOf, answerAfter, textOf}
+use Rattle.rimecutter.specs.Answers.{verdictFor, NamesFor, Responded}
+use Rattle.rimecutter.specs.declared.Answer.{Answer}
+use Rattle.rimecutter.specs.declared.calls.Response.{Response}
+use Rattle.rimecutter.specs.declared.Answer.the-variants.{Listed}
+
+-- A refusal's text is that of its number and line.
+pub refused-text : (c : Call) (v : Verdict) → v ≡ verdictOf c → (v .reason ≡ 0 → ⊥) → textOf c ≡ refusedText (v .reason) (v .line)
+refused-text (refusing r) v e some = ap₂ refusedText (ap (λ (x : Verdict). x .reason) (sym e)) (ap (λ (x : Verdict). x .line) (sym e))
+refused-text (answering words rounds labels) v e some = absurd (some (ap (λ (x : Verdict). x .reason) e))
+
+-- No refusal has number 0.
+pub faults-numbered : (f : Fault) → 1 ≤ faultNumber f
+faults-numbered form = omega arith
+faults-numbered name = omega arith
+faults-numbered range = omega arith
+faults-numbered amount = omega arith
+faults-numbered operand = omega arith
+
+pub faults-below : (f : Fault) → faultNumber f ≤ 6
+faults-below form = omega arith
+faults-below name = omega arith
+faults-below range = omega arith
+faults-below amount = omega arith
+faults-below operand = omega arith
+
+pub refusals-numbered : (r : Refusal) → 1 ≤ reasonOf r
+refusals-numbered tooLong = omega arith
+refusals-numbered (inLine f line) = faults-numbered f
+refusals-numbered large = omega arith
+refusals-numbered noRoom = omega arith
+
+-- An answer comes from a description that was read.
+pub record Origin (text : Text) (words : List Text) (rounds : ℕ) (labels : List Label) : Type 0 where
+  pub given : Description
+  pub order : Order
+  pub reads : readText text ≡ read given order
+  pub named : words ≡ given .words
+  pub lists : Lists given order rounds labels
+
+abbrev wordsIn : Call → List Text
+wordsIn (refusing r) = []
+wordsIn (answering words rounds labels) = words
+
+abbrev roundsIn : Call → ℕ
+roundsIn (refusing r) = 0
+roundsIn (answering words rounds labels) = rounds
+
+abbrev labelsIn : Call → List Label
+labelsIn (refusing r) = []
+labelsIn (answering words rounds labels) = labels
+
+abbrev IsAnswer : Call → Type 0
+IsAnswer (refusing r) = ⊥
+IsAnswer (answering words rounds labels) = Unit {0}
+
+module _ (text : Text) (words : List Text) (rounds : ℕ) (labels : List Label) where
+  abbrev this : Call
+  this = answering words rounds labels
+
+  no-refusal : (r : Refusal) → refusing r ≡ this → ⊥
+  no-refusal r e = subst IsAnswer (sym e) tt
+
+  from-outcome : (d : Description) (o : Order) (x : Outcome) → readText text ≡ read d o → Answers d o x → ofOutcome d x ≡ this → Origin text words rounds labels
+  from-outcome d o tooLarge r a e = absurd (no-refusal large e)
+  from-outcome d o (listed k ls) r a e =
+      record {
+        given = d;
+        order = o;
+        reads = r;
+        named = ap wordsIn (sym e);
+        lists = subst (λ (m : ℕ). Lists d o m labels) (ap roundsIn e) (subst (Lists d o k) (ap labelsIn e) a);
+      }
+
+  from-reading : (x : Reading) → readText text ≡ x → ofReading x ≡ this → Origin text words rounds labels
+  from-reading (read d o) r e = from-outcome d o (A.answer d o) r (answer-right d o) e
+  from-reading (refused f) r e = absurd (no-refusal f e)
+
+  from-call : (b : Bool) → unlessShort b (readText text) ≡ this → Origin text words rounds labels
+  from-call true e = absurd (no-refusal tooLong e)
+  from-call false e = from-reading (readText text) refl e
+
+  pub origin : (w a : ℕ) → call text w a ≡ this → Origin text words rounds labels
+  unfolding call
+  origin w a e = from-call (tooShort w a) e
+
+-- The names of a description that was read, byte by byte.
+lower-byte : (b : ℕ) → T (isLower b) → (1 ≤ b) × (b < 256)
+unfolding isLower
+lower-byte b t =
+    let low = leb→le 97 b (and-left (leb 97 b) (leb b 122) t) in
+    let high = leb→le b 122 (and-right (leb 97 b) (leb b 122) t) in
+    (omega arith, omega arith)
+
+digit-byte : (b : ℕ) → T (isDigit b) → (1 ≤ b) × (b < 256)
+unfolding isDigit
+digit-byte b t =
+    let low = leb→le 48 b (and-left (leb 48 b) (leb b 57) t) in
+    let high = leb→le b 57 (and-right (leb 48 b) (leb b 57) t) in
+    (omega arith, omega arith)
+
+name-byte : (b : ℕ) → T (inName b) → (1 ≤ b) × (b < 256)
+name-byte b t = elim (or-cases (isLower b) (isDigit b) t) [ inl h ↦ lower-byte b h | inr h ↦ digit-byte b h ]
+
+each-map : {A : Type 0} {P Q : A → Type 0} → ((a : A) → P a → Q a) → (xs : List A) → Each P xs → Each Q xs
+each-map f [] h = tt
+each-map f (x ∷ xs) h = (f x (h .0), each-map f xs (h .1))
+
+name-bytes : (w : Text) → NameForm w → Bytes w
+name-bytes [] h = absurd h
+name-bytes (b ∷ w) h = (omega (arith, h .1), (lower-byte b (h .0), each-map {P = λ c. T (inName c)} {Q = λ c. (1 ≤ c) × (c < 256)} name-byte w (h .2)))
+
+each-in : (P : Label → Type 0) (s : List Label) → ((a : Label) → a ∈ s → P a) → Each P s
+each-in P [] h = tt
+each-in P (a ∷ s) h = (h a (inl refl), each-in P s (λ b m. h b (inr m)))
+
+-- An answer's text is that of its words.
+pub record Listing (c : Call) (rounds n : ℕ) (names answer : List ℕ) : Type 0 where
+  pub few : n ≤ 1024
+  pub says : textOf c ≡ answerText (wordsOf names) rounds (map countsOf (take n answer))
+
+pub listed-text : (text : Text) (c : Call) → call text 4096 1024 ≡ c → (rounds n : ℕ) (names answer answer′ : List ℕ)
+    → verdictFor (Listed rounds n) ≡ verdictOf c → NamesFor c names → answer′ ≡ answerAfter c answer → Listing c rounds n names answer′
+listed-text text (refusing r) e rounds n names answer answer′ v ns put = absurd (omega (arith, refusals-numbered r, ap (λ (x : Verdict). x .reason) v))
+listed-text text (answering words k ls) e rounds n names answer answer′ v ns put =
+    let from = origin text words k ls 4096 1024 e in
+    let d = from .given in
+    let legal = accepted→ text d (from .order) (from .reads) in
+    let held = listed-held d (from .order) k ls (from .lists) in
+    let count : n ≡ length ls = ap (λ (x : Verdict). x .labels) v in
+    let size : length (map number ls) ≡ n = sym (count ∙ sym (rw length-map)) in
+    let these : take n answer′ ≡ map number ls = ap (take n) put ∙ take-at (map number ls) (drop (length ls) answer) n size in
+    let bytes : Each Bytes words = subst (Each Bytes) (sym (from .named)) (each-map {P = NameForm} {Q = Bytes} name-bytes (d .words) (legal .2 .0)) in
+    let fit : Each (Fits words) ls = each-in (Fits words) ls (λ a m. (held a m .0 ∙ ap length (sym (from .named)), small a (held a m .1))) in
+    let few-words : length words ≤ 12 = omega (arith, legal .1 .nameCount .1, ap length (from .named)) in
+    record {
+      few = omega (arith, listed-few d (from .order) k ls (from .lists));
+      says = sym (ap₂ (λ (ws : List ℕ) (ns : List ℕ). answerText (wordsOf ns) rounds (map countsOf ws)) these ns
+          ∙ same-answer words few-words bytes rounds ls fit ∙ ap (λ (m : ℕ). answerText words m ls) (ap (λ (x : Verdict). x .rounds) v));
+    }
+
+-- The same of what a call responds.
+module _ (text : Text) (work work′ answer answer′ : List ℕ) (r : Response) (h : Responded (call text 4096 1024) work work′ answer answer′ r) where
+  pub listing : (rounds n : ℕ) → r .answer ≡ Listed rounds n → Listing (call text 4096 1024) rounds n (r .names) answer′
+  listing rounds n e =
+      listed-text text (call text 4096 1024) refl rounds n (r .names) answer answer′ (ap verdictFor (sym e) ∙ h .settled .verdict) (h .names) (h .settled .answers)
+
+  pub refusal : (a : Answer) → r .answer ≡ a → (verdictFor a .reason ≡ 0 → ⊥) → textOf (call text 4096 1024) ≡ refusedText (verdictFor a .reason) (verdictFor a .line)
+  refusal a e some = refused-text (call text 4096 1024) (verdictFor a) (ap verdictFor (sym e) ∙ h .settled .verdict) some
+
+pub printed : (s t before after : Text) (n : ℕ) → s ≡ t → Printed t before after n → Printed s before after n
+printed s t before after n e p = subst (λ (x : Text). Printed x before after n) (sym e) p
+
+-- 155,648 bytes hold every text.
+pub text-fits : (text : Text) → length (textOf (call text 4096 1024)) ≤ 155648
+text-fits text = fits (call text 4096 1024) refl
+  where
+    fits : (c : Call) → call text 4096 1024 ≡ c → length (textOf c) ≤ 155648
+    fits (refusing r) e = omega (arith, length-refusal (reasonOf r) (lineOf r))
+    fits (answering words k ls) e =
+        let names = filled 12 0 (map wordOf words) in
+        let l = listed-text text (answering words k ls) e k (length ls) names [] (map number ls ++ drop (length ls) []) refl refl refl in
+        let shown = take (length ls) (map number ls ++ drop (length ls) []) in
+        omega (arith, l .few, ap length (l .says), length-answer names k shown, length-take (length ls) (map number ls ++ drop (length ls) []))

@@ -1,0 +1,51 @@
+-- Any two results that meet the promise of a call are equal.
+-- Assumes nothing.
+use mathlib.Core.Path.{_≡_, refl, sym, ap, _∙_}
+use mathlib.Core.List.{List}
+use Prim.Native.Nat.{ℕ, zero, suc}
+use Rattle.meaning.specs.Bytes.{Text}
+use Rattle.meaning.specs.Answers.{Verdict}
+use Rattle.forms.specs.declared.Fault.the-variants.{Form, Name, Range, Amount, Operand}
+use Rattle.printing.specs.Areas.{Printed}
+use Rattle.rimecutter.specs.declared.Answer.{Answer}
+use Rattle.rimecutter.specs.declared.Answer.the-variants.{Listed, TooLong, Bad, TooLarge}
+use Rattle.rimecutter.specs.Calls.{Call}
+use Rattle.rimecutter.specs.Answers.{verdictFor, Settled}
+
+-- What is equal to the same is equal.
+pub alike : {A : Type 0} {a b c : A} → a ≡ c → b ≡ c → a ≡ b
+alike p q = p ∙ sym q
+
+-- The case of an answer from its number.
+answerFrom : ℕ → Verdict → Answer
+answerFrom zero v = Listed (v .rounds) (v .labels)
+answerFrom (suc zero) v = TooLong
+answerFrom (suc (suc zero)) v = Bad Form (v .line)
+answerFrom (suc (suc (suc zero))) v = Bad Name (v .line)
+answerFrom (suc (suc (suc (suc zero)))) v = Bad Range (v .line)
+answerFrom (suc (suc (suc (suc (suc zero))))) v = Bad Amount (v .line)
+answerFrom (suc (suc (suc (suc (suc (suc zero)))))) v = Bad Operand (v .line)
+answerFrom (suc (suc (suc (suc (suc (suc (suc n))))))) v = TooLarge
+
+answer-back : (a : Answer) → answerFrom (verdictFor a .reason) (verdictFor a) ≡ a
+unfolding answerFrom
+answer-back (Listed rounds labels) = refl
+answer-back TooLong = refl
+answer-back (Bad Form line) = refl
+answer-back (Bad Name line) = refl
+answer-back (Bad Range line) = refl
+answer-back (Bad Amount line) = refl
+answer-back (Bad Operand line) = refl
+answer-back TooLarge = refl
+
+-- A verdict is that of one answer only.
+pub verdict-injective : (a b : Answer) → verdictFor a ≡ verdictFor b → a ≡ b
+verdict-injective a b e = sym (answer-back a) ∙ ap (λ (v : Verdict). answerFrom (v .reason) v) e ∙ answer-back b
+
+module _ (c : Call) (work answer : List ℕ) (work₁ answer₁ work₂ answer₂ : List ℕ) (r₁ r₂ : Answer) where
+  pub settled-unique : Settled c work work₁ answer answer₁ r₁ → Settled c work work₂ answer answer₂ r₂ → (r₁ ≡ r₂) × (work₁ ≡ work₂) × (answer₁ ≡ answer₂)
+  settled-unique p q =
+      (verdict-injective r₁ r₂ (alike (p .verdict) (q .verdict)), alike (p .works) (q .works), alike (p .answers) (q .answers))
+
+pub printed-unique : (s before after₁ after₂ : Text) (n₁ n₂ : ℕ) → Printed s before after₁ n₁ → Printed s before after₂ n₂ → (n₁ ≡ n₂) × (after₁ ≡ after₂)
+printed-unique s before after₁ after₂ n₁ n₂ p q = (alike (p .size) (q .size), alike (p .area) (q .area))

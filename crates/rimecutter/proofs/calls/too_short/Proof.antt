@@ -1,0 +1,16 @@
+use borrow.Author.Tests.{lt-ltb, le-ltb}
+use Rattle.rimecutter.proofs.calls.too_short.Statement.{statement}
+use Rattle.rimecutter.proofs.calls.too_short.Tie as tie
+use Rattle.rimecutter.proofs.calls.too_short.Reads as reads
+use Rattle.rimecutter.proofs.calls.too_short.Lts as lts
+
+-- src/calls.rt:21:1
+returns : tie.Need-returns
+returns c = rw (lt-ltb _ _ (c .if1 .taken))
+
+-- src/calls.rt:21:1
+returns-2 : tie.Need-returns-2
+returns-2 c = rw (le-ltb _ _ (c .if1 .left))
+
+pub too-short-spec : {M : Type 1} → statement M
+too-short-spec = tie.close (tie.spec returns returns-2)

@@ -1,0 +1,70 @@
+-- What a call comes to (document 01, "Limits and refusal numbers"): from the description's bytes and how long the lent areas are.
+-- Assumes nothing.
+use mathlib.Core.Bool.{Bool, true, false, _||_}
+use mathlib.Core.List.{List, _++_, map}
+use Prim.Native.Nat.{ℕ}
+use lib.Dec.{ltb}
+use lib.ListN.{length, drop, replicate}
+use Rattle.meaning.specs.Bytes.{Text}
+use Rattle.meaning.specs.Labels.{Label, number}
+use Rattle.meaning.specs.Descriptions.{Description}
+use Rattle.meaning.specs.Answers as A
+use Rattle.meaning.specs.Answers.{Outcome, tooLarge, listed, Refusal, tooLong, inLine, large, noRoom, Verdict}
+use Rattle.reading.specs.Reading.{Reading, read, refused, readText}
+use Rattle.printing.specs.Printed.{refusalText, answerText}
+
+-- A refusal, or an answer with the names it is printed with.
+pub data Call : Type 0 where
+  refusing : Refusal → Call
+  answering : (words : List Text) (rounds : ℕ) (labels : List Label) → Call
+
+abbrev pub workWords : ℕ
+workWords = 4096
+
+abbrev pub answerWords : ℕ
+answerWords = 1024
+
+-- Refusal 1 comes first, refusal 7 last.
+abbrev pub tooShort : ℕ → ℕ → Bool
+tooShort work answer = ltb work workWords || ltb answer answerWords
+
+abbrev pub ofOutcome : Description → Outcome → Call
+ofOutcome d tooLarge = refusing large
+ofOutcome d (listed rounds labels) = answering (d .words) rounds labels
+
+abbrev pub ofReading : Reading → Call
+ofReading (read d o) = ofOutcome d (A.answer d o)
+ofReading (refused r) = refusing r
+
+abbrev pub unlessShort : Bool → Reading → Call
+unlessShort true r = refusing tooLong
+unlessShort false r = ofReading r
+
+unfoldable pub call : Text → (work answer : ℕ) → Call
+call text work answer = unlessShort (tooShort work answer) (readText text)
+
+-- The number, line, rounds and number of labels.
+abbrev pub verdictOf : Call → Verdict
+verdictOf (refusing r) = A.refused r
+verdictOf (answering words rounds labels) = A.verdict (listed rounds labels)
+
+-- On an answer the answer area begins with the label numbers and the rest is unchanged; on a refusal it is unchanged.
+abbrev pub answerAfter : Call → List ℕ → List ℕ
+answerAfter (refusing r) area = area
+answerAfter (answering words rounds labels) area = map number labels ++ drop (length labels) area
+
+-- After refusal 1 the work area is unchanged; after every other call its first 4,096 words are 0 and the rest are unchanged.
+abbrev pub cleared : List ℕ → List ℕ
+cleared area = replicate workWords 0 ++ drop workWords area
+
+abbrev pub workAfter : Call → List ℕ → List ℕ
+workAfter (refusing tooLong) area = area
+workAfter (refusing (inLine f line)) area = cleared area
+workAfter (refusing large) area = cleared area
+workAfter (refusing noRoom) area = cleared area
+workAfter (answering words rounds labels) area = cleared area
+
+-- The text that is printed.
+abbrev pub textOf : Call → Text
+textOf (refusing r) = refusalText r
+textOf (answering words rounds labels) = answerText words rounds labels

@@ -1,0 +1,10 @@
+-- What the steps of a call answer. Only private functions cite this: no public contract rests on it.
+-- Assumes nothing.
+use Rattle.rimecutter.specs.declared.Answer.{Answer}
+use Rattle.rimecutter.specs.declared.Answer.the-variants as C
+use Rattle.rounds.specs.declared.Answer as R
+use Rattle.rounds.specs.declared.Answer.the-variants.{TooLarge, Listed}
+
+abbrev pub answerFor : R.Answer → Answer
+answerFor TooLarge = C.TooLarge
+answerFor (Listed rounds labels) = C.Listed rounds labels

@@ -1,0 +1,47 @@
+// The alphabet of a description: one call over its bytes and two lent areas, and the text of its answer.
+mod calls;
+
+ghost use lib.ListN.{length};
+ghost use Rattle.printing.specs.Areas.{Printed};
+ghost use Rattle.rimecutter.specs.Calls.{call, textOf};
+ghost use Rattle.rimecutter.specs.Answers.{Settled};
+use crate::calls::respond;
+use forms::Fault;
+use forms::number_of;
+use printing::write_answer;
+use printing::write_refusal;
+use rounds::ANSWER_WORDS;
+use rounds::WORK_WORDS;
+
+// Listed with the rounds and the number of labels; or refused: with 1, with a fault of a line, or with 7.
+pub enum Answer {
+    Listed(usize, usize),
+    TooLong,
+    Bad(Fault, usize),
+    TooLarge,
+}
+
+pub fn alphabet(description: &[u8], work: &mut [u64], answer: &mut [u64]) -> Answer
+    ensures { λ r. ⌜ Settled (call (now (description .entry)) (length (now (work .entry))) (length (now (answer .entry)))) (now (work .entry)) (now (work .exit)) (now (answer .entry)) (now (answer .exit)) r ⌝ }
+{
+    let response = respond(description, work, answer);
+    let said = response.answer;
+    said
+}
+
+// The text of the answer, with areas of the call's own: whole, or not at all where it does not fit.
+pub fn alphabet_text(description: &[u8], text: &mut [u8]) -> usize
+    ensures { λ r. ⌜ Printed (textOf (call (now (description .entry)) 4096 1024)) (now (text .entry)) (now (text .exit)) r ⌝ }
+{
+    let mut work = [0u64; WORK_WORDS];
+    let mut answer = [0u64; ANSWER_WORDS];
+    let response = respond(description, &mut work, &mut answer);
+    let said = response.answer;
+    let names = response.names;
+    match said {
+        Answer::Listed(rounds, labels) => write_answer(text, names, rounds, &answer[..labels]),
+        Answer::TooLong => write_refusal(text, 1, 0),
+        Answer::Bad(fault, line) => write_refusal(text, number_of(fault), line),
+        Answer::TooLarge => write_refusal(text, 7, 0),
+    }
+}
