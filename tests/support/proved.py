@@ -1,0 +1,105 @@
+"""Building and running what is proved: the program `alphabet`, and C programs
+that are linked with the archive of the C call.
+
+Both are made for x86-64. On another processor the kit's emulator and loader
+run them, and Debian's cross compiler compiles the C programs.
+"""
+
+import os
+import pathlib
+import platform
+import shutil
+import subprocess
+
+from support.comparing import first_difference, shown
+from support.examples import check_examples
+from support.programs import TESTS, TOP, Failed, output_folder, run
+
+C_CALL = TESTS / "c_call"
+ARCHIVE = TOP / "target" / "staticlib" / "librimecutter_c.a"
+NATIVE = platform.machine() == "x86_64"
+COMPILER = "cc" if NATIVE else "x86_64-linux-gnu-gcc"
+STRICT = ["-std=c99", "-pedantic", "-Wall", "-Wextra", "-Werror", "-O2"]
+
+
+def kit():
+    """The folder of the Rattle kit."""
+    home = os.environ.get("RATTLE_HOME")
+    if home:
+        return pathlib.Path(home)
+    found = shutil.which("rt")
+    if not found:
+        raise Failed("no 'rt' on PATH, and RATTLE_HOME names no Rattle kit")
+    return pathlib.Path(found).resolve().parent.parent
+
+
+def command(program):
+    """How a program for x86-64 is run here."""
+    if NATIVE:
+        return [str(program)]
+    tools = kit() / "on" / platform.machine() / "toolchain"
+    loader = [tools / "lib" / "ld-linux-x86-64.so.2", "--library-path", tools / "lib"]
+    return [str(part) for part in [tools / "bin" / "qemu-x86_64", *loader, program]]
+
+
+def rt(*words):
+    """Runs the kit's `rt` at the top of the repository; its progress is shown."""
+    try:
+        subprocess.run([kit() / "bin" / "rt", *words], cwd=TOP, check=True)
+    except subprocess.CalledProcessError as fault:
+        raise Failed(f"rt {' '.join(words)} ended with {fault.returncode}") from fault
+
+
+def linked(source):
+    """A C program linked with the archive."""
+    program = output_folder("c_call") / source.stem
+    run([COMPILER, *STRICT, f"-I{TOP / 'include'}", str(source), str(ARCHIVE), "-o", str(program)])
+    return program
+
+
+def check_c_call(sample):
+    """The C call: its archive is linked, the promises of its header tried, and
+    its texts compared with the reference's, record by record."""
+    rt("staticlib", "rimecutter_c")
+    print(run(command(linked(C_CALL / "checks.c"))).decode(), end="", flush=True)
+    check_bench_example()
+    difference = first_difference(command(linked(C_CALL / "batch.c")), sample)
+    if difference:
+        print(difference, end="", flush=True)
+        raise Failed("the C call differs from the reference")
+    print(f"the C call answers {len(sample.records)} records as the reference does", flush=True)
+
+
+def check_bench_example():
+    """The example program for the bench prints an alphabet."""
+    program = command(linked(TOP / "examples" / "bench.c"))
+    printed = run([*program, str(TOP / "examples" / "stripe-15-of-16.txt")])
+    if printed != (TOP / "examples" / "stripe-15-of-16.expected").read_bytes():
+        raise Failed(f"examples/bench.c prints something else:\n{shown(printed)}")
+
+
+def check_program():
+    """The program: every example, and input that comes byte by byte or is too
+    long."""
+    rt("check", "alphabet")
+    program = command(TOP / "target" / "bin" / "alphabet")
+    check_examples(program)
+    listing = (TOP / "crates" / "alphabet" / "stdin").read_bytes()
+    due = (TOP / "crates" / "alphabet" / "stdout").read_bytes()
+    expect(program, [listing[at : at + 1] for at in range(len(listing))], due)
+    refused = b"answer=refused\nreason=%d\nline=%d\n"
+    expect(program, [], refused % (2, 1))
+    expect(program, [listing, bytes(8193 - len(listing))], refused % (1, 0))
+    expect(program, [b"\n" * 65536] * 16, refused % (1, 0))
+    print("the program answers pieces and too long input as it should", flush=True)
+
+
+def expect(program, pieces, due):
+    """Hands a program its input piece by piece and holds it to its text."""
+    with subprocess.Popen(program, stdin=subprocess.PIPE, stdout=subprocess.PIPE, bufsize=0) as running:
+        for piece in pieces:
+            running.stdin.write(piece)
+        running.stdin.close()
+        printed = running.stdout.read()
+    if printed != due or running.returncode != 0:
+        raise Failed(f"the program ends with {running.returncode} and prints\n{shown(printed)}")
