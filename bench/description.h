@@ -1,0 +1,67 @@
+// A description in memory, and its reader. All peers share it, so that they differ in how they hold sets and in nothing else.
+#pragma once
+
+#include <array>
+#include <cstddef>
+#include <cstdint>
+#include <string_view>
+
+constexpr unsigned MOST_NAMES = 12;
+constexpr unsigned MOST_EQUATIONS = 16;
+constexpr unsigned MOST_TERMS = 96;
+constexpr unsigned MOST_WORDS_OF_A_LIST = 32;
+
+// The number of a label: five bits for the count of each name.
+using Label = uint64_t;
+
+constexpr unsigned BITS_OF_A_COUNT = 5;
+constexpr Label ONE_COUNT = 31;
+constexpr Label TAU = 0;
+
+constexpr unsigned shift_of(unsigned name) { return BITS_OF_A_COUNT * name; }
+constexpr Label single(unsigned name) { return Label{1} << shift_of(name); }
+constexpr Label whole_count(unsigned name) { return ONE_COUNT << shift_of(name); }
+constexpr unsigned count_of(Label label, unsigned name) { return (label >> shift_of(name)) & ONE_COUNT; }
+
+enum class Kind : uint8_t {
+    act, tau, delta, ref, sum, cond, choice, ifelse, seq, merge, lmerge, sync, block, hide, rename, comm, allow
+};
+
+// The words of a list that a term or the order has. Block and hide: the names. Rename: from and to, pair after pair. Comm: a
+// left label and the label of the right name, rule after rule. Allow and the order: the labels.
+struct List {
+    const Label *first;
+    const Label *last;
+    const Label *begin() const { return first; }
+    const Label *end() const { return last; }
+    size_t size() const { return last - first; }
+};
+
+// `first` is also the name of an act and the equation of a ref.
+struct Term {
+    Kind kind;
+    uint8_t first;
+    uint8_t second;
+    List list;
+};
+
+struct Description {
+    unsigned name_count;
+    unsigned term_count;
+    unsigned equation_count;
+    unsigned root;
+    bool has_order;
+    List order;
+    std::array<std::string_view, MOST_NAMES> names;
+    std::array<Term, MOST_TERMS> terms;
+    std::array<uint8_t, MOST_EQUATIONS> bodies;
+    std::array<Label, (MOST_TERMS + 1) * MOST_WORDS_OF_A_LIST> words;
+
+    // Left as it comes: what is not read is not used either, and clearing it would cost more than reading a small description.
+    Description() {}
+    // The lists point into the words.
+    Description(const Description &) = delete;
+};
+
+// Reads a well-formed description; of any other nothing is promised.
+void read_description(std::string_view text, Description &description);

@@ -1,0 +1,62 @@
+// Peer (b): a label is a word and a set is a std::set of words.
+#include "ordered_sets.h"
+#include "packed_words.h"
+#include "peers.h"
+
+namespace {
+
+class PackedWords {
+  public:
+    using Bag = Label;
+
+    explicit PackedWords(const Description &description) : d(description), lists(description.term_count) {
+        for (unsigned t = 0; t < d.term_count; ++t) {
+            prepare(d.terms[t], lists[t]);
+        }
+    }
+
+    Label act(unsigned name) const { return single(name); }
+    Label tau() const { return TAU; }
+    unsigned actions(Label x) const { return actions_of(x); }
+    Label join(Label x, Label y) const { return x + y; }
+    Label number(Label x) const { return x; }
+
+    bool passes(unsigned t, Label x) const {
+        const Term &term = d.terms[t];
+        if (term.kind == Kind::block) {
+            return (x & lists[t].blocked) == 0;
+        }
+        return x == TAU || std::binary_search(term.list.begin(), term.list.end(), x);
+    }
+
+    Label mapped(unsigned t, Label x) const { return lists[t].map[0](x); }
+    const std::vector<WordRule> &rules(unsigned t) const { return lists[t].rules; }
+
+  private:
+    struct Lists {
+        Label blocked = 0;
+        std::vector<WordMap> map;
+        std::vector<WordRule> rules;
+    };
+
+    const Description &d;
+    std::vector<Lists> lists;
+
+    static void prepare(const Term &term, Lists &l) {
+        if (term.kind == Kind::block) {
+            l.blocked = whole_counts(term.list);
+        } else if (term.kind == Kind::hide || term.kind == Kind::rename) {
+            l.map.emplace_back(term);
+        } else if (term.kind == Kind::comm) {
+            for (const Label *rule = term.list.begin(); rule < term.list.end(); rule += 2) {
+                l.rules.push_back({rule[0], rule[1]});
+            }
+        }
+    }
+};
+
+} // namespace
+
+size_t alphabet_by_words(const uint8_t *description, size_t length, uint8_t *text, size_t) {
+    return text_by<OrderedSets<PackedWords>>(description, length, text);
+}
