@@ -17,6 +17,5 @@ pub mod Walking
 pub mod Taking
 pub mod Freedom
 pub mod Termed
-pub mod Clearing
 pub mod Wholes
 pub mod Stores

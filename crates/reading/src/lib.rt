@@ -7,12 +7,13 @@ mod terms;
 mod whole;
 
 ghost use Rattle.reading.specs.Stored.{Stored};
-use crate::whole::clear;
 use crate::whole::read_lines;
 use crate::whole::refused;
 use forms::Fault;
 use table::Order;
+use table::STORE_WORDS;
 use table::Table;
+use table::areas::clear;
 
 // How far reading has come: past a line, with the number or the packed name that it holds, and with the place and the number
 // of the next line; or the fault of a line and its number.
@@ -20,6 +21,9 @@ pub enum Progress {
     To(u64, usize, usize),
     Bad(Fault, usize),
 }
+
+// The most bytes of a description.
+const TEXT_BYTES: usize = 8192;
 
 pub enum Answer {
     Fine,
@@ -39,17 +43,17 @@ pub struct Read {
 pub fn read_description(text: &[u8], store: &mut [u64]) -> Read
     ensures { λ r. ⌜ Stored (now (text .entry)) (now (store .entry)) (now (store .exit)) r ⌝ }
 {
-    if 8192 < text.len() {
+    if TEXT_BYTES < text.len() {
         return refused(Answer::TooLong);
     }
-    if store.len() < 3104 {
+    if store.len() < STORE_WORDS {
         return refused(Answer::TooLong);
     }
-    clear(&mut store[..3104]);
-    let read = read_lines(text, &mut store[..3104]);
+    clear(&mut store[..STORE_WORDS], STORE_WORDS);
+    let read = read_lines(text, &mut store[..STORE_WORDS]);
     let answer = read.answer;
     let Answer::Fine = answer else {
-        clear(&mut store[..3104]);
+        clear(&mut store[..STORE_WORDS], STORE_WORDS);
         return read;
     };
     read

@@ -136,13 +136,3 @@ pub fn read_lines(text: &[u8], store: &mut [u64]) -> Read
     let count = t as usize;
     read_terms(text, start, begins, names, named, equations, count, store)
 }
-
-pub fn clear(words: &mut [u64])
-    ensures { λ r. ⌜ now (words .exit) ≡ filled (length (now (words .entry))) 0 [] ⌝ }
-{
-    let mut i = 0;
-    while i < words.len() {
-        words[i] = 0;
-        i += 1;
-    }
-}

@@ -8,6 +8,7 @@ use crate::Answer;
 use reading::read_description;
 use rounds::ANSWER_WORDS;
 use rounds::WORK_WORDS;
+use table::STORE_WORDS;
 use table::areas::clear;
 
 pub struct Response {
@@ -39,7 +40,7 @@ pub fn respond(description: &[u8], work: &mut [u64], answer: &mut [u64]) -> Resp
             names: [0u64; 12],
         };
     }
-    let mut store = [0u64; 3104];
+    let mut store = [0u64; STORE_WORDS];
     let read = read_description(description, &mut store);
     let said = read.answer;
     let table = read.table;

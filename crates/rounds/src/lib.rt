@@ -1,12 +1,11 @@
 // The sets of all terms, worked out round by round in a lent work area, and the root's set cut to the order.
-mod clearing;
 mod cutting;
+mod moving;
 mod passes;
 mod starts;
 mod terms;
 mod turns;
 
-use crate::clearing::clear;
 use crate::cutting::cut;
 use crate::turns::Found;
 use crate::turns::until_stable;
@@ -14,6 +13,7 @@ use table::EQUATIONS;
 use table::Order;
 use table::TERMS;
 use table::Table;
+use table::areas::clear;
 use table::lists::words_of;
 ghost use mathlib.Core.Path.{_≡_};
 ghost use Prim.Native.Nat.{_≤_, _<_};

@@ -1,5 +1,5 @@
 // One round: the terms' sets, one after the other.
-use crate::clearing::carry;
+use crate::moving::carry;
 use crate::starts::left_of;
 use crate::starts::place_of;
 use crate::terms::work_out;

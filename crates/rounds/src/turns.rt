@@ -1,5 +1,5 @@
 // Round after round, until a limit is passed or the equations' sets stay.
-use crate::clearing::carry;
+use crate::moving::carry;
 use crate::passes::pass;
 use crate::starts::HALF;
 use crate::starts::part_at;

@@ -7,6 +7,7 @@ use native.Mathlib.Nat.{le-of-suc-le-suc}
 use native.Mathlib.Omega.{arith}
 use lib.ListN.{length, drop, set, replicate}
 use Rattle.table.specs.Areas.{zeroed}
+use Rattle.table.specs.Encoded.{filled}
 
 pub zeroed-set : (i : ℕ) (ws : List ℕ) → set (zeroed i ws) i 0 ≡ zeroed (suc i) ws
 unfolding zeroed
@@ -37,3 +38,11 @@ unfolding zeroed
 zeroed-front zero ws h = refl
 zeroed-front (suc n) [] h = absurd (omega arith)
 zeroed-front (suc n) (w ∷ ws) h = ap (λ (r : List ℕ). 0 ∷ r) (zeroed-front n ws (le-of-suc-le-suc h))
+
+-- An area that is not longer: all of it is 0.
+pub zeroed-whole : (n : ℕ) (ws : List ℕ) → length ws ≤ n → zeroed n ws ≡ filled (length ws) 0 []
+unfolding zeroed filled
+zeroed-whole zero [] h = refl
+zeroed-whole zero (w ∷ ws) h = absurd (omega arith)
+zeroed-whole (suc n) [] h = refl
+zeroed-whole (suc n) (w ∷ ws) h = ap (λ (r : List ℕ). 0 ∷ r) (zeroed-whole n ws (le-of-suc-le-suc h))

@@ -15,6 +15,9 @@ pub const EQUATIONS: usize = 16;
 
 pub const TERMS: usize = 96;
 
+// The words of the list store: 32 for each term, and as many for the order.
+pub const STORE_WORDS: usize = 3104;
+
 // Where a list stands in the store: its first word, and how many entries it has.
 pub struct Place {
     pub at: usize,

@@ -8,6 +8,7 @@ use lib.ListN.{length, take, drop, length-append}
 use lib.Seq.{take-at, drop-at, length-take-le}
 use Rattle.table.specs.Encoded.{filled}
 use Rattle.table.proofs.Filled.{filled-length}
+use Rattle.table.proofs.Zeroed.{zeroed-whole}
 use Rattle.reading.proofs.Stores.{text-long, room-short, both-fit, refused-first, fine-stored, bad-stored, not-fine}
 use Rattle.reading.proofs.read_description.Statement.{statement}
 use Rattle.reading.proofs.read_description.Tie as tie
@@ -35,7 +36,7 @@ clear-requires c κs = tt
 
 -- the first 3,104 words once they are 0, and once the lines are read
 zeros : (c : tie.After-clear) → c .clear .last .0 ≡ filled 3104 0 []
-zeros c = c .clear .ensures ∙ ap (λ n. filled n 0 []) (length-take-le 3104 (c .before .before .before .before .before .before .args .store .now) (c .before .before .if2 .left))
+zeros c = c .clear .ensures ∙ zeroed-whole 3104 _ (omega (arith, length-take-le 3104 (c .before .before .before .before .before .before .args .store .now) (c .before .before .if2 .left))) ∙ ap (λ n. filled n 0 []) (length-take-le 3104 (c .before .before .before .before .before .before .args .store .now) (c .before .before .if2 .left))
 
 zeros-long : (c : tie.After-clear) → length (c .clear .last .0) ≡ 3104
 zeros-long c = ap length (zeros c) ∙ filled-length 0 3104 []
@@ -79,7 +80,7 @@ returns-3 c =
     bad-stored (c .before .before .before .before .before .before .before .before .before .before .before .before .before .before .before .before .before .args .store .now) (c .before .before .before .before .before .before .before .before .before .before .before .before .before .before .before .before .before .args .text .now)
     (both-fit (c .before .before .before .before .before .before .before .before .before .before .before .before .before .before .before .before .before .args .text .now) (length (c .before .before .before .before .before .before .before .before .before .before .before .before .before .before .before .before .before .args .store .now)) (omega (arith, c .before .before .before .before .before .before .before .before .before .before .before .before .before .before .if1 .left)) (omega (arith, c .before .before .before .before .before .before .before .before .before .before .before .before .before .if2 .left)))
     (c .before .before .before .before .before .before .before .read-lines .ensures) (not-fine (c .before .before .before .before .before .before .before .read-lines .result .answer) (c .before .before .before .before .match .keys2))
-    (c .before .before .clear2 .ensures ∙ ap (λ n. filled n 0 []) (second-long (c .before .before .before .before .before .before)))
+    (c .before .before .clear2 .ensures ∙ zeroed-whole 3104 _ (omega (arith, second-long (c .before .before .before .before .before .before))) ∙ ap (λ n. filled n 0 []) (second-long (c .before .before .before .before .before .before)))
     (ap (λ r. c .before .before .clear2 .last .0 ++ r)
     (drop-at (c .before .before .before .before .before .before .before .read-lines .last .1 .0) (drop 3104 (c .before .before .before .before .before .before .before .before .before .before .before .clear .last .0 ++ drop 3104 (c .before .before .before .before .before .before .before .before .before .before .before .before .before .before .before .before .before .args .store .now))) 3104 (read-long (c .before .before .before .before .before .before))
     ∙ drop-at (c .before .before .before .before .before .before .before .before .before .before .before .clear .last .0) (drop 3104 (c .before .before .before .before .before .before .before .before .before .before .before .before .before .before .before .before .before .args .store .now)) 3104 (zeros-long (c .before .before .before .before .before .before .before .before .before .before .before))))

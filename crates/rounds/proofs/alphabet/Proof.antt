@@ -1,8 +1,10 @@
--- `rounds::alphabet` meets its contract
+-- `rounds::alphabet` meets its contract: the rounds, the listing, and the work area set to 0.
 -- Assumes nothing.
 use mathlib.Core.Path.{_∙_}
 use mathlib.Core.Logic.{inl, inr}
 use native.Mathlib.Omega.{arith}
+use borrow.Author.Needs.{needs}
+use Rattle.table.proofs.Zeroed.{zeroed-front}
 use Rattle.rounds.proofs.Listings.{answered-short, answered-illegal, answered-right}
 use Rattle.rounds.proofs.alphabet.Statement.{statement}
 use Rattle.rounds.proofs.alphabet.Tie as tie
@@ -26,7 +28,7 @@ listing-requires : tie.Need-listing-requires
 listing-requires c κs = tt
 
 clear-requires : tie.Need-clear-requires
-clear-requires c κs = omega (arith, c .before .before .before .before .before .before .before .before .until-stable .kept .1 .1 .0)
+clear-requires c κs = search needs
 
 same-length : tie.Need-same-length
 same-length c = c .before .before .clear .kept .0 ∙ c .before .before .before .before .before .before .before .before .before .before .before .until-stable .kept .1 .1 .0
@@ -35,7 +37,7 @@ same-length-2 : tie.Need-same-length-2
 same-length-2 c = c .before .before .before .before .before .before .listing .kept .1 .1 .1 .1 .0
 
 returns-5 : tie.Need-returns-5
-returns-5 c = answered-right (c .before .before .before .before .before .before .before .before .before .before .before .before .before .before .before .before .before .before .before .before .before .before .args .table) (c .before .before .before .before .before .before .before .before .before .before .before .before .before .before .before .before .before .before .before .before .before .before .args .store .now) (c .before .before .before .before .before .before .before .before .before .before .before .before .before .before .before .before .before .before .before .before .before .before .args .order) (c .before .before .before .before .before .before .before .before .before .before .before .before .before .before .before .before .before .before .before .before .before .before .args .work .now) (c .before .before .before .before .before .before .before .before .before .before .before .before .before .before .before .before .before .before .before .before .before .before .args .answer .now) (c .before .before .before .before .before .before .before .before .before .before .before .until-stable .result) _ _ _ (c .before .before .before .before .before .before .listing .result) (omega arith) (omega arith) (c .before .before .before .before .before .before .before .before .before .before .before .until-stable .ensures) (c .before .before .before .before .before .before .listing .ensures) (c .before .before .clear .ensures)
+returns-5 c = answered-right (c .before .before .before .before .before .before .before .before .before .before .before .before .before .before .before .before .before .before .before .before .before .before .args .table) (c .before .before .before .before .before .before .before .before .before .before .before .before .before .before .before .before .before .before .before .before .before .before .args .store .now) (c .before .before .before .before .before .before .before .before .before .before .before .before .before .before .before .before .before .before .before .before .before .before .args .order) (c .before .before .before .before .before .before .before .before .before .before .before .before .before .before .before .before .before .before .before .before .before .before .args .work .now) (c .before .before .before .before .before .before .before .before .before .before .before .before .before .before .before .before .before .before .before .before .before .before .args .answer .now) (c .before .before .before .before .before .before .before .before .before .before .before .until-stable .result) _ _ _ (c .before .before .before .before .before .before .listing .result) (omega arith) (omega arith) (c .before .before .before .before .before .before .before .before .before .before .before .until-stable .ensures) (c .before .before .before .before .before .before .listing .ensures) (c .before .before .clear .ensures ∙ zeroed-front 4096 _ (omega (arith, c .before .before .before .before .before .before .before .before .before .before .before .until-stable .kept .1 .1 .0)))
 
 pub alphabet-spec : {M : Type 1} → statement M
 alphabet-spec =

@@ -1,10 +1,10 @@
--- `rounds::clearing::carry` meets its contract: the words are put one after the other, and none is read after it was written.
+-- `rounds::moving::carry` meets its contract: the words are put one after the other, and none is read after it was written.
 -- Assumes nothing.
 use native.Mathlib.Omega.{arith}
 use Prim.Native.Nat.{_-_}
 use Rattle.rounds.proofs.Carrying.{Carrying, carrying-start, carrying-step, carrying-end}
-use Rattle.rounds.proofs.clearing.carry.Statement.{statement}
-use Rattle.rounds.proofs.clearing.carry.Tie as tie
+use Rattle.rounds.proofs.moving.carry.Statement.{statement}
+use Rattle.rounds.proofs.moving.carry.Tie as tie
 
 abbrev Inv-loop : tie.InvT-loop
 Inv-loop area₀ from to count i₀ area i = Carrying area₀ from to count area i
