@@ -15,6 +15,12 @@ from support.comparing import first_difference, shown
 from support.examples import check_examples
 from support.programs import TESTS, TOP, Failed, output_folder, run
 
+# The emulator goes byte by byte through the instructions with which the C library
+# fills and copies much memory, so that library is told to use its others.
+EMULATED = "GLIBC_TUNABLES=" + ":".join(
+    f"glibc.cpu.x86_rep_{which}_threshold=1000000000" for which in ("stosb", "movsb")
+)
+
 C_CALL = TESTS / "c_call"
 ARCHIVE = TOP / "target" / "staticlib" / "librimecutter_c.a"
 NATIVE = platform.machine() == "x86_64"
@@ -39,7 +45,8 @@ def command(program):
         return [str(program)]
     tools = kit() / "on" / platform.machine() / "toolchain"
     loader = [tools / "lib" / "ld-linux-x86-64.so.2", "--library-path", tools / "lib"]
-    return [str(part) for part in [tools / "bin" / "qemu-x86_64", *loader, program]]
+    emulator = ["env", EMULATED, tools / "bin" / "qemu-x86_64"]
+    return [str(part) for part in [*emulator, *loader, program]]
 
 
 def rt(*words):
