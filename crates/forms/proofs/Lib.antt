@@ -17,3 +17,4 @@ pub mod Farthest
 pub mod Kinded
 pub mod Slotted
 pub mod Ordered
+pub mod Uniqueness

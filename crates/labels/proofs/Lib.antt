@@ -2,3 +2,4 @@
 pub mod Words
 pub mod Lists
 pub mod Meant
+pub mod Uniqueness

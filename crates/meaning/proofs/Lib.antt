@@ -1,4 +1,5 @@
--- The theorems, each file after those that it cites; the computed cases first.
+-- The law of uniqueness; then the theorems, each file after those that it cites; the computed cases first.
+pub mod Alike
 pub mod Legality
 pub mod Alphabets
 pub mod Tests

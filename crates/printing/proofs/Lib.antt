@@ -1,4 +1,4 @@
--- The computed cases, then the laws that the writers' proofs cite, each file after those that it cites; callers cite `Callers` and `Whole`.
+-- The computed cases, then the laws that the writers' proofs cite, each file after those that it cites; callers cite `Callers`, `Whole` and `Uniqueness`.
 pub mod Cases
 pub mod Writing
 pub mod Decimal
@@ -10,3 +10,4 @@ pub mod LabelLines
 pub mod Whole
 pub mod Callers
 pub mod Lengths
+pub mod Uniqueness

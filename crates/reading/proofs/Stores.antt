@@ -13,6 +13,7 @@ use denote.Enum.Declared.{tagOf}
 use Rattle.reading.proofs.Answer.{the-type}
 use Rattle.meaning.specs.Bytes.{Text}
 use Rattle.meaning.specs.Answers.{tooLong, inLine, large, noRoom}
+use Rattle.meaning.proofs.Alike.{alike}
 use Rattle.table.specs.declared.Order.the-variants.{All}
 use Rattle.table.specs.Encoded.{filled, tableOf, blank}
 use Rattle.table.proofs.Filled.{filled-replicate}
@@ -24,7 +25,7 @@ use Rattle.reading.specs.declared.Read.{Read}
 
 -- Any two results that meet the contract are equal, and so are the stores.
 pub stored-once : {text : Text} {before after after′ : List ℕ} {r r′ : Read} → Stored text before after r → Stored text before after′ r′ → (r ≡ r′) × (after ≡ after′)
-stored-once s t = (s .result ∙ sym (t .result), s .store ∙ sym (t .store))
+stored-once s t = (alike (s .result) (t .result), alike (s .store) (t .store))
 
 -- Refusal 1 comes first.
 too-long : (b : Bool) → withRoom b (refused tooLong) ≡ refused tooLong

@@ -1,20 +1,15 @@
 -- Any two results that meet the promise of a call are equal.
 -- Assumes nothing.
-use mathlib.Core.Path.{_≡_, refl, sym, ap, _∙_}
+use mathlib.Core.Path.{_≡_, refl}
 use mathlib.Core.List.{List}
 use Prim.Native.Nat.{ℕ, zero, suc}
-use Rattle.meaning.specs.Bytes.{Text}
 use Rattle.meaning.specs.Answers.{Verdict}
+use Rattle.meaning.proofs.Alike.{alike, alike-through}
 use Rattle.forms.specs.declared.Fault.the-variants.{Form, Name, Range, Amount, Operand}
-use Rattle.printing.specs.Areas.{Printed}
 use Rattle.rimecutter.specs.declared.Answer.{Answer}
 use Rattle.rimecutter.specs.declared.Answer.the-variants.{Listed, TooLong, Bad, TooLarge}
-use Rattle.rimecutter.specs.Calls.{Call}
+use Rattle.rimecutter.specs.Calls.{Call, verdictOf}
 use Rattle.rimecutter.specs.Answers.{verdictFor, Settled}
-
--- What is equal to the same is equal.
-pub alike : {A : Type 0} {a b c : A} → a ≡ c → b ≡ c → a ≡ b
-alike p q = p ∙ sym q
 
 -- The case of an answer from its number.
 answerFrom : ℕ → Verdict → Answer
@@ -39,13 +34,10 @@ answer-back (Bad Operand line) = refl
 answer-back TooLarge = refl
 
 -- A verdict is that of one answer only.
-pub verdict-injective : (a b : Answer) → verdictFor a ≡ verdictFor b → a ≡ b
-verdict-injective a b e = sym (answer-back a) ∙ ap (λ (v : Verdict). answerFrom (v .reason) v) e ∙ answer-back b
+pub verdict-unique : (a b : Answer) (v : Verdict) → verdictFor a ≡ v → verdictFor b ≡ v → a ≡ b
+verdict-unique a b v p q = alike-through (λ (x : Answer). verdictFor x) (λ (x : Verdict). answerFrom (x .reason) x) answer-back p q
 
 module _ (c : Call) (work answer : List ℕ) (work₁ answer₁ work₂ answer₂ : List ℕ) (r₁ r₂ : Answer) where
   pub settled-unique : Settled c work work₁ answer answer₁ r₁ → Settled c work work₂ answer answer₂ r₂ → (r₁ ≡ r₂) × (work₁ ≡ work₂) × (answer₁ ≡ answer₂)
   settled-unique p q =
-      (verdict-injective r₁ r₂ (alike (p .verdict) (q .verdict)), alike (p .works) (q .works), alike (p .answers) (q .answers))
-
-pub printed-unique : (s before after₁ after₂ : Text) (n₁ n₂ : ℕ) → Printed s before after₁ n₁ → Printed s before after₂ n₂ → (n₁ ≡ n₂) × (after₁ ≡ after₂)
-printed-unique s before after₁ after₂ n₁ n₂ p q = (alike (p .size) (q .size), alike (p .area) (q .area))
+      (verdict-unique r₁ r₂ (verdictOf c) (p .verdict) (q .verdict), alike (p .works) (q .works), alike (p .answers) (q .answers))

@@ -18,6 +18,7 @@ use Rattle.meaning.specs.Legal.{LegalOrder, Legal}
 use Rattle.meaning.specs.Rounds.{Rounds, roundSets}
 use Rattle.meaning.specs.Limits.{someOver, over}
 use Rattle.meaning.specs.Answers.{Outcome, tooLarge, listed, Answers, cut, answer}
+use Rattle.meaning.proofs.Alike.{alike}
 use Rattle.meaning.proofs.Limits.{over-one, over-some, rounds-bound}
 use Rattle.meaning.proofs.Lengths.{round-full}
 use Rattle.meaning.proofs.Answers.{answer-right}
@@ -142,7 +143,7 @@ module _ (table : Table) (store : List ℕ) (order : Order) (work area : List �
 module _ (table : Table) (store : List ℕ) (order : Order) (work area work₁ area₁ work₂ area₂ : List ℕ) (r₁ r₂ : Answer)
     (p : Answered table store order work area work₁ area₁ r₁) (q : Answered table store order work area work₂ area₂ r₂) where
   same : (s : Answer) (v w : List ℕ) → (r₁ ≡ s) × (area₁ ≡ v) × (work₁ ≡ w) → (r₂ ≡ s) × (area₂ ≡ v) × (work₂ ≡ w) → (r₁ ≡ r₂) × (area₁ ≡ area₂) × (work₁ ≡ work₂)
-  same s v w a b = (a .0 ∙ sym (b .0), a .1 ∙ sym (b .1), a .2 ∙ sym (b .2))
+  same s v w a b = (alike (a .0) (b .0), alike (a .1) (b .1), alike (a .2) (b .2))
 
   pub answered-unique : (d : D.Description) (o : D.Order) → Legal d o → table ≡ tableOf d → store ≡ storeOf d o → order ≡ orderFor o → (r₁ ≡ r₂) × (area₁ ≡ area₂) × (work₁ ≡ work₂)
   answered-unique d o l e f g = elim (decLt (length work) whole) [

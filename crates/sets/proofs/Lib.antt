@@ -12,3 +12,4 @@ pub mod Uniting
 pub mod Meant
 pub mod Ways
 pub mod Communication
+pub mod Uniqueness

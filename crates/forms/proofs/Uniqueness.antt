@@ -1,0 +1,180 @@
+-- Any two results that meet a reader's promise are equal; and what of a line with a fault, or of one that is stuck, is settled.
+-- Assumes nothing.
+use mathlib.Core.Path.{_≡_, refl, sym, ap, ap₂, _∙_}
+use mathlib.Core.List.{List, [], map}
+use Prim.Native.Nat.{ℕ, _^_, _≤_, _<_}
+use native.Mathlib.Omega.{arith}
+use lib.ListN.{length, drop, length-drop}
+use Rattle.meaning.specs.Bytes.{Text}
+use Rattle.meaning.specs.Descriptions as D
+use Rattle.meaning.specs.Answers.{Fault, form, name, range, amount, operand}
+use Rattle.meaning.proofs.Alike.{alike, alike-through}
+use Rattle.table.specs.declared.Term.{Term}
+use Rattle.table.specs.declared.Term.the-variants.{Delta}
+use Rattle.table.specs.declared.Order.{Order}
+use Rattle.table.specs.declared.Slot.{Slot}
+use Rattle.table.specs.Decoded.{nameOf}
+use Rattle.table.specs.Encoded.{wordOf, termWords, termFor, orderWords, orderFor, filled, slotsFrom}
+use Rattle.forms.specs.Text.{Past, past, stuck}
+use Rattle.forms.specs.Forms.{termLine, orderLine}
+use Rattle.forms.specs.Faults.{Found, fine, fault, termSaid, termFault, orderSaid, orderFault}
+use Rattle.forms.specs.Tallies.{foundOf}
+use Rattle.forms.specs.Lists.{over}
+use Rattle.forms.specs.Places.{Steps, stepOf, placeOf}
+use Rattle.forms.specs.Terms.{TermRead, TermAnswer}
+use Rattle.forms.specs.Orders.{OrderRead, OrderAnswer}
+use Rattle.forms.specs.declared.Fault as F
+use Rattle.forms.specs.declared.Fault.the-variants.{Form, Name, Range, Amount, Operand}
+use Rattle.forms.specs.declared.Found as G
+use Rattle.forms.specs.declared.Found.the-variants.{Fine, Faulty}
+use Rattle.forms.specs.declared.Step.{Step}
+use Rattle.forms.specs.declared.Step.the-variants.{To, Stuck}
+use Rattle.forms.specs.declared.TermStep.{TermStep}
+use Rattle.forms.specs.declared.TermStep.the-variants as T
+use Rattle.forms.specs.declared.OrderStep.{OrderStep}
+use Rattle.forms.specs.declared.OrderStep.the-variants as O
+use Rattle.forms.proofs.Looked.{word-name}
+
+-- A fault of the code from that of the definition.
+faultBack : Fault → F.Fault
+faultBack form = Form
+faultBack name = Name
+faultBack range = Range
+faultBack amount = Amount
+faultBack operand = Operand
+
+foundBack : Found → G.Found
+foundBack fine = Fine
+foundBack (fault f) = Faulty (faultBack f)
+
+found-back : (f : G.Found) → foundBack (foundOf f) ≡ f
+unfolding foundBack faultBack
+found-back Fine = refl
+found-back (Faulty Form) = refl
+found-back (Faulty Name) = refl
+found-back (Faulty Range) = refl
+found-back (Faulty Amount) = refl
+found-back (Faulty Operand) = refl
+
+pub found-unique : (f g : G.Found) (due : Found) → foundOf f ≡ due → foundOf g ≡ due → f ≡ g
+found-unique f g due p q = alike-through (λ (x : G.Found). foundOf x) foundBack found-back p q
+
+-- Steps of a line: the place is settled by the text from there on, since it lies in the line; the number by what it says.
+place-unique : (line : Text) (m n : ℕ) → m ≤ length line → n ≤ length line → drop m line ≡ drop n line → m ≡ n
+place-unique line m n h k e = omega (arith, length-drop m line, length-drop n line, ap (λ (t : Text). length t) e)
+
+-- (the number is a word)
+pub InWord : Step → Type 0
+InWord (To v next) = v < 2 ^ 64
+InWord (Stuck next) = Unit {0}
+
+apart : {A : Type 0} {a : A} {s t : Text} → past a s ≡ stuck t → ⊥
+apart e = let z : _≡_ {A = ℕ} 0 1 = cc in omega arith
+
+module _ {A : Type 0} (value : ℕ → A) (back : A → ℕ) (returns : (v : ℕ) → v < 2 ^ 64 → back (value v) ≡ v) (line : Text) where
+  same-steps : (r s : Step) → InWord r → InWord s → placeOf r ≤ length line → placeOf s ≤ length line
+      → stepOf (λ v next. value v) line r ≡ stepOf (λ v next. value v) line s → r ≡ s
+  unfolding InWord
+  same-steps (To v m) (To w n) a b h k e =
+      let x : value v ≡ value w = cc in
+      let y : drop m line ≡ drop n line = cc in
+      ap₂ {C = Step} To (sym (returns v a) ∙ ap back x ∙ returns w b) (place-unique line m n h k y)
+  same-steps (To v m) (Stuck n) a b h k e = absurd (apart e)
+  same-steps (Stuck m) (To w n) a b h k e = absurd (apart (sym e))
+  same-steps (Stuck m) (Stuck n) a b h k e =
+      let y : drop m line ≡ drop n line = cc in ap Stuck (place-unique line m n h k y)
+
+  pub steps-unique : (at : ℕ) (due : Past A) (r s : Step) → InWord r → InWord s → Steps (λ v next. value v) line at r due → Steps (λ v next. value v) line at s due → r ≡ s
+  steps-unique at due r s a b p q = same-steps r s a b (p .stands .within) (q .stands .within) (alike (p .stands .says) (q .stands .says))
+
+module _ (line : Text) (at : ℕ) where
+  pub count-unique : (due : Past ℕ) (r s : Step) → InWord r → InWord s → Steps (λ n next. n) line at r due → Steps (λ n next. n) line at s due → r ≡ s
+  count-unique = steps-unique (λ n. n) (λ n. n) (λ v h. refl) line at
+
+  pub name-unique : (due : Past Text) (r s : Step) → InWord r → InWord s → Steps (λ w next. nameOf 8 w) line at r due → Steps (λ w next. nameOf 8 w) line at s due → r ≡ s
+  name-unique = steps-unique (nameOf 8) wordOf (word-name 8) line at
+
+-- What the reader of a line that may have a list gives: a value with its fault, or the text that it is stuck at.
+pub data Seen (X : Type 0) : Type 0 where
+  took : X → G.Found → Seen X
+  stopped : Text → Seen X
+
+pub record Took {L X : Type 0} (due : Past L) (make : L → X) (faults : L → Found) (words : L → List ℕ) (after : List ℕ) (x : X) (f : G.Found) : Type 0 where
+  pub line : L
+  pub says : past line [] ≡ due
+  pub made : x ≡ make line
+  pub found : foundOf f ≡ faults line
+  pub stored : faults line ≡ fine → after ≡ words line
+
+pub Meets : {L X : Type 0} → Past L → (L → X) → (L → Found) → (L → List ℕ) → List ℕ → Seen X → Type 0
+Meets due make faults words after (took x f) = Took due make faults words after x f
+Meets due make faults words after (stopped rest) = stuck rest ≡ due
+
+-- The store is settled where there is no fault.
+module _ {L X : Type 0} (due : Past L) (make : L → X) (faults : L → Found) (words : L → List ℕ) (after₁ after₂ : List ℕ) where
+  same-line : (x y : X) (f g : G.Found) (p : Took due make faults words after₁ x f) (q : Took due make faults words after₂ y g) → p .line ≡ q .line
+      → (took x f ≡ took y g) × (f ≡ Fine → after₁ ≡ after₂)
+  same-line x y f g p q e =
+      let u : foundOf f ≡ faults (q .line) = p .found ∙ ap faults e in
+      (ap₂ {C = Seen X} took (alike (p .made ∙ ap make e) (q .made)) (found-unique f g (faults (q .line)) u (q .found)), stores u)
+    where
+      stores : foundOf f ≡ faults (q .line) → f ≡ Fine → after₁ ≡ after₂
+      stores u z =
+          let v : faults (q .line) ≡ fine = sym u ∙ ap (λ (h : G.Found). foundOf h) z in
+          alike (p .stored (ap faults e ∙ v) ∙ ap words e) (q .stored v)
+
+  pub seen-unique : (a b : Seen X) → Meets due make faults words after₁ a → Meets due make faults words after₂ b
+      → (a ≡ b) × ((x : X) → a ≡ took x Fine → after₁ ≡ after₂)
+  unfolding Meets
+  seen-unique (took x f) (took y g) p q =
+      let e = alike (p .says) (q .says) in
+      let l : p .line ≡ q .line = cc in
+      let h = same-line x y f g p q l in
+      (h .0, λ z d. h .1 cc)
+  seen-unique (took x f) (stopped t) p q = absurd (apart (alike (p .says) q))
+  seen-unique (stopped s) (took y g) p q = absurd (apart (alike (q .says) p))
+  seen-unique (stopped s) (stopped t) p q =
+      let e = alike p q in
+      let l : s ≡ t = cc in
+      (ap {B = Seen X} stopped l, λ z d. absurd (other d))
+    where
+      other : {z : X} → stopped s ≡ took z Fine → ⊥
+      other d = let z : _≡_ {A = ℕ} 0 1 = cc in omega arith
+
+-- The order's line and a term's.
+abbrev pub orderSeen : Text → OrderStep → Seen Order
+orderSeen line (O.To x f) = took x f
+orderSeen line (O.Stuck p) = stopped (drop p line)
+
+abbrev pub termSeen : Text → TermStep → Seen Term
+termSeen line (T.To x f) = took x f
+termSeen line (T.Stuck p) = stopped (drop p line)
+
+module _ (names : List ℕ) (line : Text) (before after₁ after₂ : List ℕ) where
+  order-meets : (words : List Text) (after : List ℕ) (r : OrderStep) → OrderRead words line before after r
+      → Meets (orderLine line) (λ l. orderFor (orderSaid words l)) (orderFault words) (λ l. over (orderWords (orderSaid words l)) before) after (orderSeen line r)
+  unfolding Meets
+  order-meets words after (O.To x f) p = record { line = p .line; says = p .says; made = p .order; found = p .faults; stored = p .stored }
+  order-meets words after (O.Stuck n) p = p
+
+  pub order-unique : (r s : OrderStep) → OrderAnswer names line before after₁ r → OrderAnswer names line before after₂ s → length names ≤ 12 → length line ≤ 8192
+      → (orderSeen line r ≡ orderSeen line s) × ((x : Order) → orderSeen line r ≡ took x Fine → after₁ ≡ after₂)
+  order-unique r s p q few short =
+      let ws = map (nameOf 8) names in
+      seen-unique (orderLine line) (λ l. orderFor (orderSaid ws l)) (orderFault ws) (λ l. over (orderWords (orderSaid ws l)) before) after₁ after₂
+      (orderSeen line r) (orderSeen line s) (order-meets ws after₁ r (p few short)) (order-meets ws after₂ s (q few short))
+
+  term-meets : (words : List Text) (equations : ℕ) (terms : List D.Term) (after : List ℕ) (r : TermStep) → TermRead words equations terms line before after r
+      → Meets (termLine line) (λ l. termFor (length terms) (termSaid words l)) (termFault words equations terms) (λ l. over (termWords (termSaid words l)) before) after (termSeen line r)
+  unfolding Meets
+  term-meets words equations terms after (T.To x f) p = record { line = p .line; says = p .says; made = p .term; found = p .faults; stored = p .stored }
+  term-meets words equations terms after (T.Stuck n) p = p .0
+
+  pub term-unique : (equations : ℕ) (slots : List Slot) (n : ℕ) (r s : TermStep)
+      → TermAnswer names equations slots n line before after₁ r → TermAnswer names equations slots n line before after₂ s
+      → (terms : List D.Term) → slots ≡ filled 96 (record { term = Delta }) (slotsFrom 0 terms) → n ≡ length terms → n < 96 → length names ≤ 12 → length line ≤ 8192
+      → (termSeen line r ≡ termSeen line s) × ((x : Term) → termSeen line r ≡ took x Fine → after₁ ≡ after₂)
+  term-unique equations slots n r s p q terms e m h few short =
+      let ws = map (nameOf 8) names in
+      seen-unique (termLine line) (λ l. termFor (length terms) (termSaid ws l)) (termFault ws equations terms) (λ l. over (termWords (termSaid ws l)) before) after₁ after₂
+      (termSeen line r) (termSeen line s) (term-meets ws equations terms after₁ r (p terms e m h few short)) (term-meets ws equations terms after₂ s (q terms e m h few short))
