@@ -65,7 +65,7 @@ class Promises(unittest.TestCase):
             (rows, "\n".join([*ROWS, asks]), "twice of one::shown::asks"),
             (rows, "\n".join([ROWS[0], "| `one::shown::asks` | a digit |"]), "not explained"),
             (rows, "\n".join([*ROWS, "`other.edit`"]), "no edit other"),
-            (one, LIBRARY + "\npub fn bare() -> u64 {\n    1\n}\n", "one::bare is missing; one::bare has no"),
+            (one, LIBRARY + "\npub fn bare() -> u64 {\n    1\n}\n", "one::bare has no ensures"),
         ]
         for name, text, fault in cases:
             with self.subTest(fault=fault):
