@@ -1,7 +1,9 @@
 """Holding the texts of any program against those of the reference."""
 
+import concurrent.futures
 import contextlib
 import dataclasses
+import os
 import subprocess
 import threading
 
@@ -99,3 +101,15 @@ def first_difference(command, sample, seconds=None):
     """The first Difference, or None."""
     with contextlib.closing(differences(command, sample, seconds)) as found:
         return next(found, None)
+
+
+def some_difference(command, sample):
+    """A Difference, or None: the records are dealt out to as many runs of the
+    program as there are processors."""
+    count = os.cpu_count() or 1
+    with concurrent.futures.ThreadPoolExecutor(count) as runs:
+        found = list(runs.map(lambda part: first_difference(command, part), sample.parts(count)))
+    for at, difference in enumerate(found):
+        if difference:
+            return dataclasses.replace(difference, number=(difference.number - 1) * count + at + 1)
+    return None

@@ -11,7 +11,7 @@ import platform
 import shutil
 import subprocess
 
-from support.comparing import first_difference, shown
+from support.comparing import shown, some_difference
 from support.examples import check_examples
 from support.programs import TESTS, TOP, Failed, output_folder, run
 
@@ -70,7 +70,7 @@ def check_c_call(sample):
     rt("staticlib", "rimecutter_c")
     print(run(command(linked(C_CALL / "checks.c"))).decode(), end="", flush=True)
     check_bench_example()
-    difference = first_difference(command(linked(C_CALL / "batch.c")), sample)
+    difference = some_difference(command(linked(C_CALL / "batch.c")), sample)
     if difference:
         print(difference, end="", flush=True)
         raise Failed("the C call differs from the reference")

@@ -40,9 +40,17 @@ class Sample:
 
     def first(self, count):
         """The first records alone."""
-        path = programs.output_folder() / "first-records"
-        path.write_bytes(written(self.records[:count]))
-        return Sample(path, self.records[:count], self.classes[:count], self.texts[:count])
+        return self.only("first-records", slice(count))
+
+    def parts(self, count):
+        """The records dealt out in turn, as so many samples."""
+        return [self.only(f"records-{at}", slice(at, None, count)) for at in range(count)]
+
+    def only(self, name, which):
+        """Some of the records, in a file of that name."""
+        path = programs.output_folder() / name
+        path.write_bytes(written(self.records[which]))
+        return Sample(path, self.records[which], self.classes[which], self.texts[which])
 
 
 def generate(options=()):

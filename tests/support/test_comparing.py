@@ -5,10 +5,12 @@ import sys
 import tempfile
 import types
 import unittest
+from unittest import mock
 
-from support.comparing import Difference, differences, first_difference
+from support import programs
+from support.comparing import Difference, differences, first_difference, some_difference
 from support.programs import Failed
-from support.records import written
+from support.records import Sample, written
 
 RECORDS = [b"one\n", b"two", b"three\0\n"]
 TEXTS = [b"first\n", b"second\n", b"third\n"]
@@ -62,3 +64,18 @@ class Comparing(unittest.TestCase):
         command = [sys.executable, "-c", "import time; time.sleep(60)"]
         with self.assertRaisesRegex(Failed, "ended by signal 9: no text for record 1 of 3"):
             first_difference(command, self.sample, seconds=0.2)
+
+    def test_the_records_are_dealt_out_and_a_difference_is_found(self):
+        code = (
+            "import sys; from support.records import read_from, written; "
+            "sys.stdout.buffer.write(written(b'b' if text == b'a2' else text for text in read_from(sys.stdin.buffer)))"
+        )
+        texts = [b"a%d" % number for number in range(5)]
+        sample = Sample(self.sample.path, texts, ["x"] * 5, texts)
+        for processors in (1, 2, 3, 7):
+            folder = mock.patch.object(programs, "output_folder", lambda: self.sample.path.parent)
+            with folder, mock.patch("os.cpu_count", return_value=processors):
+                found = some_difference([sys.executable, "-c", code], sample)
+                self.assertEqual(found, Difference(3, b"a2", b"a2", b"b"))
+                others = sample.only("others", slice(3, None))
+                self.assertIsNone(some_difference([sys.executable, "-c", code], others))

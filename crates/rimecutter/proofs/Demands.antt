@@ -7,8 +7,8 @@ use mathlib.Core.List.{List, [], _∷_, _++_, map}
 use Prim.Native.Nat.{ℕ, _≤_, _<_}
 use native.Mathlib.Omega.{arith}
 use lib.Dec.{T, leb, le→leb}
-use lib.ListN.{length, drop}
-use Rattle.meaning.specs.Bytes.{Text}
+use lib.ListN.{length, getD, take, drop}
+use Rattle.meaning.specs.Bytes.{Text, ascii}
 use Rattle.meaning.specs.Labels.{Label, number}
 use Rattle.meaning.specs.Sets.{_∈_}
 use Rattle.meaning.specs.Descriptions.{Description, Order}
@@ -22,12 +22,12 @@ use Rattle.meaning.proofs.Widening as W
 use Rattle.meaning.proofs.Widening.{Tightened, tightening}
 use Rattle.reading.specs.Reading.{Reading, read, refused, readText}
 use Rattle.reading.proofs.Acceptance.{accepted→}
-use Rattle.printing.specs.Printed.{answerText, put}
+use Rattle.printing.specs.Printed.{line, answerText, refusedText, put}
 use Rattle.printing.specs.Areas.{Printed}
 use Rattle.rimecutter.specs.declared.Answer.{Answer}
 use Rattle.rimecutter.specs.Calls.{Call, refusing, answering, tooShort, ofOutcome, ofReading, unlessShort, call, verdictOf, answerAfter, workAfter, cleared, textOf}
 use Rattle.rimecutter.specs.Answers.{verdictFor, Settled}
-use Rattle.rimecutter.proofs.Texts.{refusals-numbered, faults-below, origin}
+use Rattle.rimecutter.proofs.Texts.{refusals-numbered, faults-below}
 use Rattle.rimecutter.proofs.Refusals.{of-text}
 
 -- A call that was made and kept its promise: the text, each area before and after, and the answer.
@@ -206,39 +206,65 @@ module _ (m m′ : Made) (d d′ : Description) (o o′ : Order) (reads : readTe
     | inr r ↦ absurd (omega (arith, zero-reason, ap (λ (v : Verdict). v .reason) (r .says), refusals-numbered (r .refusal)))
   ]
 
--- The same of the C call, which has areas of its own and prints: where the text area holds the first's text, it is an answer.
-pub record SafeText (d : Description) (o : Order) (labels′ : List Label) (before after : Text) (n : ℕ) : Type 0 where
+-- A call for C that was made and kept its promise, with a text area that holds its text: the area before and after, and the length.
+pub record Called : Type 0 where
+  pub text : Text
+  pub area : Text
+  pub area′ : Text
+  pub size : ℕ
+  pub holds : length (textOf (call text 4096 1024)) ≤ length area
+  pub kept : Printed (textOf (call text 4096 1024)) area area′ size
+
+-- an area that begins with the first line of an answer
+abbrev pub SaysOk : Text → Type 0
+SaysOk area = take 10 area ≡ line (ascii "answer=") (ascii "ok")
+
+-- The same of two calls for C, over what they print: if the second prints an answer, so does the first, and the second's text lists the label.
+pub record SafeText (c c′ : Called) (d : Description) (o : Order) (d′ : Description) : Type 0 where
+  pub answered : SaysOk (c .area′)
   pub rounds : ℕ
-  pub labels : List Label
-  pub shown : after ≡ put (answerText (d .words) rounds labels) before
-  pub size : n ≡ length (answerText (d .words) rounds labels)
-  pub covered : (a : Label) → OnRun d a → Allows o a → a ∈ labels′
+  pub listed-labels : List Label
+  pub shown : c′ .area′ ≡ put (answerText (d′ .words) rounds listed-labels) (c′ .area)
+  pub covered : (a : Label) → OnRun d a → Allows o a → a ∈ listed-labels
 
-module _ (text text′ : Text) (d d′ : Description) (o o′ : Order) (reads : readText text ≡ read d o) (reads′ : readText text′ ≡ read d′ o′) where
-  by-text : (x : Reading) → readText text ≡ x → call text 4096 1024 ≡ ofReading x
+-- What a call printed.
+printed : (c : Called) → c .area′ ≡ put (textOf (call (c .text) 4096 1024)) (c .area)
+printed c = shown-if (leb (length (textOf (call (c .text) 4096 1024))) (length (c .area))) (le→leb (length (textOf (call (c .text) 4096 1024))) (length (c .area)) (c .holds)) (c .kept .area)
+  where
+    shown-if : (b : Bool) → T b → c .area′ ≡ elim b [ true ↦ put (textOf (call (c .text) 4096 1024)) (c .area) | false ↦ c .area ]
+        → c .area′ ≡ put (textOf (call (c .text) 4096 1024)) (c .area)
+    shown-if true t e = e
+    shown-if false t e = absurd t
+
+answer-ok : (words : List Text) (rounds : ℕ) (labels : List Label) (area : Text) → SaysOk (put (answerText words rounds labels) area)
+unfolding answerText
+answer-ok words rounds labels area = refl
+
+-- a refusal says otherwise in its eighth byte
+refusal-not-ok : (reason at : ℕ) (area : Text) → SaysOk (put (refusedText reason at) area) → ⊥
+unfolding refusedText
+refusal-not-ok reason at area e = let k = ap (λ (t : Text). getD t 7 0) e in omega arith
+
+module _ (c c′ : Called) (d d′ : Description) (o o′ : Order) (reads : readText (c .text) ≡ read d o) (reads′ : readText (c′ .text) ≡ read d′ o′) where
+  comes-to : (text : Text) (x : Reading) → readText text ≡ x → call text 4096 1024 ≡ ofReading x
   unfolding call
-  by-text x e = ap ofReading e
+  comes-to text x e = ap ofReading e
 
-  shown-if : (before after : Text) (n : ℕ) (s : Text) (b : Bool) → leb (length s) (length before) ≡ b → T b → after ≡ elim b [ true ↦ put s before | false ↦ before ]
-      → n ≡ elim b [ true ↦ length s | false ↦ 0 ] → (after ≡ put s before) × (n ≡ length s)
-  shown-if before after n s true e t a b = (a, b)
-  shown-if before after n s false e t a b = absurd t
-
-  pub demand-3-text : Widens d o d′ o′ → (rounds′ : ℕ) (labels′ : List Label) → call text′ 4096 1024 ≡ answering (d′ .words) rounds′ labels′
-      → (before after : Text) (n : ℕ) → Printed (textOf (call text 4096 1024)) before after n → length (textOf (call text 4096 1024)) ≤ length before
-      → SafeText d o labels′ before after n
-  demand-3-text w rounds′ labels′ e before after n p fits =
-      let from = origin text′ (d′ .words) rounds′ labels′ 4096 1024 e in
-      let same : read d′ o′ ≡ read (from .given) (from .order) = sym reads′ ∙ from .reads in
-      let lists : Lists d′ o′ rounds′ labels′ = subst (λ (x : Reading). ListsOf x rounds′ labels′) (sym same) (from .lists) in
-      let tight = tightening d o d′ o′ (accepted→ text d o reads .1) (accepted→ text′ d′ o′ reads′ .1) w rounds′ labels′ (sym (answer-only d′ o′ (listed rounds′ labels′) lists)) in
-      let c : call text 4096 1024 ≡ answering (d .words) (tight .answered .rounds) (tight .answered .labels) = by-text (read d o) reads ∙ ap (ofOutcome d) (tight .answered .is) in
-      let s : textOf (call text 4096 1024) ≡ answerText (d .words) (tight .answered .rounds) (tight .answered .labels) = ap textOf c in
-      let printed = shown-if before after n (textOf (call text 4096 1024)) (leb (length (textOf (call text 4096 1024))) (length before)) refl (le→leb (length (textOf (call text 4096 1024))) (length before) fits) (p .area) (p .size) in
+  safe-text : Widens d o d′ o′ → (x : Outcome) → A.answer d′ o′ ≡ x → SaysOk (put (textOf (ofOutcome d′ x)) (c′ .area)) → SafeText c c′ d o d′
+  safe-text w tooLarge e ok = absurd (refusal-not-ok 7 0 (c′ .area) ok)
+  safe-text w (listed rounds labels) e ok =
+      let tight = tightening d o d′ o′ (accepted→ (c .text) d o reads .1) (accepted→ (c′ .text) d′ o′ reads′ .1) w rounds labels e in
+      let first : call (c .text) 4096 1024 ≡ answering (d .words) (tight .answered .rounds) (tight .answered .labels) = comes-to (c .text) (read d o) reads ∙ ap (ofOutcome d) (tight .answered .is) in
+      let second : call (c′ .text) 4096 1024 ≡ answering (d′ .words) rounds labels = comes-to (c′ .text) (read d′ o′) reads′ ∙ ap (ofOutcome d′) e in
       record {
-        rounds = tight .answered .rounds;
-        labels = tight .answered .labels;
-        shown = printed .0 ∙ ap (λ (x : Text). put x before) s;
-        size = printed .1 ∙ ap length s;
+        answered = subst SaysOk (sym (printed c ∙ ap (λ (x : Call). put (textOf x) (c .area)) first)) (answer-ok (d .words) (tight .answered .rounds) (tight .answered .labels) (c .area));
+        rounds = rounds;
+        listed-labels = labels;
+        shown = printed c′ ∙ ap (λ (x : Call). put (textOf x) (c′ .area)) second;
         covered = tight .covered;
       }
+
+  pub demand-3-text : Widens d o d′ o′ → SaysOk (c′ .area′) → SafeText c c′ d o d′
+  demand-3-text w ok =
+      safe-text w (A.answer d′ o′) refl
+      (subst SaysOk (printed c′ ∙ ap (λ (x : Call). put (textOf x) (c′ .area)) (comes-to (c′ .text) (read d′ o′) reads′)) ok)
