@@ -4,7 +4,7 @@ use crate::Label;
 ghost use mathlib.Core.Path.{_≡_};
 ghost use lib.Dec.{ltb, eqb};
 ghost use lib.ListN.{length, getD, set};
-ghost use Rattle.labels.specs.Packing.{held, code, packed};
+ghost use Rattle.labels.specs.Packing.{held, code, packed, movedUp};
 
 // How many labels the words hold.
 pub fn labels_in(words: &[u64]) -> usize
@@ -42,6 +42,19 @@ pub fn write_label(words: &mut [u64], i: usize, label: Label)
 {
     if i < words.len() {
         words[i] = label.word;
+    }
+}
+
+// The labels from one place up to another move one place up, over the label at the second, if that is a place of the slice.
+pub fn move_up(words: &mut [u64], from: usize, to: usize)
+    ensures { λ r. ⌜ held (now (words .exit)) ≡ movedUp from to (held (now (words .entry))) ⌝ }
+{
+    if to < words.len() {
+        let mut i = to;
+        while from < i {
+            words[i] = words[i - 1];
+            i -= 1;
+        }
     }
 }
 

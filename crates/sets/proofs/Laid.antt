@@ -3,12 +3,13 @@
 use mathlib.Core.Path.{_≡_, refl, sym, ap, ap₂, _∙_}
 use mathlib.Core.List.{List, [], _∷_, _++_, append-assoc, append-nil}
 use Prim.Native.Nat.{ℕ, zero, suc, _+_, _-_, _≤_, _<_, zero-le, min}
-use native.Mathlib.Nat.{add-zero, add-assoc, add-suc, le-refl, zero-sub, sub-zero, le-of-suc-le-suc}
+use native.Mathlib.Nat.{le-refl, zero-sub, sub-zero}
 use native.Mathlib.Decide.{decLe}
-use native.Mathlib.Numerals.{add-one}
 use native.Mathlib.Omega.{arith}
-use lib.ListN.{length, getD, set, take, drop, replicate, length-replicate, length-append, length-take, length-drop, take-append-drop, List·getD-append, drop-of-length-le}
-use lib.Seq.{getD-take, getD-drop, take-all, take-add, take-take, take-suc, drop-drop, drop-cons, set-at, take-at, drop-at, append-snoc, drop-append-add, length-take-le}
+use lib.ListN.{length, getD, set, take, drop, replicate, length-replicate, length-append, length-take, length-drop, take-append-drop, List·getD-append}
+use lib.Seq.{getD-take, getD-drop, take-all, take-add, take-take, drop-drop, take-at, drop-at, length-take-le}
+use Rattle.labels.specs.Packing.{movedUp}
+use Rattle.labels.proofs.Moving.{set-before, moved-up}
 use Rattle.sets.specs.Parts.{setAt, laid, reachOf}
 
 -- A set of a given length at a place.
@@ -98,51 +99,19 @@ laid-self at len ls =
     rw (e, append-assoc (take at ls) (setAt at len ls) (drop (at + k) ls), ← setAt-reach at len ls, ← drop-drop k at ls, take-append-drop k (drop at ls))
     (take-append-drop at ls)
 
--- A label is put before a part that is moved one place up, the last label first: the place of the i-th is free.
-set-laid : (ls s : List ℕ) (i v : ℕ) → i < length ls → set (laid (suc i) s ls) i v ≡ laid i (v ∷ s) ls
+-- A label is put before a set that is laid; and before a part that is moved one place up, at the place that is free for it.
+set-laid : (ls s : List ℕ) (i v : ℕ) → i < length ls → set (laid (i + 1) s ls) i v ≡ laid i (v ∷ s) ls
 unfolding laid
 set-laid ls s i v h =
-    let rest = drop (suc i + length s) ls in
-    let e : i + suc (length s) ≡ suc i + length s = omega arith in
-    rw (take-suc ls i 0 h, append-assoc (take i ls ++ (getD ls i 0 ∷ [])) s rest, append-assoc (take i ls) (getD ls i 0 ∷ []) (s ++ rest), e)
-    (set-at (take i ls) (getD ls i 0) (s ++ rest) v i (length-take-le i ls (omega arith)) ∙ sym (append-assoc (take i ls) (v ∷ s) rest))
+    let e : i + suc (length s) ≡ i + 1 + length s = omega arith in rw e (set-before ls s (drop (i + 1 + length s) ls) i v h)
 
-pub record Pushed (ls : List ℕ) (from to i : ℕ) (now : List ℕ) : Type 0 where
-  pub order : (from ≤ i) × (i ≤ to) × (to < length ls)
-  pub moved : now ≡ laid (suc i) (take (to - i) (drop i ls)) ls
-
-pub pushed-start : (ls : List ℕ) (from to : ℕ) → from ≤ to → to < length ls → Pushed ls from to to ls
-pushed-start ls from to h k =
-    let e : to - to ≡ 0 = omega arith in
-    record { order = (h, le-refl to, k); moved = rw e (sym (laid-nothing (suc to) ls)) }
-
-pub pushed-more : {ls now : List ℕ} {from to i : ℕ} (v : ℕ) → Pushed ls from to i now → from < i → v ≡ getD now (i - 1) 0
-    → Pushed ls from to (i - 1) (set now i v)
-pushed-more {ls} {now} {from} {to} {i} v x h e =
-    let o = x .order in
-    let s : suc (i - 1) ≡ i = omega arith in
-    let n : to - (i - 1) ≡ suc (to - i) = omega arith in
-    let read : v ≡ getD ls (i - 1) 0 =
-    e ∙ ap (λ (l : List ℕ). getD l (i - 1) 0) (x .moved) ∙ getD-laid (suc i) (take (to - i) (drop i ls)) ls (i - 1) (omega arith) (omega arith) in
-    let more : v ∷ take (to - i) (drop i ls) ≡ take (to - (i - 1)) (drop (i - 1) ls) =
-    rw (n, drop-cons ls (i - 1) 0 (omega arith), s, ← read) in
-    record {
-      order = omega arith;
-      moved = ap (λ (l : List ℕ). set l i v) (x .moved) ∙ set-laid ls (take (to - i) (drop i ls)) i v (omega arith)
-          ∙ ap₂ (λ (k : ℕ) (l : List ℕ). laid k l ls) (sym s) more;
-    }
-
-pub pushed-length : {ls now : List ℕ} {from to i : ℕ} → Pushed ls from to i now → length now ≡ length ls
-pushed-length {ls} {now} {from} {to} {i} x =
-    let o = x .order in
-    ap length (x .moved) ∙ length-laid (suc i) (take (to - i) (drop i ls)) ls (rw (length-take (to - i) (drop i ls), length-drop i ls) (omega arith))
-
-pub pushed-end : {ls now : List ℕ} {from to i : ℕ} (w : ℕ) → Pushed ls from to i now → i ≤ from → set now from w ≡ laid from (w ∷ take (to - from) (drop from ls)) ls
-pushed-end {ls} {now} {from} {to} {i} w x h =
-    let o = x .order in
-    let e : i ≡ from = omega arith in
-    ap (λ (l : List ℕ). set l from w) (x .moved ∙ ap (λ (k : ℕ). laid (suc k) (take (to - k) (drop k ls)) ls) e)
-    ∙ set-laid ls (take (to - from) (drop from ls)) from w (omega arith)
+pub set-moved : (ls : List ℕ) (from to w : ℕ) → from ≤ to → to < length ls → set (movedUp from to ls) from w ≡ laid from (w ∷ take (to - from) (drop from ls)) ls
+unfolding laid
+set-moved ls from to w h k =
+    let s = take (to - from) (drop from ls) in
+    let l : length s ≡ to - from = length-take-le (to - from) (drop from ls) (rw (length-drop from ls) (omega arith)) in
+    let e : from + suc (length s) ≡ to + 1 = omega arith in
+    rw (moved-up from to ls h k, e) (set-before ls s (drop (to + 1) ls) from w (omega arith))
 
 -- The empty label is written to the last of some places first.
 pub record Cleared (ls : List ℕ) (at count i : ℕ) (now : List ℕ) : Type 0 where
@@ -163,7 +132,7 @@ module _ {ls now : List ℕ} {at count i : ℕ} (x : Cleared ls at count i now) 
   pub cleared-more : 0 < i → Cleared ls at count (i - 1) (set now (at + (i - 1)) 0)
   cleared-more h =
       let o = x .order in
-      let s : at + i ≡ suc (at + (i - 1)) = omega arith in
+      let s : at + i ≡ at + (i - 1) + 1 = omega arith in
       let n : count - (i - 1) ≡ suc (count - i) = omega arith in
       record {
         order = omega arith;
