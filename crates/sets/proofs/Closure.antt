@@ -1,11 +1,11 @@
 -- The comm closure, rule by rule.
 -- Assumes nothing.
-use mathlib.Core.Path.{_≡_, refl, sym, ap, ap₂, subst, _∙_}
+use mathlib.Core.Path.{_≡_, refl, sym, ap, _∙_}
 use mathlib.Core.List.{List, [], _∷_}
 use Prim.Native.Nat.{ℕ, zero, suc, _+_, _-_, _≤_, _<_, zero-le}
 use native.Mathlib.Numerals.{add-one}
 use native.Mathlib.Omega.{arith}
-use lib.ListN.{length, getD, drop, length-drop, drop-of-length-le}
+use lib.ListN.{length, getD, drop, length-drop}
 use lib.Seq.{drop-cons}
 use Rattle.labels.specs.declared.Label.{Label}
 use Rattle.labels.specs.Packing.{code}
@@ -15,10 +15,10 @@ use Rattle.sets.specs.declared.Built.{Built}
 use Rattle.sets.specs.declared.Built.the-variants.{TooLarge, Holds}
 use Rattle.sets.specs.declared.Offer.{Offer}
 use Rattle.sets.specs.declared.Offer.the-variants.{Nothing, TooLong, Next}
-use Rattle.sets.specs.Parts.{setAt, laid, roomAt}
+use Rattle.sets.specs.Parts.{setAt, roomAt}
 use Rattle.sets.specs.Inserting.{inserted, Entered}
-use Rattle.sets.specs.Building.{Building, done, stopped, next, followed, taken, Exchange, exchangesIn, exchangeOf, eachRule, closed, Grown}
-use Rattle.sets.proofs.Steps.{Steady, steady-closed, steady-eachRule, Going, going-start, going-length, going-end, going-stop, going-as, going-holds, going-large, going-last, grown-as, followed-stops, followed-stays, followed-going, followed-ends}
+use Rattle.sets.specs.Building.{Building, done, next, followed, enter, taken, Exchange, exchangesIn, exchangeOf, eachRule, closed, Grown}
+use Rattle.sets.proofs.Steps.{steady-closed, steady-eachRule, Going, going-start, going-length, going-end, going-stop, going-as, going-holds, going-large, going-last, grown-as, followed-stops, followed-stays, followed-going, followed-ends}
 
 -- The rules from a label of the list on.
 exchanges-more : (ls : List ℕ) (i : ℕ) → i + 1 < length ls
@@ -96,6 +96,11 @@ unfolding closed more
 closed-is room rs zero w s = refl
 closed-is room rs (suc depth) w s = refl
 
+-- without applications it is the label alone
+pub closed-alone : (room : ℕ) (rs : List Exchange) (depth w : ℕ) → depth ≡ 0 → (s : List ℕ) → enter room w s ≡ closed room rs depth w s
+unfolding closed
+closed-alone room rs depth w z s = rw z
+
 module _ (at len most w : ℕ) (ls after : List ℕ) (within : len ≤ length ls - at) (rs : List Exchange) (depth : ℕ) (o : Inserted) (x : Entered at len most w ls after o) where
   pub closed-stops : o ≡ Full → Grown (closed (roomAt at most (length ls)) rs depth w) at len ls after TooLarge
   closed-stops e =
@@ -106,8 +111,7 @@ module _ (at len most w : ℕ) (ls after : List ℕ) (within : len ≤ length ls
       grown-as (closed-is (roomAt at most (length ls)) rs depth w) (followed-stays at len most w ls after within o (more (roomAt at most (length ls)) rs depth w) x e)
 
   pub closed-ends : o ≡ Added → depth ≡ 0 → Grown (closed (roomAt at most (length ls)) rs depth w) at len ls after (Holds (len + 1))
-  unfolding closed
-  closed-ends e z = rw z (followed-ends at len most w ls after within o x e)
+  closed-ends e z = grown-as (closed-alone (roomAt at most (length ls)) rs depth w z) (followed-ends at len most w ls after within o x e)
 
   -- the room and the length that the rules are followed with
   pub closed-within : o ≡ Added → len + 1 ≤ length after - at

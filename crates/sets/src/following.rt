@@ -12,11 +12,24 @@ ghost use Prim.Native.Nat.{_-_, _≤_};
 ghost use lib.ListN.{length};
 ghost use Rattle.labels.specs.Packing.{held, code};
 ghost use Rattle.sets.specs.Parts.{roomAt};
-ghost use Rattle.sets.specs.Building.{Grown, closed, eachRule, exchangesIn};
+ghost use Rattle.sets.specs.Building.{Grown, enter, closed, eachRule, exchangesIn};
 
 // How many applications one after the other are followed. A rule leaves fewer actions than there were, so that a label of
 // 31 actions needs fewer.
 pub const MOST_APPLICATIONS: usize = 31;
+
+// A label alone.
+pub fn enter(words: &mut [u64], at: usize, len: usize, most: usize, label: Label) -> Built
+    requires { ⌜ len ≤ length (held (now words)) - at ⌝ }
+    ensures { λ r. ⌜ Grown (enter (roomAt at most (length (held (now (words .entry))))) (code label)) at len (held (now (words .entry))) (held (now (words .exit))) r ⌝ }
+{
+    let answer = insert(words, at, len, most, label);
+    match answer {
+        Inserted::Full => Built::TooLarge,
+        Inserted::Present => Built::Holds(len),
+        Inserted::Added => Built::Holds(len + 1),
+    }
+}
 
 // A label, and all that follows from it.
 pub fn close(
@@ -39,7 +52,7 @@ pub fn close(
             if depth == 0 {
                 Built::Holds(len + 1)
             } else {
-                follow(words, at, len + 1, most, rules, label, depth - 1)
+                follow(words, label, rules, depth - 1, at, len + 1, most)
             }
         }
     }
@@ -48,12 +61,12 @@ pub fn close(
 // All that follows from a label that is put in already.
 fn follow(
     words: &mut [u64],
+    label: Label,
+    rules: &[u64],
+    depth: usize,
     at: usize,
     len: usize,
     most: usize,
-    rules: &[u64],
-    label: Label,
-    depth: usize,
 ) -> Built
     requires { ⌜ len ≤ length (held (now words)) - at ⌝ }
     ensures { λ r. ⌜ Grown (eachRule (closed (roomAt at most (length (held (now (words .entry))))) (exchangesIn (held (now (rules .entry)))) depth) (exchangesIn (held (now (rules .entry)))) (code label)) at len (held (now (words .entry))) (held (now (words .exit))) r ⌝ }

@@ -4,6 +4,7 @@ use crate::Offer;
 use crate::Way;
 use crate::following::MOST_APPLICATIONS;
 use crate::following::close;
+use crate::following::enter;
 use crate::placing::end_before;
 use crate::placing::reach;
 use labels::Label;
@@ -88,7 +89,7 @@ fn depth(way: Way) -> usize
     }
 }
 
-// What is offered goes into a set, with what follows from it.
+// What is offered goes into a set, with what follows from it. Where no rules are followed the recursion is passed by.
 fn take(
     words: &mut [u64],
     at: usize,
@@ -104,7 +105,13 @@ fn take(
     match offer {
         Offer::Nothing => Built::Holds(len),
         Offer::TooLong => Built::TooLarge,
-        Offer::Next(label) => close(words, at, len, most, rules, label, depth),
+        Offer::Next(label) => {
+            if depth == 0 {
+                enter(words, at, len, most, label)
+            } else {
+                close(words, at, len, most, rules, label, depth)
+            }
+        }
     }
 }
 

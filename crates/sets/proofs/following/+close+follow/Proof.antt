@@ -2,8 +2,8 @@
 -- left, so the measure is twice the applications that are left, and one more in `follow`. The invariant of the loop over the
 -- rules is `Following`, its measure how much of the list is left.
 -- Assumes nothing.
-use mathlib.Core.Path.{_≡_, sym, ap, _∙_}
-use Prim.Native.Nat.{ℕ, _+_, _*_, _-_, _<_, _≤_}
+use mathlib.Core.Path.{_∙_}
+use Prim.Native.Nat.{ℕ, _+_, _*_, _-_, _<_}
 use native.Mathlib.Omega.{arith}
 use borrow.Author.Needs.{needs}
 use lib.ListN.{length}
@@ -28,7 +28,7 @@ abbrev μ-close : Measures 2 close-kinds.ps ℕ
 μ-close κs a = 2 * a .1 .1 .1 .1 .1 .1 .0
 
 abbrev μ-follow : Measures 2 follow-kinds.ps ℕ
-μ-follow κs a = 2 * a .1 .1 .1 .1 .1 .1 .0 + 1
+μ-follow κs a = 2 * a .1 .1 .1 .0 + 1
 
 abbrev close-at : ℕ → In 2 close-kinds.ps
 close-at t = and 2 close-kinds.ps (is 2 close-kinds.ps μ-close t) close′.Pre
@@ -65,11 +65,11 @@ module _ (t : ℕ) where
   close-add-t14 : close-lts.Need-add-t14 (close-calls t) (close-at t) close′.Post
   close-add-t14 c = omega (arith, c .before .before .before .before .before .before .before .before .before .pre .1)
 
-  close-add-follow : close-lts.Need-add-follow (close-calls t) (close-at t) close′.Post
-  close-add-follow c = omega (arith, c .before .before .before .before .before .before .before .before .before .before .pre .1)
-
   close-sub-follow : close-lts.Need-sub-follow (close-calls t) (close-at t) close′.Post
   close-sub-follow c = omega arith
+
+  close-add-follow : close-lts.Need-add-follow (close-calls t) (close-at t) close′.Post
+  close-add-follow c = omega (arith, c .before .before .before .before .before .before .before .before .before .before .pre .1)
 
   close-follow-requires : close-lts.Need-follow-requires (close-calls t) (close-at t) close′.Post
   close-follow-requires c κs =
@@ -124,8 +124,8 @@ module _ (t : ℕ) where
       close-enum-told-2
       close-enum-told-3
       close-add-t14
-      close-add-follow
       close-sub-follow
+      close-add-follow
       close-follow-requires
       close-same-length
       close-returns
@@ -137,10 +137,10 @@ module _ (t : ℕ) where
       close-returns-4
 
 abbrev follow-Inv-loop : follow-lts.InvT-loop
-follow-Inv-loop words₀ at len most rules label depth count₀ i₀ words count i = Following at len most depth (label .word) rules words₀ words count i
+follow-Inv-loop words₀ label rules depth at len most count₀ i₀ words count i = Following at len most depth (label .word) rules words₀ words count i
 
 abbrev follow-μ-loop : follow-lts.MeasureT-loop
-follow-μ-loop words₀ at len most rules label depth count₀ i₀ words count i = length rules - i
+follow-μ-loop words₀ label rules depth at len most count₀ i₀ words count i = length rules - i
 
 module _ (t : ℕ) where
   follow-loop-holds : follow-lts.Need-loop-holds (follow-calls t) (follow-at t) follow.Post follow-Inv-loop follow-μ-loop

@@ -1,9 +1,11 @@
 -- `sets::imaging::take` meets its contract. Assumes nothing.
-use mathlib.Core.Path.{_≡_, refl, sym, ap, _∙_}
-use Prim.Native.Nat.{ℕ}
+use mathlib.Core.Path.{refl}
 use borrow.Author.Needs.{needs}
-use Rattle.sets.specs.Building.{done, stopped}
+use lib.ListN.{length}
+use Rattle.sets.specs.Parts.{roomAt}
+use Rattle.sets.specs.Building.{done, stopped, exchangesIn}
 use Rattle.sets.proofs.Steps.{going-start, going-end, going-stop, grown-as}
+use Rattle.sets.proofs.Closure.{closed-alone}
 use Rattle.sets.proofs.imaging.take.Statement.{statement}
 use Rattle.sets.proofs.imaging.take.Tie as tie
 
@@ -15,6 +17,9 @@ enum-told-2 c = search needs
 
 enum-known-offer : tie.Need-enum-known-offer
 enum-known-offer c = search needs
+
+enter-requires : tie.Need-enter-requires
+enter-requires c κs = search needs
 
 close-requires : tie.Need-close-requires
 close-requires c κs = search needs
@@ -33,7 +38,16 @@ same-length : tie.Need-same-length
 same-length c = search needs
 
 returns-3 : tie.Need-returns-3
-returns-3 c = rw (c .before .before .before .before .before .offer .given .1) (c .before .before .close .ensures)
+returns-3 c =
+    let a = c .before .before .before .before .before .before .before .before .before .before .args in
+    rw (c .before .before .before .before .before .before .offer .given .1)
+    (grown-as (closed-alone (roomAt (a .at) (a .most) (length (a .words .now))) (exchangesIn (a .rules .now)) (a .depth) (c .before .before .before .before .before .before .offer .given .0 .0 .word) (c .before .before .before .before .if1 .taken)) (c .before .before .enter .ensures))
+
+same-length-2 : tie.Need-same-length-2
+same-length-2 c = search needs
+
+returns-4 : tie.Need-returns-4
+returns-4 c = rw (c .before .before .before .before .before .before .offer .given .1) (c .before .before .close .ensures)
 
 pub take-spec : {M : Type 1} → statement M
 take-spec =
@@ -42,8 +56,11 @@ take-spec =
     enum-told
     enum-told-2
     enum-known-offer
+    enter-requires
     close-requires
     returns
     returns-2
     same-length
-    returns-3)
+    returns-3
+    same-length-2
+    returns-4)
