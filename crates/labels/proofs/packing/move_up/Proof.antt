@@ -27,7 +27,7 @@ mul-words-2 : tie.Need-mul-words-2 Inv-loop μ-loop
 mul-words-2 c = omega (arith, moving-place (c .before .before .loop .inv))
 
 slice-write-words : tie.Need-slice-write-words Inv-loop μ-loop
-slice-write-words c = moving-place (c .before .before .loop .inv)
+slice-write-words c = omega (arith, moving-place (c .before .before .loop .inv))
 
 sub-i : tie.Need-sub-i Inv-loop μ-loop
 sub-i c = omega arith
