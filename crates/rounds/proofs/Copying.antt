@@ -4,8 +4,7 @@ use mathlib.Core.Path.{_≡_, refl, sym, ap, ap₂, subst, _∙_}
 use mathlib.Core.Logic.{_⊎_, inl}
 use mathlib.Core.Bool.{_&&_}
 use mathlib.Core.List.{List, [], _∷_, _++_}
-use Prim.Native.Nat.{ℕ, zero, suc, _+_, _-_, _≤_, _<_, zero-le}
-use native.Mathlib.Nat.{le-refl}
+use Prim.Native.Nat.{ℕ, zero, suc, _+_, _-_, _≤_, _<_, zero-le, min}
 use native.Mathlib.Omega.{arith}
 use borrow.Author.Tests.{le-leb, lt-leb}
 use lib.Dec.{T, eqb→eq}
@@ -17,7 +16,6 @@ use Rattle.meaning.specs.Descriptions.{Description, all, Term, act, tau, delta,
 use Rattle.meaning.specs.Legal.{LegalTerm}
 use Rattle.meaning.specs.Rounds.{Shape, leaf, reference, one, either, both, joint, through, shape, made, next, roundSets, equationSets}
 use Rattle.meaning.proofs.Tests.{and-left, and-right}
-use Rattle.meaning.proofs.Carried.{worked-last}
 use Rattle.meaning.proofs.Growth.{round-length, at-body}
 use Rattle.meaning.proofs.Least.{term-legal}
 use Rattle.meaning.proofs.Outcomes.{Same, SameFor, made-same}
@@ -27,6 +25,7 @@ use Rattle.sets.specs.declared.Built.{Built}
 use Rattle.sets.specs.declared.Built.the-variants.{TooLarge, Holds}
 use Rattle.sets.specs.Parts.{partBefore, roomAt, laid}
 use Rattle.sets.specs.Building.{Grown}
+use Rattle.sets.proofs.Walking.{part-end}
 use Rattle.shapes.specs.Steady.{sizeAt, stays}
 use Rattle.rounds.specs.Working.{half, whole, partly, setOf, Ready, Worked}
 use Rattle.shapes.specs.Steady.{unchanged}
@@ -34,7 +33,7 @@ use Rattle.rounds.specs.Terms.{Low, partIn, placeIn, leftIn, copyBuilt}
 use Rattle.rounds.proofs.Areas.{part-taken}
 use Rattle.rounds.proofs.Turning.{same-size}
 use Rattle.rounds.proofs.Staying.{size-is, stays→}
-use Rattle.rounds.proofs.Operands.{partly-round, worked-on, before-part, before-packs}
+use Rattle.rounds.proofs.Operands.{partly-round, round-set, before-part, before-packs}
 use Rattle.rounds.proofs.Settling.{placeOf, leftOf}
 use Rattle.rounds.proofs.Dispatch.{starts-here, each-below}
 use Rattle.rounds.proofs.Arms.{copy-arm}
@@ -58,70 +57,42 @@ module _ (room place : ℕ) (s work work′ : List ℕ) where
         words = rw (lt-leb (length s) room h) (paste-zero work place []);
       }
 
-module _ (place from end : ℕ) (work : List ℕ) (low : end ≤ place) (fits : place ≤ length work) where
-  pub copied-length : length (partBefore place (0 + from) (0 + end) work) ≡ end - from
-  copied-length =
-      let e : 0 + end ≡ end = omega arith in
-      let f : 0 + from ≡ from = omega arith in
-      rw (e, f) (ap (λ (l : List ℕ). length (drop from l)) (take-take end place work low) ∙ length-slice from end work (omega arith))
-
-  pub copied-words : from ≤ end → take (end - from) (drop from work) ≡ partBefore place (0 + from) (0 + end) work
-  copied-words h =
-      let e : 0 + end ≡ from + (end - from) = omega arith in
-      let f : 0 + from ≡ from = omega arith in
-      let g : from + (end - from) ≤ place = omega arith in
-      rw (e, f) (sym (ap (drop from) (take-take (from + (end - from)) place work g) ∙ part-taken work from (end - from)))
-
-within-room : (place most end given count : ℕ) → given ≡ roomAt place most end → place ≤ end → count ≤ given → place + count ≤ end
-within-room place most end given count g h k = omega arith
-
 -- The code's steps: an empty part, one without room, one that is carried up.
-module _ (n : ℕ) (before this work : List ℕ) (pre : Low before × Low this × (whole ≤ length work)) (place most from end : ℕ)
-    (a : place ≡ placeIn this n) (b : most ≡ leftIn this n) (c : from ≡ getD before n 0) (e : end ≡ getD before (suc n) 0) where
+module _ (at most from to end given : ℕ) (work : List ℕ) (e : end ≡ min (min to at) (length work)) (g : given ≡ roomAt at most (length work)) where
   abbrev Copied : List ℕ → Built → Type 0
-  Copied work′ r =
-      Grown (copyBuilt (roomAt (placeIn this n) (leftIn this n) (length work)) (partIn (placeIn this n) 0 before n work)) (placeIn this n) 0 work work′ r
+  Copied work′ r = Grown (copyBuilt (roomAt at most (length work)) (partBefore at from to work)) at 0 work work′ r
 
-  low : getD before (suc n) 0 ≤ placeIn this n
-  low = omega (arith, pre .0 (suc n))
+  is-part : partBefore at from to work ≡ drop from (take end work)
+  is-part = part-end at from to work ∙ ap (λ (m : ℕ). drop from (take m work)) (sym e)
 
-  fits : placeIn this n ≤ length work
-  fits = omega (arith, pre .1 n, pre .2)
+  size : length (partBefore at from to work) ≡ end - from
+  size = ap length is-part ∙ length-slice from end work (omega arith)
 
-  size : length (partIn (placeIn this n) 0 before n work) ≡ getD before (suc n) 0 - getD before n 0
-  size = copied-length (placeIn this n) (getD before n 0) (getD before (suc n) 0) work low fits
+  pub large-copied : given < end - from → Copied work TooLarge
+  large-copied h = copy-large (roomAt at most (length work)) at (partBefore at from to work) work work (omega (arith, size))
 
-  pub none-copied : end ≤ from → Copied work (Holds 0)
-  none-copied h =
-      let s : length (partIn (placeIn this n) 0 before n work) ≡ 0 = omega (arith, size) in
-      copy-holds (roomAt (placeIn this n) (leftIn this n) (length work)) (placeIn this n) (partIn (placeIn this n) 0 before n work) work work 0 s zero-le
-      (paste-zero work (placeIn this n) [] ∙ ap (λ (l : List ℕ). take (placeIn this n) work ++ l ++ drop (placeIn this n + 0) work) (sym (none (partIn (placeIn this n) 0 before n work) s)))
-    where
-      none : (l : List ℕ) → length l ≡ 0 → l ≡ []
-      none [] e = refl
-      none (x ∷ l) e = absurd (omega arith)
+  pub carry-fits : from < end → end - from ≤ given → ((from + (end - from) ≤ at) ⊎ (at + (end - from) ≤ from)) × (from + (end - from) ≤ length work) × (at + (end - from) ≤ length work)
+  carry-fits l h = (inl (omega arith), omega arith, omega arith)
 
-  module _ (given : ℕ) (g : given ≡ roomAt place most (length work)) where
-    is-room : given ≡ roomAt (placeIn this n) (leftIn this n) (length work)
-    is-room = g ∙ ap₂ (λ (x y : ℕ). roomAt x y (length work)) a b
+  pub part-copied : (work′ : List ℕ) → from < end → end - from ≤ given → work′ ≡ take at work ++ take (end - from) (drop from work) ++ drop (at + (end - from)) work
+      → Copied work′ (Holds (end - from))
+  part-copied work′ l h w =
+      let k : from + (end - from) ≡ end = omega arith in
+      let words : take (end - from) (drop from work) ≡ partBefore at from to work =
+      sym (part-taken work from (end - from)) ∙ ap (λ (m : ℕ). drop from (take m work)) k ∙ sym is-part in
+      copy-holds (roomAt at most (length work)) at (partBefore at from to work) work work′ (end - from) size (omega arith)
+      (w ∙ ap (λ (x : List ℕ). take at work ++ x ++ drop (at + (end - from)) work) words)
 
-    pub large-copied : given < end - from → Copied work TooLarge
-    large-copied h =
-        copy-large (roomAt (placeIn this n) (leftIn this n) (length work)) (placeIn this n) (partIn (placeIn this n) 0 before n work) work work
-        (subst (λ (x : ℕ). x < length (partIn (placeIn this n) 0 before n work)) is-room (subst (λ (x : ℕ). given < x) (ap₂ (λ (x y : ℕ). y - x) c e ∙ sym size) h))
-
-    pub carry-fits : from < end → end - from ≤ given → ((from + (end - from) ≤ place) ⊎ (place + (end - from) ≤ from)) × (from + (end - from) ≤ length work) × (place + (end - from) ≤ length work)
-    carry-fits l h = (inl (omega (arith, low)), omega (arith, low, fits), within-room place most (length work) given (end - from) g (omega (arith, fits)) h)
-
-    pub part-copied : (work′ : List ℕ) → from < end → end - from ≤ given → work′ ≡ take place work ++ take (end - from) (drop from work) ++ drop (place + (end - from)) work
-        → Copied work′ (Holds (end - from))
-    part-copied work′ l h w =
-        let u : end - from ≡ getD before (suc n) 0 - getD before n 0 = omega arith in
-        copy-holds (roomAt (placeIn this n) (leftIn this n) (length work)) (placeIn this n) (partIn (placeIn this n) 0 before n work) work work′ (end - from)
-        (omega (arith, size)) (omega (arith, is-room))
-        (w ∙ ap (λ (x : ℕ). take x work ++ take (end - from) (drop from work) ++ drop (x + (end - from)) work) a
-        ∙ ap (λ (x : List ℕ). take (placeIn this n) work ++ x ++ drop (placeIn this n + (end - from)) work)
-        (ap₂ (λ (x y : ℕ). take (y - x) (drop x work)) c e ∙ copied-words (placeIn this n) (getD before n 0) (getD before (suc n) 0) work low fits (omega arith)))
+pub none-copied : (at most from to end : ℕ) (work : List ℕ) → end ≡ min (min to at) (length work) → end ≤ from
+    → Grown (copyBuilt (roomAt at most (length work)) (partBefore at from to work)) at 0 work work (Holds 0)
+none-copied at most from to end work e h =
+    let s : length (partBefore at from to work) ≡ 0 = size at most from to end (roomAt at most (length work)) work e refl ∙ omega arith in
+    copy-holds (roomAt at most (length work)) at (partBefore at from to work) work work 0 s zero-le
+    (paste-zero work at [] ∙ ap (λ (l : List ℕ). take at work ++ l ++ drop (at + 0) work) (sym (none (partBefore at from to work) s)))
+  where
+    none : (l : List ℕ) → length l ≡ 0 → l ≡ []
+    none [] e = refl
+    none (x ∷ l) e = absurd (omega arith)
 
 -- A shape that is built of other sets makes nothing of nothing.
 abbrev IsBuilt : Shape → Type 0
@@ -192,7 +163,7 @@ set-stays d (suc j) n older before this work r more s =
     ∙ sym (at-body d (roundSets d j) (round-length d j) e))
     (λ t h b. operand-stays d (suc j) n older before this work r more t h b ∙ sym (partly-round d j n t (omega arith) h)) (termAt d n) (term-legal d all (r .legal) n) s in
     ap ascending (made-same (equationSets d (suc j)) (equationSets d j) (partly d (suc j) n) (partly d j n) (shape d (termAt d n)) (x .1))
-    ∙ sym (worked-on d (equationSets d j) (suc n) (termCount d) n more (le-refl (suc n)) ∙ worked-last d (equationSets d j) n)
+    ∙ sym (round-set d j n more)
 
 pub copy-worked : (d : Description) (k n : ℕ) (older before this work work′ : List ℕ) (r : Built) → Ready d k n older before this work → n < termCount d → stayed d n older before this
     → Grown (copyBuilt (roomAt (placeIn this n) (leftIn this n) (length work)) (partIn (placeIn this n) 0 before n work)) (placeIn this n) 0 work work′ r

@@ -21,17 +21,17 @@ use Rattle.labels.proofs.Words.{number-empty}
 use Rattle.labels.proofs.Meant.{Packs, single-number}
 use Rattle.sets.specs.declared.Built.{Built}
 use Rattle.sets.specs.declared.Way.{Way}
-use Rattle.sets.specs.declared.Way.the-variants.{Copy}
 use Rattle.sets.specs.Parts.{roomAt}
-use Rattle.sets.specs.Building.{Grown}
+use Rattle.sets.specs.Building.{next, Grown}
 use Rattle.shapes.specs.Making.{leafBuilt, throughBuilt}
 use Rattle.rounds.specs.Working.{half, partly, Ready, Worked}
 use Rattle.shapes.specs.Ways.{wayFor}
-use Rattle.rounds.specs.Terms.{partIn, placeIn, leftIn, built}
+use Rattle.rounds.specs.Terms.{partIn, placeIn, leftIn, copyBuilt, newOf, built}
 use Rattle.rounds.proofs.Settling.{placeOf, leftOf}
 use Rattle.rounds.proofs.Shaped.{wayWords}
 use Rattle.rounds.proofs.Stores.{way-same, words-same}
-use Rattle.rounds.proofs.Arms.{none-arm, leaf-arm, reference-arm, one-arm, through-arm, either-arm, joint-arm, both-arm}
+use Rattle.rounds.proofs.Arms.{none-arm, leaf-arm, joint-arm}
+use Rattle.rounds.proofs.Growing.{through-grown-arm, either-grown-arm, both-grown-arm, one-copy-arm, reference-copy-arm}
 
 -- The place after the sets of this round so far.
 pub starts-here : (d : Description) (k n : ℕ) (older before this work : List ℕ) → Ready d k n older before this work → getD this n 0 ≡ total (partly d k n)
@@ -53,8 +53,12 @@ module _ (d : Description) (o : Order) (k n : ℕ) (older before this work work�
   abbrev room : ℕ
   room = roomAt (placeOf d k n) (leftOf d k n) (length work)
 
+  -- the set in the round before
+  abbrev old : List ℕ
+  old = partIn (placeOf d k n) 0 before n work
+
   abbrev Made : Term → Type 0
-  Made t = Grown (built room (placeOf d k n) (storeOf d o) (tableOf d .bodies) before this work (termFor n t)) (placeOf d k n) 0 work work′ r
+  Made t = Grown (built room (placeOf d k n) (storeOf d o) (tableOf d .bodies) before this work old (termFor n t)) (placeOf d k n) 0 work work′ r
 
   narrow : names d ≤ 12
   narrow = ready .legal .nameCount .1
@@ -68,27 +72,27 @@ module _ (d : Description) (o : Order) (k n : ℕ) (older before this work work�
       (subst (λ (w : ℕ). Grown (leafBuilt room w) (placeOf d k n) 0 work work′ r) (sym (number-empty (names d))) g)
   kind delta e l g = none-arm d k n older before this work work′ r ready more (ap (shape d) e) g
   kind (ref x) e l g =
-      reference-arm d k n older before this work work′ r ready more x [] (each-below (termCount d) (d .bodies) (ready .legal .bodies) x (termCount d) l) (ap (shape d) e)
-      (subst (λ (b : ℕ). Grown (throughBuilt room Copy [] (partIn (placeOf d k n) 0 before b work)) (placeOf d k n) 0 work work′ r)
+      reference-copy-arm d k n older before this work work′ r ready more x (each-below (termCount d) (d .bodies) (ready .legal .bodies) x (termCount d) l) (ap (shape d) e)
+      (subst (λ (b : ℕ). Grown (copyBuilt room (partIn (placeOf d k n) 0 before b work)) (placeOf d k n) 0 work work′ r)
       (body-of d x l (ready .legal .equationCount)) g)
-  kind (sum t) e l g = one-arm d k n older before this work work′ r ready more t [] l (ap (shape d) e) g
-  kind (cond t) e l g = one-arm d k n older before this work work′ r ready more t [] l (ap (shape d) e) g
-  kind (choice t u) e l g = either-arm d k n older before this work work′ r ready more t u (l .0) (l .1) (ap (shape d) e) g
-  kind (ifelse t u) e l g = either-arm d k n older before this work work′ r ready more t u (l .0) (l .1) (ap (shape d) e) g
-  kind (seq t u) e l g = either-arm d k n older before this work work′ r ready more t u (l .0) (l .1) (ap (shape d) e) g
-  kind (merge t u) e l g = both-arm d k n older before this work work′ r ready more t u (l .0) (l .1) (ap (shape d) e) g
-  kind (lmerge t u) e l g = both-arm d k n older before this work work′ r ready more t u (l .0) (l .1) (ap (shape d) e) g
+  kind (sum t) e l g = one-copy-arm d k n older before this work work′ r ready more t l (ap (shape d) e) g
+  kind (cond t) e l g = one-copy-arm d k n older before this work work′ r ready more t l (ap (shape d) e) g
+  kind (choice t u) e l g = either-grown-arm d k n older before this work work′ r ready more t u (l .0) (l .1) (ap (shape d) e) g
+  kind (ifelse t u) e l g = either-grown-arm d k n older before this work work′ r ready more t u (l .0) (l .1) (ap (shape d) e) g
+  kind (seq t u) e l g = either-grown-arm d k n older before this work work′ r ready more t u (l .0) (l .1) (ap (shape d) e) g
+  kind (merge t u) e l g = both-grown-arm d k n older before this work work′ r ready more t u (l .0) (l .1) (ap (shape d) e) g
+  kind (lmerge t u) e l g = both-grown-arm d k n older before this work work′ r ready more t u (l .0) (l .1) (ap (shape d) e) g
   kind (sync t u) e l g = joint-arm d k n older before this work work′ r ready more t u (l .0 .0) (l .0 .1) (ap (shape d) e) g
   kind (wrap op t) e l g =
-      through-arm d k n older before this work work′ r ready more op t (l .0) (l .1) (ap (shape d) e)
-      (subst (λ (way : Way). Grown (throughBuilt room way (wayWords (names d) op) (partIn (placeOf d k n) half this t work)) (placeOf d k n) 0 work work′ r)
-      (way-same d o n t more (ready .legal .termsCount .1) narrow op)
-      (subst (λ (ws : List ℕ). Grown (throughBuilt room (wayFor (operatorFor n op)) ws (partIn (placeOf d k n) half this t work)) (placeOf d k n) 0 work work′ r)
-      (words-same d o n t more (ready .legal .termsCount .1) narrow op e (l .1)) g))
+      let Wrapped : Way → List ℕ → Type 0 =
+      λ way ws. Grown (λ s. next (copyBuilt room old s) (throughBuilt room way ws (newOf (placeOf d k n) before this work t))) (placeOf d k n) 0 work work′ r in
+      through-grown-arm d k n older before this work work′ r ready more op t (l .0) (l .1) (ap (shape d) e)
+      (subst (λ (way : Way). Wrapped way (wayWords (names d) op)) (way-same d o n t more (ready .legal .termsCount .1) narrow op)
+      (subst (Wrapped (wayFor (operatorFor n op))) (words-same d o n t more (ready .legal .termsCount .1) narrow op e (l .1)) g))
 
-  pub kind-worked : Grown (built (roomAt (placeIn this n) (leftIn this n) (length work)) (placeIn this n) (storeOf d o) (tableOf d .bodies) before this work (termFor n (termAt d n))) (placeIn this n) 0 work work′ r
+  pub kind-worked : Grown (built (roomAt (placeIn this n) (leftIn this n) (length work)) (placeIn this n) (storeOf d o) (tableOf d .bodies) before this work (partIn (placeIn this n) 0 before n work) (termFor n (termAt d n))) (placeIn this n) 0 work work′ r
       → Worked d k n work work′ r
   kind-worked g =
       kind (termAt d n) refl (term-legal d all (ready .legal) n)
-      (subst (λ (x : ℕ). Grown (built (roomAt (half + x) (half - x) (length work)) (half + x) (storeOf d o) (tableOf d .bodies) before this work (termFor n (termAt d n))) (half + x) 0 work work′ r)
+      (subst (λ (x : ℕ). Grown (built (roomAt (half + x) (half - x) (length work)) (half + x) (storeOf d o) (tableOf d .bodies) before this work (partIn (half + x) 0 before n work) (termFor n (termAt d n))) (half + x) 0 work work′ r)
       (starts-here d k n older before this work ready) g)

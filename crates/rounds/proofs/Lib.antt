@@ -10,6 +10,8 @@ pub mod Fitting
 pub mod Settling
 pub mod Operands
 pub mod Arms
+pub mod Growing
+pub mod Sequence
 pub mod Carrying
 pub mod Stores
 pub mod Dispatch

@@ -4,6 +4,7 @@ use mathlib.Core.Path.{_≡_, refl, sym, ap, ap₂, subst, _∙_}
 use mathlib.Core.Logic.{inl, inr}
 use mathlib.Core.List.{List, [], _∷_, map}
 use Prim.Native.Nat.{ℕ, zero, suc, _+_, _≤_, _<_}
+use native.Mathlib.Nat.{le-refl}
 use native.Mathlib.Omega.{arith}
 use native.Mathlib.Decide.{decLt}
 use lib.Dec.{T}
@@ -11,18 +12,17 @@ use lib.ListN.{getD, drop}
 use lib.Seq.{take-take}
 use Rattle.meaning.specs.Labels.{Label, size, number}
 use Rattle.meaning.specs.Sets.{at, ascending}
-use Rattle.meaning.specs.Descriptions.{Description, names, termCount, termAt, bodyAt}
+use Rattle.meaning.specs.Descriptions.{Description, names, termCount, termAt}
 use Rattle.meaning.specs.Rounds.{shape, made, worked, next, roundSets, equationSets}
 use Rattle.meaning.specs.Limits.{total, someLong, someOver, over}
 use Rattle.meaning.proofs.Members.{in-ascending}
-use Rattle.meaning.proofs.Carried.{worked-earlier, carried}
-use Rattle.meaning.proofs.Growth.{round-length, at-body}
+use Rattle.meaning.proofs.Carried.{worked-earlier, worked-last, carried}
 use Rattle.meaning.proofs.Lengths.{Full, round-full}
 use Rattle.meaning.proofs.Limits.{long, over-one, over-some}
 use Rattle.sets.specs.Parts.{part, partBefore}
 use Rattle.sets.proofs.Meant.{AllPack, ascending-same}
 use Rattle.rounds.specs.Laid.{Laid}
-use Rattle.rounds.specs.Working.{half, partly, Ready}
+use Rattle.rounds.specs.Working.{half, partly, setOf, Ready}
 use Rattle.rounds.proofs.Areas.{laid-part, total-part}
 use Rattle.rounds.proofs.Passing.{at-most}
 
@@ -47,7 +47,7 @@ packed-sets n sets i few full a m = record {
 }
 
 -- What is worked out stays while more terms are.
-pub worked-on : (d : Description) (eqs : List (List Label)) (n t i : ℕ) → n ≤ t → i < n → at (worked d eqs t) i ≡ at (worked d eqs n) i
+worked-on : (d : Description) (eqs : List (List Label)) (n t i : ℕ) → n ≤ t → i < n → at (worked d eqs t) i ≡ at (worked d eqs n) i
 worked-on d eqs n zero i h less = absurd (omega arith)
 worked-on d eqs n (suc t) i h less = elim (decLt t n) [
   | yes l ↦ (let e : suc t ≡ n = omega arith in ap (λ (m : ℕ). at (worked d eqs m) i) e)
@@ -58,6 +58,11 @@ pub partly-round : (d : Description) (k n i : ℕ) → n ≤ termCount d → i <
 unfolding roundSets next
 partly-round d k n i h less = sym (worked-on d (equationSets d k) n (termCount d) i h less)
 
+-- The last of them is what the term makes.
+pub round-set : (d : Description) (k n : ℕ) → n < termCount d → at (roundSets d (suc k)) n ≡ setOf d k n
+unfolding roundSets next
+round-set d k n more = worked-on d (equationSets d k) (suc n) (termCount d) n more (le-refl (suc n)) ∙ worked-last d (equationSets d k) n
+
 ascending-again : (M : List Label) → ascending (ascending M) ≡ ascending M
 ascending-again M = ascending-same (ascending M) M (λ a m. in-ascending M a .0 m) (λ a m. in-ascending M a .1 m)
 
@@ -65,6 +70,11 @@ worked-ascends : (d : Description) (eqs : List (List Label)) (n i : ℕ) → asc
 unfolding ascending
 worked-ascends d eqs n i =
     carried (λ s s′. ascending s ≡ s) refl d d eqs eqs (λ m sets sets′ h. ascending-again (made eqs sets (shape d (termAt d m)))) n i
+
+pub round-ascending : (d : Description) (k i : ℕ) → ascending (at (roundSets d k) i) ≡ at (roundSets d k) i
+unfolding ascending roundSets next
+round-ascending d zero i = refl
+round-ascending d (suc k) i = worked-ascends d (equationSets d k) (termCount d) i
 
 module _ (d : Description) (k n : ℕ) (older before this work : List ℕ) (r : Ready d k n older before this work) where
   -- An earlier term of this round.
@@ -88,11 +98,3 @@ module _ (d : Description) (k n : ℕ) (older before this work : List ℕ) (r : 
 
   pub before-packs : (i : ℕ) → AllPack (names d) (at (roundSets d k) i)
   before-packs i = packed-sets (names d) (roundSets d k) i (r .few) (round-full d k i)
-
-  -- An equation's body there.
-  pub body-part : (e : ℕ) → bodyAt d e < termCount d
-      → partBefore (half + total (partly d k n)) (0 + getD before (bodyAt d e) 0) (0 + getD before (suc (bodyAt d e)) 0) work ≡ map number (at (equationSets d k) e)
-  body-part e h = before-part (bodyAt d e) h ∙ ap (map number) (sym (at-body d (roundSets d k) (round-length d k) e))
-
-  pub body-packs : (e : ℕ) → AllPack (names d) (at (equationSets d k) e)
-  body-packs e = subst (AllPack (names d)) (sym (at-body d (roundSets d k) (round-length d k) e)) (before-packs (bodyAt d e))

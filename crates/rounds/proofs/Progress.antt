@@ -40,13 +40,17 @@ module _ (term : Term) (store bodies : List ℕ) (n : ℕ) (older before this wo
       copy-worked d k n older before this work work′ r ready more
       (subst (λ (t : Bool). T t) (sym (ap₂ (λ (bs : List ℕ) (t : Term). unchanged bs older before this t) (sym b) (sym e) ∙ u)) tt) g
 
-  pub turn-worked : Grown (built (roomAt (placeIn this n) (leftIn this n) (length work)) (placeIn this n) store bodies before this work term) (placeIn this n) 0 work work′ r
-      → TermWorked term store bodies n older before this work work′ r
+  -- what is built, of whichever store and bodies
+  abbrev Turn : (store bodies : List ℕ) → Term → Type 0
+  Turn store bodies t =
+      Grown (built (roomAt (placeIn this n) (leftIn this n) (length work)) (placeIn this n) store bodies before this work (partIn (placeIn this n) 0 before n work) t) (placeIn this n) 0 work work′ r
+
+  pub turn-worked : Turn store bodies term → TermWorked term store bodies n older before this work work′ r
   turn-worked g d o k e f b more ready =
       kind-worked d o k n older before this work work′ r ready more
-      (subst (λ (t : Term). Grown (built (roomAt (placeIn this n) (leftIn this n) (length work)) (placeIn this n) (storeOf d o) (tableOf d .bodies) before this work t) (placeIn this n) 0 work work′ r) e
-      (subst (λ (bs : List ℕ). Grown (built (roomAt (placeIn this n) (leftIn this n) (length work)) (placeIn this n) (storeOf d o) bs before this work term) (placeIn this n) 0 work work′ r) b
-      (subst (λ (s : List ℕ). Grown (built (roomAt (placeIn this n) (leftIn this n) (length work)) (placeIn this n) s bodies before this work term) (placeIn this n) 0 work work′ r) f g)))
+      (subst (Turn (storeOf d o) (tableOf d .bodies)) e
+      (subst (λ (bs : List ℕ). Turn (storeOf d o) bs term) b
+      (subst (λ (s : List ℕ). Turn s bodies term) f g)))
 
 pub low-zeros : (n : ℕ) → Low (replicate n 0)
 low-zeros n i = elim (decLt i n) [

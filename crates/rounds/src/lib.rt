@@ -1,5 +1,7 @@
 // The sets of all terms, worked out round by round in a lent work area, and the root's set cut to the order.
+mod adding;
 mod cutting;
+mod laying;
 mod moving;
 mod passes;
 mod starts;

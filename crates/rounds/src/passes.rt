@@ -1,13 +1,11 @@
 // One round: the terms' sets, one after the other.
-use crate::moving::carry;
+use crate::laying::lay;
 use crate::starts::left_of;
+use crate::starts::part_at;
 use crate::starts::place_of;
 use crate::terms::work_out;
 use sets::Built;
-use sets::placing::room;
 use shapes::sameness::unchanged;
-use shapes::starts::end_of;
-use shapes::starts::start_of;
 use table::Slot;
 use table::Table;
 use table::Term;
@@ -27,22 +25,15 @@ pub struct Round {
 
 // The set of a term as it was in the round before.
 fn copied(n: usize, before: &[usize], this: &[usize], work: &mut [u64]) -> Built
-    requires { ⌜ Low (now before) × Low (now this) × (4096 ≤ length (now work)) ⌝ }
+    requires { ⌜ Low (now before) × Low (now this) ⌝ }
     ensures { λ r. ⌜ Grown (copyBuilt (roomAt (placeIn (now (this .entry)) n) (leftIn (now (this .entry)) n) (length (now (work .entry)))) (partIn (placeIn (now (this .entry)) n) 0 (now (before .entry)) n (now (work .entry)))) (placeIn (now (this .entry)) n) 0 (now (work .entry)) (now (work .exit)) r ⌝ }
 {
-    let at = place_of(this, n);
-    let most = left_of(this, n);
-    let from = start_of(before, n);
-    let end = end_of(before, n);
-    if end <= from {
-        return Built::Holds(0);
-    }
-    let count = end - from;
-    if room(work, at, most) < count {
-        return Built::TooLarge;
-    }
-    carry(work, from, at, count);
-    Built::Holds(count)
+    lay(
+        work,
+        part_at(before, n, 0),
+        place_of(this, n),
+        left_of(this, n),
+    )
 }
 
 // A term's set, copied where what it is built of stayed.

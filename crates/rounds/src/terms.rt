@@ -1,5 +1,9 @@
 // The set of a term, worked out from the sets of its operands, which stand before it in this round's half, or from that of an
 // equation's body in the round before.
+use crate::adding::add_both;
+use crate::adding::add_either;
+use crate::adding::growth_of;
+use crate::laying::lay;
 use crate::starts::HALF;
 use crate::starts::left_of;
 use crate::starts::part_at;
@@ -7,26 +11,21 @@ use crate::starts::place_of;
 use labels::bags::single;
 use labels::packing::tau;
 use sets::Built;
-use sets::Way;
 use sets::joining::union;
 use sets::multiplying::add_product;
 use shapes::making::both;
 use shapes::making::leaf;
-use shapes::operators::through;
 use shapes::operators::wrapped;
 use shapes::starts::start_of;
 use table::Operator;
 use table::Term;
-ghost use mathlib.Core.List.{[]};
 ghost use Prim.Native.Nat.{_≤_};
 ghost use lib.ListN.{length, getD};
 ghost use Rattle.meaning.specs.Labels.{number, single};
-ghost use Rattle.sets.specs.declared.Way.the-variants.{Copy};
 ghost use Rattle.sets.specs.Parts.{roomAt};
 ghost use Rattle.sets.specs.Building.{Grown};
-ghost use Rattle.shapes.specs.Making.{leafBuilt, throughBuilt, eitherBuilt, jointBuilt, bothBuilt};
-ghost use Rattle.shapes.specs.Ways.{wayFor, wordsFor};
-ghost use Rattle.rounds.specs.Terms.{Low, partIn, placeIn, leftIn, built};
+ghost use Rattle.shapes.specs.Making.{leafBuilt, jointBuilt};
+ghost use Rattle.rounds.specs.Terms.{Low, partIn, placeIn, leftIn, copyBuilt, eitherGrown, bothGrown, throughGrown, built};
 
 fn of_tau(work: &mut [u64], at: usize, most: usize) -> Built
     ensures { λ r. ⌜ Grown (leafBuilt (roomAt at most (length (now (work .entry)))) 0) at 0 (now (work .entry)) (now (work .exit)) r ⌝ }
@@ -50,11 +49,9 @@ fn of_one(
     most: usize,
 ) -> Built
     requires { ⌜ Low (now starts) × (base ≤ 2048) ⌝ }
-    ensures { λ r. ⌜ Grown (throughBuilt (roomAt at most (length (now (work .entry)))) Copy [] (partIn at base (now (starts .entry)) t (now (work .entry)))) at 0 (now (work .entry)) (now (work .exit)) r ⌝ }
+    ensures { λ r. ⌜ Grown (copyBuilt (roomAt at most (length (now (work .entry)))) (partIn at base (now (starts .entry)) t (now (work .entry)))) at 0 (now (work .entry)) (now (work .exit)) r ⌝ }
 {
-    let part = part_at(starts, t, base);
-    let none = [0u64];
-    through(work, part, Way::Copy, &none[..0], at, most)
+    lay(work, part_at(starts, t, base), at, most)
 }
 
 fn of_body(
@@ -66,27 +63,60 @@ fn of_body(
     most: usize,
 ) -> Built
     requires { ⌜ Low (now before) ⌝ }
-    ensures { λ r. ⌜ Grown (throughBuilt (roomAt at most (length (now (work .entry)))) Copy [] (partIn at 0 (now (before .entry)) (getD (now (bodies .entry)) e 0) (now (work .entry)))) at 0 (now (work .entry)) (now (work .exit)) r ⌝ }
+    ensures { λ r. ⌜ Grown (copyBuilt (roomAt at most (length (now (work .entry)))) (partIn at 0 (now (before .entry)) (getD (now (bodies .entry)) e 0) (now (work .entry)))) at 0 (now (work .entry)) (now (work .exit)) r ⌝ }
 {
     of_one(work, before, start_of(bodies, e), 0, at, most)
 }
 
-fn of_either(work: &mut [u64], this: &[usize], t: usize, u: usize, at: usize, most: usize) -> Built
-    requires { ⌜ Low (now this) ⌝ }
-    ensures { λ r. ⌜ Grown (eitherBuilt (roomAt at most (length (now (work .entry)))) (partIn at 2048 (now (this .entry)) t (now (work .entry))) (partIn at 2048 (now (this .entry)) u (now (work .entry)))) at 0 (now (work .entry)) (now (work .exit)) r ⌝ }
+// Two sets in one: whole where the round before had nothing of it, else what is new goes into what it had.
+fn of_either(
+    work: &mut [u64],
+    before: &[usize],
+    this: &[usize],
+    n: usize,
+    t: usize,
+    u: usize,
+    at: usize,
+    most: usize,
+) -> Built
+    requires { ⌜ Low (now before) × Low (now this) ⌝ }
+    ensures { λ r. ⌜ Grown (eitherGrown (roomAt at most (length (now (work .entry)))) at (now (before .entry)) (now (this .entry)) (now (work .entry)) (partIn at 0 (now (before .entry)) n (now (work .entry))) t u) at 0 (now (work .entry)) (now (work .exit)) r ⌝ }
 {
-    let a = part_at(this, t, HALF);
-    let b = part_at(this, u, HALF);
-    union(work, a.from, a.to, b.from, b.to, at, most)
+    let old = of_one(work, before, n, 0, at, most);
+    let Built::Holds(count) = old else {
+        return Built::TooLarge;
+    };
+    if count == 0 {
+        let a = part_at(this, t, HALF);
+        let b = part_at(this, u, HALF);
+        return union(work, a.from, a.to, b.from, b.to, at, most);
+    }
+    add_either(work, before, this, t, u, at, count, most)
 }
 
-fn of_both(work: &mut [u64], this: &[usize], t: usize, u: usize, at: usize, most: usize) -> Built
-    requires { ⌜ Low (now this) ⌝ }
-    ensures { λ r. ⌜ Grown (bothBuilt (roomAt at most (length (now (work .entry)))) (partIn at 2048 (now (this .entry)) t (now (work .entry))) (partIn at 2048 (now (this .entry)) u (now (work .entry)))) at 0 (now (work .entry)) (now (work .exit)) r ⌝ }
+fn of_both(
+    work: &mut [u64],
+    before: &[usize],
+    this: &[usize],
+    n: usize,
+    t: usize,
+    u: usize,
+    at: usize,
+    most: usize,
+) -> Built
+    requires { ⌜ Low (now before) × Low (now this) ⌝ }
+    ensures { λ r. ⌜ Grown (bothGrown (roomAt at most (length (now (work .entry)))) at (now (before .entry)) (now (this .entry)) (now (work .entry)) (partIn at 0 (now (before .entry)) n (now (work .entry))) t u) at 0 (now (work .entry)) (now (work .exit)) r ⌝ }
 {
-    let a = part_at(this, t, HALF);
-    let b = part_at(this, u, HALF);
-    both(work, a.from, a.to, b.from, b.to, at, most)
+    let old = of_one(work, before, n, 0, at, most);
+    let Built::Holds(count) = old else {
+        return Built::TooLarge;
+    };
+    if count == 0 {
+        let a = part_at(this, t, HALF);
+        let b = part_at(this, u, HALF);
+        return both(work, a.from, a.to, b.from, b.to, at, most);
+    }
+    add_both(work, before, this, t, u, at, count, most)
 }
 
 fn of_joint(work: &mut [u64], this: &[usize], t: usize, u: usize, at: usize, most: usize) -> Built
@@ -101,16 +131,23 @@ fn of_joint(work: &mut [u64], this: &[usize], t: usize, u: usize, at: usize, mos
 fn of_wrap(
     work: &mut [u64],
     store: &[u64],
+    before: &[usize],
     this: &[usize],
+    n: usize,
     operator: Operator,
     t: usize,
     at: usize,
     most: usize,
 ) -> Built
-    requires { ⌜ Low (now this) ⌝ }
-    ensures { λ r. ⌜ Grown (throughBuilt (roomAt at most (length (now (work .entry)))) (wayFor operator) (wordsFor (now (store .entry)) operator) (partIn at 2048 (now (this .entry)) t (now (work .entry)))) at 0 (now (work .entry)) (now (work .exit)) r ⌝ }
+    requires { ⌜ Low (now before) × Low (now this) ⌝ }
+    ensures { λ r. ⌜ Grown (throughGrown (roomAt at most (length (now (work .entry)))) at (now (store .entry)) (now (before .entry)) (now (this .entry)) (now (work .entry)) (partIn at 0 (now (before .entry)) n (now (work .entry))) operator t) at 0 (now (work .entry)) (now (work .exit)) r ⌝ }
 {
-    wrapped(work, store, part_at(this, t, HALF), operator, at, most)
+    let old = of_one(work, before, n, 0, at, most);
+    let Built::Holds(count) = old else {
+        return Built::TooLarge;
+    };
+    let set = growth_of(before, this, t);
+    wrapped(work, store, operator, set, at, count, most)
 }
 
 // A term's kind decides what its set is built of.
@@ -124,7 +161,7 @@ pub fn work_out(
     work: &mut [u64],
 ) -> Built
     requires { ⌜ Low (now before) × Low (now this) ⌝ }
-    ensures { λ r. ⌜ Grown (built (roomAt (placeIn (now (this .entry)) n) (leftIn (now (this .entry)) n) (length (now (work .entry)))) (placeIn (now (this .entry)) n) (now (store .entry)) (now (bodies .entry)) (now (before .entry)) (now (this .entry)) (now (work .entry)) term) (placeIn (now (this .entry)) n) 0 (now (work .entry)) (now (work .exit)) r ⌝ }
+    ensures { λ r. ⌜ Grown (built (roomAt (placeIn (now (this .entry)) n) (leftIn (now (this .entry)) n) (length (now (work .entry)))) (placeIn (now (this .entry)) n) (now (store .entry)) (now (bodies .entry)) (now (before .entry)) (now (this .entry)) (now (work .entry)) (partIn (placeIn (now (this .entry)) n) 0 (now (before .entry)) n (now (work .entry))) term) (placeIn (now (this .entry)) n) 0 (now (work .entry)) (now (work .exit)) r ⌝ }
 {
     let at = place_of(this, n);
     let most = left_of(this, n);
@@ -135,12 +172,12 @@ pub fn work_out(
         Term::Ref(e) => of_body(work, before, bodies, e, at, most),
         Term::Sum(t) => of_one(work, this, t, HALF, at, most),
         Term::Cond(t) => of_one(work, this, t, HALF, at, most),
-        Term::Choice(t, u) => of_either(work, this, t, u, at, most),
-        Term::IfElse(t, u) => of_either(work, this, t, u, at, most),
-        Term::Seq(t, u) => of_either(work, this, t, u, at, most),
-        Term::Merge(t, u) => of_both(work, this, t, u, at, most),
-        Term::LMerge(t, u) => of_both(work, this, t, u, at, most),
+        Term::Choice(t, u) => of_either(work, before, this, n, t, u, at, most),
+        Term::IfElse(t, u) => of_either(work, before, this, n, t, u, at, most),
+        Term::Seq(t, u) => of_either(work, before, this, n, t, u, at, most),
+        Term::Merge(t, u) => of_both(work, before, this, n, t, u, at, most),
+        Term::LMerge(t, u) => of_both(work, before, this, n, t, u, at, most),
         Term::Sync(t, u) => of_joint(work, this, t, u, at, most),
-        Term::Wrap(operator, t) => of_wrap(work, store, this, operator, t, at, most),
+        Term::Wrap(o, t) => of_wrap(work, store, before, this, n, o, t, at, most),
     }
 }

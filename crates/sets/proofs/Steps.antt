@@ -43,7 +43,7 @@ module _ (room : ℕ) where
   unfolding Steady
   steady-done s = omega arith
 
-  steady-next : (f g : List ℕ → Building) → Steady room f → Steady room g → Steady room (λ s. next (f s) g)
+  pub steady-next : (f g : List ℕ → Building) → Steady room f → Steady room g → Steady room (λ s. next (f s) g)
   unfolding Steady
   steady-next f g p q s = go (f s .whole)
     where

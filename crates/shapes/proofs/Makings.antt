@@ -3,7 +3,7 @@
 use mathlib.Core.Path.{_≡_, refl, sym, ap, ap₂, _∙_}
 use mathlib.Core.Bool.{Bool, true, false, false≢true}
 use mathlib.Core.List.{List, []}
-use Prim.Native.Nat.{ℕ, _-_, _≤_}
+use Prim.Native.Nat.{ℕ, _≤_}
 use native.Mathlib.Omega.{arith}
 use borrow.Author.Tests.{leb-true}
 use lib.Dec.{leb}
@@ -20,8 +20,11 @@ use Rattle.sets.proofs.Steps.{Steady, steady-each, steady-imaged, Going, going-
 use Rattle.sets.proofs.Walking.{part-stays}
 use Rattle.shapes.specs.Making.{bothBuilt}
 
-steady-multiplied : (room : ℕ) (a b : List ℕ) → Steady room (multiplied room a b)
-steady-multiplied room a b = steady-each room (row room b) a (λ w. steady-each room (imaged room (Plus (packed w)) []) b (steady-imaged room (Plus (packed w)) []))
+pub steady-row : (room : ℕ) (b : List ℕ) (w : ℕ) → Steady room (row room b w)
+steady-row room b w = steady-each room (imaged room (Plus (packed w)) []) b (steady-imaged room (Plus (packed w)) [])
+
+pub steady-multiplied : (room : ℕ) (a b : List ℕ) → Steady room (multiplied room a b)
+steady-multiplied room a b = steady-each room (row room b) a (steady-row room b)
 
 fitting-fits : (t : Bool) (room : ℕ) (u : List ℕ) → leb (length u) room ≡ t → (fitting t room u) .whole ≡ true → length (fitting t room u .set) ≤ room
 fitting-fits true room u e w = leb-true (length u) room e

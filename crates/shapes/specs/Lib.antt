@@ -1,6 +1,7 @@
 -- What the sets of terms are built by, and what tells that they stay.
 pub mod Putting
 pub mod Exchanging
+pub mod Fresh
 pub mod Making
 pub mod Ways
 pub mod Steady

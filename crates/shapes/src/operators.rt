@@ -1,60 +1,71 @@
-// The set of an operator's term: the operand's labels through the operator with its list.
-use crate::Part;
+// The set of an operator's term: the new labels of the operand through the operator with its list.
+use crate::Giving;
+use crate::Growth;
 use crate::exchanging::exchanges;
 use crate::exchanging::first_rules;
+use crate::growing::add_new;
 use sets::Built;
 use sets::Way;
-use sets::imaging::add_image;
 use table::Operator;
 use table::lists::rule_words_of;
 use table::lists::words_of;
 ghost use lib.ListN.{length};
 ghost use Rattle.sets.specs.declared.Way.the-variants.{Comm};
-ghost use Rattle.sets.specs.Parts.{partBefore, roomAt};
+ghost use Rattle.sets.specs.Parts.{roomAt};
 ghost use Rattle.sets.specs.Building.{Grown};
+ghost use Rattle.shapes.specs.Fresh.{newIn};
 ghost use Rattle.shapes.specs.Making.{throughBuilt};
 ghost use Rattle.shapes.specs.Ways.{ruleList, wayFor, wordsFor};
 
-// The labels of a part, on a way with its list.
+// The new labels of a set, on a way with its list.
 pub fn through(
     work: &mut [u64],
-    part: Part,
+    set: Growth,
     way: Way,
     list: &[u64],
     at: usize,
+    len: usize,
     most: usize,
 ) -> Built
-    ensures { λ r. ⌜ Grown (throughBuilt (roomAt at most (length (now (work .entry)))) way (now (list .entry)) (partBefore at (part .from) (part .to) (now (work .entry)))) at 0 (now (work .entry)) (now (work .exit)) r ⌝ }
+    ensures { λ r. ⌜ Grown (throughBuilt (roomAt at most (length (now (work .entry)))) way (now (list .entry)) (newIn at set (now (work .entry)))) at len (now (work .entry)) (now (work .exit)) r ⌝ }
 {
-    add_image(work, part.from, part.to, way, list, at, 0, most)
+    add_new(work, set, Giving::Through(way), list, at, len, most)
 }
 
 // No more words of the rules are lent than they have.
-fn communicate(work: &mut [u64], part: Part, rules: &[u64], at: usize, most: usize) -> Built
-    ensures { λ r. ⌜ Grown (throughBuilt (roomAt at most (length (now (work .entry)))) Comm (ruleList (now (rules .entry))) (partBefore at (part .from) (part .to) (now (work .entry)))) at 0 (now (work .entry)) (now (work .exit)) r ⌝ }
+fn communicate(
+    work: &mut [u64],
+    rules: &[u64],
+    set: Growth,
+    at: usize,
+    len: usize,
+    most: usize,
+) -> Built
+    ensures { λ r. ⌜ Grown (throughBuilt (roomAt at most (length (now (work .entry)))) Comm (ruleList (now (rules .entry))) (newIn at set (now (work .entry)))) at len (now (work .entry)) (now (work .exit)) r ⌝ }
 {
     let first = first_rules(rules);
     let end = first.len();
     let list = exchanges(first);
-    through(work, part, Way::Comm, &list[..end], at, most)
+    through(work, set, Way::Comm, &list[..end], at, len, most)
 }
 
 // Each operator's way, with its list from the store.
 pub fn wrapped(
     work: &mut [u64],
     store: &[u64],
-    part: Part,
     operator: Operator,
+    set: Growth,
     at: usize,
+    len: usize,
     most: usize,
 ) -> Built
-    ensures { λ r. ⌜ Grown (throughBuilt (roomAt at most (length (now (work .entry)))) (wayFor operator) (wordsFor (now (store .entry)) operator) (partBefore at (part .from) (part .to) (now (work .entry)))) at 0 (now (work .entry)) (now (work .exit)) r ⌝ }
+    ensures { λ r. ⌜ Grown (throughBuilt (roomAt at most (length (now (work .entry)))) (wayFor operator) (wordsFor (now (store .entry)) operator) (newIn at set (now (work .entry)))) at len (now (work .entry)) (now (work .exit)) r ⌝ }
 {
     match operator {
-        Operator::Block(p) => through(work, part, Way::Block, words_of(store, p), at, most),
-        Operator::Hide(p) => through(work, part, Way::Hide, words_of(store, p), at, most),
-        Operator::Rename(p) => through(work, part, Way::Rename, words_of(store, p), at, most),
-        Operator::Comm(p) => communicate(work, part, rule_words_of(store, p), at, most),
-        Operator::Allow(p) => through(work, part, Way::Allow, words_of(store, p), at, most),
+        Operator::Block(p) => through(work, set, Way::Block, words_of(store, p), at, len, most),
+        Operator::Hide(p) => through(work, set, Way::Hide, words_of(store, p), at, len, most),
+        Operator::Rename(p) => through(work, set, Way::Rename, words_of(store, p), at, len, most),
+        Operator::Comm(p) => communicate(work, rule_words_of(store, p), set, at, len, most),
+        Operator::Allow(p) => through(work, set, Way::Allow, words_of(store, p), at, len, most),
     }
 }

@@ -1,4 +1,4 @@
--- `rounds::terms::of_body` meets its contract
+-- `rounds::terms::of_body` meets its contract.
 -- Assumes nothing.
 use borrow.Author.Needs.{needs}
 use Rattle.rounds.proofs.terms.of_body.Statement.{statement}

@@ -1,20 +1,61 @@
--- `rounds::terms::of_wrap` meets its contract
+-- `rounds::terms::of_wrap` meets its contract: the set of the round before, then what the new labels give.
 -- Assumes nothing.
+use Prim.Native.Nat.{ℕ}
+use mathlib.Core.List.{List}
+use lib.ListN.{length}
+use Rattle.sets.specs.Parts.{roomAt}
+use Rattle.shapes.specs.Making.{throughBuilt}
+use Rattle.shapes.specs.Ways.{wayFor, wordsFor}
+use Rattle.rounds.specs.Terms.{partIn, copyBuilt}
+use Rattle.rounds.proofs.Sequence.{first-large, copy-last, newFrom, steady-way}
 use borrow.Author.Needs.{needs}
 use Rattle.rounds.proofs.terms.of_wrap.Statement.{statement}
 use Rattle.rounds.proofs.terms.of_wrap.Tie as tie
 
-part-at-requires : tie.Need-part-at-requires
-part-at-requires c κs = search needs
+of-one-requires : tie.Need-of-one-requires
+of-one-requires c κs = search needs
 
-wrapped-requires : tie.Need-wrapped-requires
-wrapped-requires c κs = search needs
+enum-known-old : tie.Need-enum-known-old
+enum-known-old c = search needs
+
+enum-told : tie.Need-enum-told
+enum-told c = search needs
 
 same-length : tie.Need-same-length
 same-length c = search needs
 
 returns : tie.Need-returns
-returns c = rw (c .before .before .before .part-at .ensures) at (c .before .before .wrapped .ensures)
+returns c =
+    let a = c .before .before .before .before .before .before .before .before .before .before .args in
+    first-large (a .at) 0 (copyBuilt (roomAt (a .at) (a .most) (length (a .work .now))) (partIn (a .at) 0 (a .before .now) (a .n) (a .work .now))) _ (a .work .now) _ (rw (c .enum-told .given .1) at (c .before .before .before .before .of-one .ensures))
+
+growth-of-requires : tie.Need-growth-of-requires
+growth-of-requires c κs = search needs
+
+wrapped-requires : tie.Need-wrapped-requires
+wrapped-requires c κs = search needs
+
+same-length-2 : tie.Need-same-length-2
+same-length-2 c = search needs
+
+returns-2 : tie.Need-returns-2
+returns-2 c =
+    let a = c .before .before .before .before .before .before .before .before .before .before .before .before .before .before .before .before .args in
+    copy-last (a .at) (a .most) _ (partIn (a .at) 0 (a .before .now) (a .n) (a .work .now))
+    (λ (m : ℕ) (ls : List ℕ). throughBuilt m (wayFor (a .operator)) (wordsFor (a .store .now) (a .operator)) (newFrom (a .before .now) (a .this .now) ls (a .t))) (a .work .now) _ _ _
+    (rw (c .before .before .before .before .before .before .old .given .1) at (c .before .before .before .before .before .before .before .before .before .before .of-one .ensures)) (rw (c .before .before .before .before .growth-of .ensures) at (c .before .before .wrapped .ensures))
+    (steady-way (a .before .now) (a .this .now) (a .t) (wayFor (a .operator)) (wordsFor (a .store .now) (a .operator)))
 
 pub of-wrap-spec : {M : Type 1} → statement M
-of-wrap-spec = tie.close (tie.spec part-at-requires wrapped-requires same-length returns)
+of-wrap-spec =
+    tie.close
+    (tie.spec
+    of-one-requires
+    enum-known-old
+    enum-told
+    same-length
+    returns
+    growth-of-requires
+    wrapped-requires
+    same-length-2
+    returns-2)

@@ -49,31 +49,31 @@ enum-known-term-5 : tie.Need-enum-known-term-5
 enum-known-term-5 c = c .match .keys7
 
 of-either-requires : tie.Need-of-either-requires
-of-either-requires c κs = c .before .before .before .before .before .before .before .before .before .before .before .pre .1
+of-either-requires c κs = c .before .before .before .before .before .before .before .before .before .before .before .pre
 
 enum-known-term-6 : tie.Need-enum-known-term-6
 enum-known-term-6 c = c .match .keys8
 
 of-either-requires-2 : tie.Need-of-either-requires-2
-of-either-requires-2 c κs = c .before .before .before .before .before .before .before .before .before .before .before .pre .1
+of-either-requires-2 c κs = c .before .before .before .before .before .before .before .before .before .before .before .pre
 
 enum-known-term-7 : tie.Need-enum-known-term-7
 enum-known-term-7 c = c .match .keys9
 
 of-either-requires-3 : tie.Need-of-either-requires-3
-of-either-requires-3 c κs = c .before .before .before .before .before .before .before .before .before .before .before .pre .1
+of-either-requires-3 c κs = c .before .before .before .before .before .before .before .before .before .before .before .pre
 
 enum-known-term-8 : tie.Need-enum-known-term-8
 enum-known-term-8 c = c .match .keys10
 
 of-both-requires : tie.Need-of-both-requires
-of-both-requires c κs = c .before .before .before .before .before .before .before .before .before .before .before .pre .1
+of-both-requires c κs = c .before .before .before .before .before .before .before .before .before .before .before .pre
 
 enum-known-term-9 : tie.Need-enum-known-term-9
 enum-known-term-9 c = c .match .keys11
 
 of-both-requires-2 : tie.Need-of-both-requires-2
-of-both-requires-2 c κs = c .before .before .before .before .before .before .before .before .before .before .before .pre .1
+of-both-requires-2 c κs = c .before .before .before .before .before .before .before .before .before .before .before .pre
 
 enum-known-term-10 : tie.Need-enum-known-term-10
 enum-known-term-10 c = c .match .keys12
@@ -85,7 +85,7 @@ enum-known-term-11 : tie.Need-enum-known-term-11
 enum-known-term-11 c = c .match .keys13
 
 of-wrap-requires : tie.Need-of-wrap-requires
-of-wrap-requires c κs = c .before .before .before .before .before .before .before .before .before .before .before .pre .1
+of-wrap-requires c κs = c .before .before .before .before .before .before .before .before .before .before .before .pre
 
 returns : tie.Need-returns
 returns c = rw (c .enum-told .given .1) (nothing-grown _ (c .before .before .before .before .before .before .before .before .before .args .work .now))

@@ -1,0 +1,49 @@
+-- `rounds::adding::add_both` meets its contract: one addition after another.
+-- Assumes nothing.
+use lib.ListN.{length, take}
+use Rattle.sets.specs.Parts.{roomAt}
+use Rattle.rounds.proofs.Sequence.{first-large, pair-last, addEither, addJoint, steady-either, steady-joint}
+use borrow.Author.Needs.{needs}
+use Rattle.rounds.proofs.adding.add_both.Statement.{statement}
+use Rattle.rounds.proofs.adding.add_both.Tie as tie
+
+add-either-requires : tie.Need-add-either-requires
+add-either-requires c κs = search needs
+
+enum-known-first : tie.Need-enum-known-first
+enum-known-first c = search needs
+
+enum-told : tie.Need-enum-told
+enum-told c = search needs
+
+same-length : tie.Need-same-length
+same-length c = search needs
+
+returns : tie.Need-returns
+returns c =
+    let a = c .before .before .before .before .before .before .before .before .before .args in
+    first-large (a .at) (a .len) (addEither (a .before .now) (a .this .now) (a .t) (a .u) (roomAt (a .at) (a .most) (length (a .work .now))) (take (a .at) (a .work .now))) _ (a .work .now) _ (rw (c .enum-told .given .1) at (c .before .before .before .before .add-either .ensures))
+
+add-joint-requires : tie.Need-add-joint-requires
+add-joint-requires c κs = search needs
+
+same-length-2 : tie.Need-same-length-2
+same-length-2 c = search needs
+
+returns-2 : tie.Need-returns-2
+returns-2 c =
+    let a = c .before .before .before .before .before .before .before .before .before .before .before .before .before .before .args in
+    pair-last (a .at) (a .len) (a .most) (addEither (a .before .now) (a .this .now) (a .t) (a .u)) (addJoint (a .before .now) (a .this .now) (a .t) (a .u)) (a .work .now) _ (steady-either (a .before .now) (a .this .now) (a .t) (a .u)) (steady-joint (a .before .now) (a .this .now) (a .t) (a .u)) (c .before .before .before .before .before .first .given .0 .0) _ _ (rw (c .before .before .before .before .before .first .given .1) at (c .before .before .before .before .before .before .before .before .before .add-either .ensures)) (c .before .before .add-joint .ensures)
+
+pub add-both-spec : {M : Type 1} → statement M
+add-both-spec =
+    tie.close
+    (tie.spec
+    add-either-requires
+    enum-known-first
+    enum-told
+    same-length
+    returns
+    add-joint-requires
+    same-length-2
+    returns-2)
