@@ -30,7 +30,7 @@ use Rattle.sets.specs.Building.{Building, next, Grown, multiplied}
 use Rattle.sets.proofs.Meant.{AllPack}
 use Rattle.shapes.specs.Fresh.{fresh}
 use Rattle.shapes.specs.Making.{throughBuilt, eitherBuilt, bothBuilt}
-use Rattle.rounds.specs.Terms.{partIn, copyBuilt, newOf, eitherAdded, jointAdded, bothAdded, madeOr, eitherGrown, bothGrown}
+use Rattle.rounds.specs.Terms.{partIn, copyBuilt, newOf, eitherAdded, jointAdded, bothAdded, madeOr, twoGrown}
 use Rattle.rounds.specs.Working.{half, partly, Ready, Worked}
 use Rattle.rounds.proofs.Settling.{placeOf, roomOf}
 use Rattle.rounds.proofs.Operands.{partly-round, round-set, round-ascending, before-part, before-packs, term-part, term-packs, term-ascends}
@@ -356,29 +356,29 @@ module _ (d : Description) (k n : ℕ) (older before this work work′ : List �
       (old-packs s refl looks e) (old-within s refl looks e))))
 
   module _ (t u : ℕ) (left : t < n) (right : u < n) where
-    pub either-grown-arm : shape d (termAt d n) ≡ either t u → Grown (eitherGrown room (placeOf d k n) before this work old t u) (placeOf d k n) 0 work work′ answer
+    pub either-grown-arm : shape d (termAt d n) ≡ either t u → Grown (twoGrown false room (placeOf d k n) before this work old t u) (placeOf d k n) 0 work work′ answer
         → Worked d k n work work′ answer
     either-grown-arm e g =
         let s = either t u in
         let looks : Looks d k n s = λ eqs sets j. (j t left, j u right) in
-        arm d k n older before this work work′ answer r more (eitherGrown room (placeOf d k n) before this work old t u) g
+        arm d k n older before this work work′ answer r more (twoGrown false room (placeOf d k n) before this work old t u) g
         (either-grown-fits room old (newOf (placeOf d k n) before this work t) (partIn (placeOf d k n) half this t work)
         (newOf (placeOf d k n) before this work u) (partIn (placeOf d k n) half this u work))
-        (shaped d k n older before this work work′ answer r more s (eitherGrown room (placeOf d k n) before this work old t u []) e
+        (shaped d k n older before this work work′ answer r more s (twoGrown false room (placeOf d k n) before this work old t u []) e
         (rw (old-is s refl looks e, was-part t left, now-part t left, was-part u right, now-part u right)
         (either-grown (names d) room (r .legal .nameCount .1) (at (roundSets d k) t) (at (partly d k n) t) (at (roundSets d k) u) (at (partly d k n) u)
         (was-packs t) (now-packs t left) (was-packs u) (now-packs u right) (now-ascends t) (now-ascends u) (old-packs s refl looks e) (old-within s refl looks e))))
 
-    pub both-grown-arm : shape d (termAt d n) ≡ both t u → Grown (bothGrown room (placeOf d k n) before this work old t u) (placeOf d k n) 0 work work′ answer
+    pub both-grown-arm : shape d (termAt d n) ≡ both t u → Grown (twoGrown true room (placeOf d k n) before this work old t u) (placeOf d k n) 0 work work′ answer
         → Worked d k n work work′ answer
     unfolding product spread
     both-grown-arm e g =
         let s = both t u in
         let looks : Looks d k n s = λ eqs sets j. (j t left, j u right) in
-        arm d k n older before this work work′ answer r more (bothGrown room (placeOf d k n) before this work old t u) g
+        arm d k n older before this work work′ answer r more (twoGrown true room (placeOf d k n) before this work old t u) g
         (both-grown-fits room old (newOf (placeOf d k n) before this work t) (partIn (placeOf d k n) half this t work)
         (newOf (placeOf d k n) before this work u) (partIn (placeOf d k n) half this u work))
-        (shaped d k n older before this work work′ answer r more s (bothGrown room (placeOf d k n) before this work old t u []) e
+        (shaped d k n older before this work work′ answer r more s (twoGrown true room (placeOf d k n) before this work old t u []) e
         (rw (old-is s refl looks e, was-part t left, now-part t left, was-part u right, now-part u right)
         (both-grown (names d) room (r .legal .nameCount .1) (at (roundSets d k) t) (at (partly d k n) t) (at (roundSets d k) u) (at (partly d k n) u)
         (was-packs t) (now-packs t left) (was-packs u) (now-packs u right) (now-ascends t) (now-ascends u) (old-packs s refl looks e) (old-within s refl looks e))))

@@ -3,9 +3,9 @@
 use mathlib.Core.Path.{_≡_, refl, sym, ap, ap₂, subst, _∙_}
 use mathlib.Core.Bool.{Bool, true, false}
 use mathlib.Core.List.{List, [], _∷_}
-use Prim.Native.Nat.{ℕ, suc, _+_, _-_, _≤_}
+use Prim.Native.Nat.{ℕ, _-_, _≤_}
 use native.Mathlib.Omega.{arith}
-use lib.ListN.{length, getD, take}
+use lib.ListN.{length, take}
 use Rattle.sets.specs.declared.Built.{Built}
 use Rattle.sets.specs.declared.Built.the-variants.{TooLarge, Holds}
 use Rattle.sets.specs.declared.Way.{Way}
@@ -14,11 +14,12 @@ use Rattle.sets.specs.Parts.{setAt, laid, part, roomAt}
 use Rattle.sets.specs.Building.{Building, answerOf, goesOn, next, each, imaged, multiplied, Grown}
 use Rattle.sets.proofs.Laid.{length-setAt, take-laid}
 use Rattle.sets.proofs.Steps.{Steady, steady-each, steady-next, steady-imaged, Going, going-last, grown-as, next-holds, next-large, built-holds}
+use Rattle.shapes.specs.declared.Part.{Part}
+use Rattle.shapes.specs.declared.Growth.{Growth}
 use Rattle.shapes.specs.Fresh.{fresh}
 use Rattle.shapes.specs.Making.{throughBuilt}
 use Rattle.shapes.proofs.Makings.{steady-multiplied, nothing-grown}
-use Rattle.rounds.specs.Working.{half}
-use Rattle.rounds.specs.Terms.{copyBuilt, eitherAdded, jointAdded, bothAdded, madeOr}
+use Rattle.rounds.specs.Terms.{copyBuilt, eitherAdded, jointAdded, madeOr, addedOf}
 use Rattle.rounds.proofs.Fitting.{copy-fits}
 
 -- The first step is stopped.
@@ -117,42 +118,42 @@ whole-last at most n old second more before now r after none x y =
     no-words (w ∷ s) e = absurd (omega arith)
 
 -- What is added for the new labels of sets, of the words before the place.
-module _ (older newer : List ℕ) where
-  abbrev pub grownFrom : List ℕ → ℕ → List ℕ
-  grownFrom ls t = part (half + getD newer t 0) (half + getD newer (suc t) 0) ls
+abbrev pub wordsIn : Part → List ℕ → List ℕ
+wordsIn p ls = part (p .from) (p .to) ls
 
-  abbrev pub newFrom : List ℕ → ℕ → List ℕ
-  newFrom ls t = fresh (part (0 + getD older t 0) (0 + getD older (suc t) 0) ls) (grownFrom ls t)
+abbrev pub newFrom : Growth → List ℕ → List ℕ
+newFrom g ls = fresh (wordsIn (g .known) ls) (wordsIn (g .part) ls)
 
-  abbrev pub addOne : ℕ → ℕ → List ℕ → List ℕ → Building
-  addOne t m ls = throughBuilt m Copy [] (newFrom ls t)
+abbrev pub addCopies : Growth → ℕ → List ℕ → List ℕ → Building
+addCopies a m ls = throughBuilt m Copy [] (newFrom a ls)
 
-  abbrev pub addSums : ℕ → ℕ → ℕ → List ℕ → List ℕ → Building
-  addSums t u m ls = multiplied m (newFrom ls t) (grownFrom ls u)
+abbrev pub addSums : Growth → Part → ℕ → List ℕ → List ℕ → Building
+addSums a b m ls = multiplied m (newFrom a ls) (wordsIn b ls)
 
-  abbrev pub addEither : ℕ → ℕ → ℕ → List ℕ → List ℕ → Building
-  addEither t u m ls = eitherAdded m (newFrom ls t) (newFrom ls u)
+abbrev pub addEither : Growth → Growth → ℕ → List ℕ → List ℕ → Building
+addEither a b m ls = eitherAdded m (newFrom a ls) (newFrom b ls)
 
-  abbrev pub addJoint : ℕ → ℕ → ℕ → List ℕ → List ℕ → Building
-  addJoint t u m ls = jointAdded m (newFrom ls t) (grownFrom ls t) (newFrom ls u) (grownFrom ls u)
+abbrev pub addJoint : Growth → Growth → ℕ → List ℕ → List ℕ → Building
+addJoint a b m ls = jointAdded m (newFrom a ls) (wordsIn (a .part) ls) (newFrom b ls) (wordsIn (b .part) ls)
 
-  abbrev pub addBoth : ℕ → ℕ → ℕ → List ℕ → List ℕ → Building
-  addBoth t u m ls = bothAdded m (newFrom ls t) (grownFrom ls t) (newFrom ls u) (grownFrom ls u)
+abbrev pub addTwo : Bool → Growth → Growth → ℕ → List ℕ → List ℕ → Building
+addTwo sums a b m ls = addedOf sums m (newFrom a ls) (wordsIn (a .part) ls) (newFrom b ls) (wordsIn (b .part) ls)
 
-  pub steady-one : (t m : ℕ) (ls : List ℕ) → Steady m (addOne t m ls)
-  steady-one t m ls = steady-each m (imaged m Copy []) (newFrom ls t) (steady-imaged m Copy [])
+pub steady-way : (a : Growth) (way : Way) (list : List ℕ) (m : ℕ) (ls : List ℕ) → Steady m (throughBuilt m way list (newFrom a ls))
+steady-way a way list m ls = steady-each m (imaged m way list) (newFrom a ls) (steady-imaged m way list)
 
-  pub steady-sums : (t u m : ℕ) (ls : List ℕ) → Steady m (addSums t u m ls)
-  steady-sums t u m ls = steady-multiplied m (newFrom ls t) (grownFrom ls u)
+pub steady-copies : (a : Growth) (m : ℕ) (ls : List ℕ) → Steady m (addCopies a m ls)
+steady-copies a m ls = steady-way a Copy [] m ls
 
-  pub steady-either : (t u m : ℕ) (ls : List ℕ) → Steady m (addEither t u m ls)
-  steady-either t u m ls = steady-next m (addOne t m ls) (addOne u m ls) (steady-one t m ls) (steady-one u m ls)
+pub steady-sums : (a : Growth) (b : Part) (m : ℕ) (ls : List ℕ) → Steady m (addSums a b m ls)
+steady-sums a b m ls = steady-multiplied m (newFrom a ls) (wordsIn b ls)
 
-  pub steady-joint : (t u m : ℕ) (ls : List ℕ) → Steady m (addJoint t u m ls)
-  steady-joint t u m ls = steady-next m (addSums t u m ls) (addSums u t m ls) (steady-sums t u m ls) (steady-sums u t m ls)
+pub steady-either : (a b : Growth) (m : ℕ) (ls : List ℕ) → Steady m (addEither a b m ls)
+steady-either a b m ls = steady-next m (addCopies a m ls) (addCopies b m ls) (steady-copies a m ls) (steady-copies b m ls)
 
-  pub steady-both : (t u m : ℕ) (ls : List ℕ) → Steady m (addBoth t u m ls)
-  steady-both t u m ls = steady-next m (addEither t u m ls) (addJoint t u m ls) (steady-either t u m ls) (steady-joint t u m ls)
+pub steady-joint : (a b : Growth) (m : ℕ) (ls : List ℕ) → Steady m (addJoint a b m ls)
+steady-joint a b m ls = steady-next m (addSums a (b .part) m ls) (addSums b (a .part) m ls) (steady-sums a (b .part) m ls) (steady-sums b (a .part) m ls)
 
-  pub steady-way : (t : ℕ) (way : Way) (list : List ℕ) (m : ℕ) (ls : List ℕ) → Steady m (throughBuilt m way list (newFrom ls t))
-  steady-way t way list m ls = steady-each m (imaged m way list) (newFrom ls t) (steady-imaged m way list)
+pub steady-two : (sums : Bool) (a b : Growth) (m : ℕ) (ls : List ℕ) → Steady m (addTwo sums a b m ls)
+steady-two true a b m ls = steady-next m (addEither a b m ls) (addJoint a b m ls) (steady-either a b m ls) (steady-joint a b m ls)
+steady-two false a b m ls = steady-either a b m ls

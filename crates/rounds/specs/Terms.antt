@@ -58,24 +58,25 @@ jointAdded room newA a newB b s = next (multiplied room newA b s) (multiplied ro
 abbrev pub bothAdded : ℕ → (newA a newB b : List ℕ) → List ℕ → Building
 bothAdded room newA a newB b s = next (eitherAdded room newA newB s) (jointAdded room newA a newB b)
 
--- A set that was empty is made whole; one that was not is added to.
+-- A set that was empty is made whole; one that was not is added to. `sums` says whether every sum goes in as well.
 abbrev pub madeOr : (first more : List ℕ → Building) → List ℕ → Building
 madeOr first more [] = first []
 madeOr first more (w ∷ s) = more (w ∷ s)
 
--- What is built for each kind of term, of which `old` is the set in the round before.
-module _ (room at : ℕ) (before this work old : List ℕ) where
-  abbrev pub eitherGrown : ℕ → ℕ → List ℕ → Building
-  eitherGrown t u s =
-      next (copyBuilt room old s)
-      (madeOr (eitherBuilt room (partIn at half this t work) (partIn at half this u work))
-      (eitherAdded room (newOf at before this work t) (newOf at before this work u)))
+abbrev pub wholeOf : (sums : Bool) → ℕ → (a b : List ℕ) → List ℕ → Building
+wholeOf true room a b = bothBuilt room a b
+wholeOf false room a b = eitherBuilt room a b
 
-  abbrev pub bothGrown : ℕ → ℕ → List ℕ → Building
-  bothGrown t u s =
-      next (copyBuilt room old s)
-      (madeOr (bothBuilt room (partIn at half this t work) (partIn at half this u work))
-      (bothAdded room (newOf at before this work t) (partIn at half this t work) (newOf at before this work u) (partIn at half this u work)))
+abbrev pub addedOf : (sums : Bool) → ℕ → (newA a newB b : List ℕ) → List ℕ → Building
+addedOf true room newA a newB b = bothAdded room newA a newB b
+addedOf false room newA a newB b = eitherAdded room newA newB
+
+-- What is built for each kind of term, of which `old` is the set in the round before.
+abbrev pub twoGrown : (sums : Bool) (room at : ℕ) (before this work old : List ℕ) → ℕ → ℕ → List ℕ → Building
+twoGrown sums room at before this work old t u s =
+    next (copyBuilt room old s)
+    (madeOr (wholeOf sums room (partIn at half this t work) (partIn at half this u work))
+    (addedOf sums room (newOf at before this work t) (partIn at half this t work) (newOf at before this work u) (partIn at half this u work)))
 
 abbrev pub throughGrown : (room at : ℕ) (store before this work old : List ℕ) → Operator → ℕ → List ℕ → Building
 throughGrown room at store before this work old o t s =
@@ -88,10 +89,10 @@ built room at store bodies before this work old (Act a) = leafBuilt room (number
 built room at store bodies before this work old (Ref e) = copyBuilt room (partIn at 0 before (getD bodies e 0) work)
 built room at store bodies before this work old (Sum t) = copyBuilt room (partIn at half this t work)
 built room at store bodies before this work old (Cond t) = copyBuilt room (partIn at half this t work)
-built room at store bodies before this work old (Choice t u) = eitherGrown room at before this work old t u
-built room at store bodies before this work old (IfElse t u) = eitherGrown room at before this work old t u
-built room at store bodies before this work old (Seq t u) = eitherGrown room at before this work old t u
-built room at store bodies before this work old (Merge t u) = bothGrown room at before this work old t u
-built room at store bodies before this work old (LMerge t u) = bothGrown room at before this work old t u
+built room at store bodies before this work old (Choice t u) = twoGrown false room at before this work old t u
+built room at store bodies before this work old (IfElse t u) = twoGrown false room at before this work old t u
+built room at store bodies before this work old (Seq t u) = twoGrown false room at before this work old t u
+built room at store bodies before this work old (Merge t u) = twoGrown true room at before this work old t u
+built room at store bodies before this work old (LMerge t u) = twoGrown true room at before this work old t u
 built room at store bodies before this work old (Sync t u) = jointBuilt room (partIn at half this t work) (partIn at half this u work)
 built room at store bodies before this work old (Wrap o t) = throughGrown room at store before this work old o t

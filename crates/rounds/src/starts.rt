@@ -1,4 +1,5 @@
 // Where the sets of terms stand in their half of the work area.
+use shapes::Growth;
 use shapes::Part;
 use shapes::starts::end_of;
 use shapes::starts::start_of;
@@ -19,6 +20,17 @@ pub fn part_at(starts: &[usize], i: usize, base: usize) -> Part
     Part {
         from: base + start,
         to: base + end,
+    }
+}
+
+// The set of a term as it was and as it is.
+pub fn growth_of(before: &[usize], this: &[usize], t: usize) -> Growth
+    requires { ⌜ Low (now before) × Low (now this) ⌝ }
+    ensures { λ r. ⌜ r ≡ record { known = partOf 0 (now (before .entry)) t; part = partOf 2048 (now (this .entry)) t } ⌝ }
+{
+    Growth {
+        known: part_at(before, t, 0),
+        part: part_at(this, t, HALF),
     }
 }
 

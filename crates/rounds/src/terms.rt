@@ -1,10 +1,9 @@
 // The set of a term, worked out from the sets of its operands, which stand before it in this round's half, or from that of an
 // equation's body in the round before.
-use crate::adding::add_both;
-use crate::adding::add_either;
-use crate::adding::growth_of;
+use crate::adding::add_two;
 use crate::laying::lay;
 use crate::starts::HALF;
+use crate::starts::growth_of;
 use crate::starts::left_of;
 use crate::starts::part_at;
 use crate::starts::place_of;
@@ -13,6 +12,7 @@ use labels::packing::tau;
 use sets::Built;
 use sets::joining::union;
 use sets::multiplying::add_product;
+use shapes::Part;
 use shapes::making::both;
 use shapes::making::leaf;
 use shapes::operators::wrapped;
@@ -24,8 +24,9 @@ ghost use lib.ListN.{length, getD};
 ghost use Rattle.meaning.specs.Labels.{number, single};
 ghost use Rattle.sets.specs.Parts.{roomAt};
 ghost use Rattle.sets.specs.Building.{Grown};
+ghost use Rattle.shapes.specs.Fresh.{wordsOf};
 ghost use Rattle.shapes.specs.Making.{leafBuilt, jointBuilt};
-ghost use Rattle.rounds.specs.Terms.{Low, partIn, placeIn, leftIn, copyBuilt, eitherGrown, bothGrown, throughGrown, built};
+ghost use Rattle.rounds.specs.Terms.{Low, partIn, placeIn, leftIn, copyBuilt, wholeOf, twoGrown, throughGrown, built};
 
 fn of_tau(work: &mut [u64], at: usize, most: usize) -> Built
     ensures { λ r. ⌜ Grown (leafBuilt (roomAt at most (length (now (work .entry)))) 0) at 0 (now (work .entry)) (now (work .exit)) r ⌝ }
@@ -68,55 +69,42 @@ fn of_body(
     of_one(work, before, start_of(bodies, e), 0, at, most)
 }
 
-// Two sets in one: whole where the round before had nothing of it, else what is new goes into what it had.
-fn of_either(
-    work: &mut [u64],
-    before: &[usize],
-    this: &[usize],
-    n: usize,
-    t: usize,
-    u: usize,
-    at: usize,
-    most: usize,
-) -> Built
-    requires { ⌜ Low (now before) × Low (now this) ⌝ }
-    ensures { λ r. ⌜ Grown (eitherGrown (roomAt at most (length (now (work .entry)))) at (now (before .entry)) (now (this .entry)) (now (work .entry)) (partIn at 0 (now (before .entry)) n (now (work .entry))) t u) at 0 (now (work .entry)) (now (work .exit)) r ⌝ }
+// Two sets in one, with every sum of their labels if those are asked for.
+fn whole(work: &mut [u64], a: Part, b: Part, sums: bool, at: usize, most: usize) -> Built
+    ensures { λ r. ⌜ Grown (wholeOf sums (roomAt at most (length (now (work .entry)))) (wordsOf at a (now (work .entry))) (wordsOf at b (now (work .entry)))) at 0 (now (work .entry)) (now (work .exit)) r ⌝ }
 {
-    let old = of_one(work, before, n, 0, at, most);
-    let Built::Holds(count) = old else {
-        return Built::TooLarge;
-    };
-    if count == 0 {
-        let a = part_at(this, t, HALF);
-        let b = part_at(this, u, HALF);
-        return union(work, a.from, a.to, b.from, b.to, at, most);
+    if sums {
+        both(work, a.from, a.to, b.from, b.to, at, most)
+    } else {
+        union(work, a.from, a.to, b.from, b.to, at, most)
     }
-    add_either(work, before, this, t, u, at, count, most)
 }
 
-fn of_both(
+// Whole where the round before had nothing of it, else what is new goes into what it had.
+fn of_two(
     work: &mut [u64],
     before: &[usize],
     this: &[usize],
     n: usize,
     t: usize,
     u: usize,
+    sums: bool,
     at: usize,
     most: usize,
 ) -> Built
     requires { ⌜ Low (now before) × Low (now this) ⌝ }
-    ensures { λ r. ⌜ Grown (bothGrown (roomAt at most (length (now (work .entry)))) at (now (before .entry)) (now (this .entry)) (now (work .entry)) (partIn at 0 (now (before .entry)) n (now (work .entry))) t u) at 0 (now (work .entry)) (now (work .exit)) r ⌝ }
+    ensures { λ r. ⌜ Grown (twoGrown sums (roomAt at most (length (now (work .entry)))) at (now (before .entry)) (now (this .entry)) (now (work .entry)) (partIn at 0 (now (before .entry)) n (now (work .entry))) t u) at 0 (now (work .entry)) (now (work .exit)) r ⌝ }
 {
     let old = of_one(work, before, n, 0, at, most);
     let Built::Holds(count) = old else {
         return Built::TooLarge;
     };
+    let a = growth_of(before, this, t);
+    let b = growth_of(before, this, u);
     if count == 0 {
-        let a = part_at(this, t, HALF);
-        let b = part_at(this, u, HALF);
-        return both(work, a.from, a.to, b.from, b.to, at, most);
+        return whole(work, a.part, b.part, sums, at, most);
     }
-    add_both(work, before, this, t, u, at, count, most)
+    add_two(work, a, b, sums, at, count, most)
 }
 
 fn of_joint(work: &mut [u64], this: &[usize], t: usize, u: usize, at: usize, most: usize) -> Built
@@ -172,11 +160,11 @@ pub fn work_out(
         Term::Ref(e) => of_body(work, before, bodies, e, at, most),
         Term::Sum(t) => of_one(work, this, t, HALF, at, most),
         Term::Cond(t) => of_one(work, this, t, HALF, at, most),
-        Term::Choice(t, u) => of_either(work, before, this, n, t, u, at, most),
-        Term::IfElse(t, u) => of_either(work, before, this, n, t, u, at, most),
-        Term::Seq(t, u) => of_either(work, before, this, n, t, u, at, most),
-        Term::Merge(t, u) => of_both(work, before, this, n, t, u, at, most),
-        Term::LMerge(t, u) => of_both(work, before, this, n, t, u, at, most),
+        Term::Choice(t, u) => of_two(work, before, this, n, t, u, false, at, most),
+        Term::IfElse(t, u) => of_two(work, before, this, n, t, u, false, at, most),
+        Term::Seq(t, u) => of_two(work, before, this, n, t, u, false, at, most),
+        Term::Merge(t, u) => of_two(work, before, this, n, t, u, true, at, most),
+        Term::LMerge(t, u) => of_two(work, before, this, n, t, u, true, at, most),
         Term::Sync(t, u) => of_joint(work, this, t, u, at, most),
         Term::Wrap(o, t) => of_wrap(work, store, before, this, n, o, t, at, most),
     }

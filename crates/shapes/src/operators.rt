@@ -20,9 +20,9 @@ ghost use Rattle.shapes.specs.Ways.{ruleList, wayFor, wordsFor};
 // The new labels of a set, on a way with its list.
 pub fn through(
     work: &mut [u64],
-    set: Growth,
     way: Way,
     list: &[u64],
+    set: Growth,
     at: usize,
     len: usize,
     most: usize,
@@ -46,7 +46,7 @@ fn communicate(
     let first = first_rules(rules);
     let end = first.len();
     let list = exchanges(first);
-    through(work, set, Way::Comm, &list[..end], at, len, most)
+    through(work, Way::Comm, &list[..end], set, at, len, most)
 }
 
 // Each operator's way, with its list from the store.
@@ -62,10 +62,10 @@ pub fn wrapped(
     ensures { λ r. ⌜ Grown (throughBuilt (roomAt at most (length (now (work .entry)))) (wayFor operator) (wordsFor (now (store .entry)) operator) (newIn at set (now (work .entry)))) at len (now (work .entry)) (now (work .exit)) r ⌝ }
 {
     match operator {
-        Operator::Block(p) => through(work, set, Way::Block, words_of(store, p), at, len, most),
-        Operator::Hide(p) => through(work, set, Way::Hide, words_of(store, p), at, len, most),
-        Operator::Rename(p) => through(work, set, Way::Rename, words_of(store, p), at, len, most),
+        Operator::Block(p) => through(work, Way::Block, words_of(store, p), set, at, len, most),
+        Operator::Hide(p) => through(work, Way::Hide, words_of(store, p), set, at, len, most),
+        Operator::Rename(p) => through(work, Way::Rename, words_of(store, p), set, at, len, most),
         Operator::Comm(p) => communicate(work, rule_words_of(store, p), set, at, len, most),
-        Operator::Allow(p) => through(work, set, Way::Allow, words_of(store, p), at, len, most),
+        Operator::Allow(p) => through(work, Way::Allow, words_of(store, p), set, at, len, most),
     }
 }

@@ -6,7 +6,9 @@ use lib.ListN.{length}
 use Rattle.sets.specs.Parts.{roomAt}
 use Rattle.shapes.specs.Making.{throughBuilt}
 use Rattle.shapes.specs.Ways.{wayFor, wordsFor}
-use Rattle.rounds.specs.Terms.{partIn, copyBuilt}
+use Rattle.shapes.specs.declared.Growth.{Growth}
+use Rattle.rounds.specs.Working.{half}
+use Rattle.rounds.specs.Terms.{partOf, partIn, copyBuilt}
 use Rattle.rounds.proofs.Sequence.{first-large, copy-last, newFrom, steady-way}
 use borrow.Author.Needs.{needs}
 use Rattle.rounds.proofs.terms.of_wrap.Statement.{statement}
@@ -41,10 +43,11 @@ same-length-2 c = search needs
 returns-2 : tie.Need-returns-2
 returns-2 c =
     let a = c .before .before .before .before .before .before .before .before .before .before .before .before .before .before .before .before .args in
+    let g : Growth = (record { known = partOf 0 (a .before .now) (a .t); part = partOf half (a .this .now) (a .t) }) in
     copy-last (a .at) (a .most) _ (partIn (a .at) 0 (a .before .now) (a .n) (a .work .now))
-    (λ (m : ℕ) (ls : List ℕ). throughBuilt m (wayFor (a .operator)) (wordsFor (a .store .now) (a .operator)) (newFrom (a .before .now) (a .this .now) ls (a .t))) (a .work .now) _ _ _
+    (λ (m : ℕ) (ls : List ℕ). throughBuilt m (wayFor (a .operator)) (wordsFor (a .store .now) (a .operator)) (newFrom g ls)) (a .work .now) _ _ _
     (rw (c .before .before .before .before .before .before .old .given .1) at (c .before .before .before .before .before .before .before .before .before .before .of-one .ensures)) (rw (c .before .before .before .before .growth-of .ensures) at (c .before .before .wrapped .ensures))
-    (steady-way (a .before .now) (a .this .now) (a .t) (wayFor (a .operator)) (wordsFor (a .store .now) (a .operator)))
+    (steady-way g (wayFor (a .operator)) (wordsFor (a .store .now) (a .operator)))
 
 pub of-wrap-spec : {M : Type 1} → statement M
 of-wrap-spec =

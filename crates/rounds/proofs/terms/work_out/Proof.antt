@@ -48,32 +48,32 @@ of-one-requires-2 c κs = (c .before .before .before .before .before .before .be
 enum-known-term-5 : tie.Need-enum-known-term-5
 enum-known-term-5 c = c .match .keys7
 
-of-either-requires : tie.Need-of-either-requires
-of-either-requires c κs = c .before .before .before .before .before .before .before .before .before .before .before .pre
+of-two-requires : tie.Need-of-two-requires
+of-two-requires c κs = c .before .before .before .before .before .before .before .before .before .before .before .pre
 
 enum-known-term-6 : tie.Need-enum-known-term-6
 enum-known-term-6 c = c .match .keys8
 
-of-either-requires-2 : tie.Need-of-either-requires-2
-of-either-requires-2 c κs = c .before .before .before .before .before .before .before .before .before .before .before .pre
+of-two-requires-2 : tie.Need-of-two-requires-2
+of-two-requires-2 c κs = c .before .before .before .before .before .before .before .before .before .before .before .pre
 
 enum-known-term-7 : tie.Need-enum-known-term-7
 enum-known-term-7 c = c .match .keys9
 
-of-either-requires-3 : tie.Need-of-either-requires-3
-of-either-requires-3 c κs = c .before .before .before .before .before .before .before .before .before .before .before .pre
+of-two-requires-3 : tie.Need-of-two-requires-3
+of-two-requires-3 c κs = c .before .before .before .before .before .before .before .before .before .before .before .pre
 
 enum-known-term-8 : tie.Need-enum-known-term-8
 enum-known-term-8 c = c .match .keys10
 
-of-both-requires : tie.Need-of-both-requires
-of-both-requires c κs = c .before .before .before .before .before .before .before .before .before .before .before .pre
+of-two-requires-4 : tie.Need-of-two-requires-4
+of-two-requires-4 c κs = c .before .before .before .before .before .before .before .before .before .before .before .pre
 
 enum-known-term-9 : tie.Need-enum-known-term-9
 enum-known-term-9 c = c .match .keys11
 
-of-both-requires-2 : tie.Need-of-both-requires-2
-of-both-requires-2 c κs = c .before .before .before .before .before .before .before .before .before .before .before .pre
+of-two-requires-5 : tie.Need-of-two-requires-5
+of-two-requires-5 c κs = c .before .before .before .before .before .before .before .before .before .before .before .pre
 
 enum-known-term-10 : tie.Need-enum-known-term-10
 enum-known-term-10 c = c .match .keys12
@@ -121,34 +121,34 @@ returns-6 : tie.Need-returns-6
 returns-6 c = rw (c .before .before .before .before .before .term4 .given .1) (rw (c .before .before .before .before .before .before .before .before .place-of .ensures, c .before .before .before .before .before .before .before .left-of .ensures) at (c .before .before .of-one2 .ensures))
 
 same-length-6 : tie.Need-same-length-6
-same-length-6 c = c .before .before .of-either .kept .0
+same-length-6 c = c .before .before .of-two .kept .0
 
 returns-7 : tie.Need-returns-7
-returns-7 c = rw (c .before .before .before .before .before .term5 .given .1) (rw (c .before .before .before .before .before .before .before .before .place-of .ensures, c .before .before .before .before .before .before .before .left-of .ensures) at (c .before .before .of-either .ensures))
+returns-7 c = rw (c .before .before .before .before .before .term5 .given .1) (rw (c .before .before .before .before .before .before .before .before .place-of .ensures, c .before .before .before .before .before .before .before .left-of .ensures) at (c .before .before .of-two .ensures))
 
 same-length-7 : tie.Need-same-length-7
-same-length-7 c = c .before .before .of-either2 .kept .0
+same-length-7 c = c .before .before .of-two2 .kept .0
 
 returns-8 : tie.Need-returns-8
-returns-8 c = rw (c .before .before .before .before .before .term6 .given .1) (rw (c .before .before .before .before .before .before .before .before .place-of .ensures, c .before .before .before .before .before .before .before .left-of .ensures) at (c .before .before .of-either2 .ensures))
+returns-8 c = rw (c .before .before .before .before .before .term6 .given .1) (rw (c .before .before .before .before .before .before .before .before .place-of .ensures, c .before .before .before .before .before .before .before .left-of .ensures) at (c .before .before .of-two2 .ensures))
 
 same-length-8 : tie.Need-same-length-8
-same-length-8 c = c .before .before .of-either3 .kept .0
+same-length-8 c = c .before .before .of-two3 .kept .0
 
 returns-9 : tie.Need-returns-9
-returns-9 c = rw (c .before .before .before .before .before .term7 .given .1) (rw (c .before .before .before .before .before .before .before .before .place-of .ensures, c .before .before .before .before .before .before .before .left-of .ensures) at (c .before .before .of-either3 .ensures))
+returns-9 c = rw (c .before .before .before .before .before .term7 .given .1) (rw (c .before .before .before .before .before .before .before .before .place-of .ensures, c .before .before .before .before .before .before .before .left-of .ensures) at (c .before .before .of-two3 .ensures))
 
 same-length-9 : tie.Need-same-length-9
-same-length-9 c = c .before .before .of-both .kept .0
+same-length-9 c = c .before .before .of-two4 .kept .0
 
 returns-10 : tie.Need-returns-10
-returns-10 c = rw (c .before .before .before .before .before .term8 .given .1) (rw (c .before .before .before .before .before .before .before .before .place-of .ensures, c .before .before .before .before .before .before .before .left-of .ensures) at (c .before .before .of-both .ensures))
+returns-10 c = rw (c .before .before .before .before .before .term8 .given .1) (rw (c .before .before .before .before .before .before .before .before .place-of .ensures, c .before .before .before .before .before .before .before .left-of .ensures) at (c .before .before .of-two4 .ensures))
 
 same-length-10 : tie.Need-same-length-10
-same-length-10 c = c .before .before .of-both2 .kept .0
+same-length-10 c = c .before .before .of-two5 .kept .0
 
 returns-11 : tie.Need-returns-11
-returns-11 c = rw (c .before .before .before .before .before .term9 .given .1) (rw (c .before .before .before .before .before .before .before .before .place-of .ensures, c .before .before .before .before .before .before .before .left-of .ensures) at (c .before .before .of-both2 .ensures))
+returns-11 c = rw (c .before .before .before .before .before .term9 .given .1) (rw (c .before .before .before .before .before .before .before .before .place-of .ensures, c .before .before .before .before .before .before .before .left-of .ensures) at (c .before .before .of-two5 .ensures))
 
 same-length-11 : tie.Need-same-length-11
 same-length-11 c = c .before .before .of-joint .kept .0
@@ -180,15 +180,15 @@ work-out-spec =
     enum-known-term-4
     of-one-requires-2
     enum-known-term-5
-    of-either-requires
+    of-two-requires
     enum-known-term-6
-    of-either-requires-2
+    of-two-requires-2
     enum-known-term-7
-    of-either-requires-3
+    of-two-requires-3
     enum-known-term-8
-    of-both-requires
+    of-two-requires-4
     enum-known-term-9
-    of-both-requires-2
+    of-two-requires-5
     enum-known-term-10
     of-joint-requires
     enum-known-term-11

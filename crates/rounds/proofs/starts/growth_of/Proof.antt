@@ -1,11 +1,11 @@
--- `rounds::adding::growth_of` meets its contract: a part in each half.
+-- `rounds::starts::growth_of` meets its contract: a part in each half.
 -- Assumes nothing.
 use mathlib.Core.Path.{ap₂}
 use Rattle.shapes.specs.declared.Part.{Part}
 use Rattle.shapes.specs.declared.Growth.{Growth}
 use borrow.Author.Needs.{needs}
-use Rattle.rounds.proofs.adding.growth_of.Statement.{statement}
-use Rattle.rounds.proofs.adding.growth_of.Tie as tie
+use Rattle.rounds.proofs.starts.growth_of.Statement.{statement}
+use Rattle.rounds.proofs.starts.growth_of.Tie as tie
 
 part-at-requires : tie.Need-part-at-requires
 part-at-requires c κs = search needs
