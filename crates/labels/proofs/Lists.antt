@@ -1,10 +1,10 @@
 -- Lists of names and maps of names, one entry more at a time.
 -- Assumes nothing.
 use mathlib.Core.Path.{_≡_, refl, sym, ap, ap₂, subst, _∙_}
-use mathlib.Core.Bool.{Bool, true, false, _&&_}
+use mathlib.Core.Bool.{true, false}
 use mathlib.Core.List.{List, [], _∷_, map}
 use Prim.Native.Nat.{ℕ, zero, suc, _+_, _*_, _-_, _/_, _%_, _^_, _≤_, _<_, zero-le}
-use native.Mathlib.Nat.{add-zero, add-suc, suc-add, not-suc-le-zero, le-refl, one-mul, mul-zero, mul-le-mul, pow-le-pow-right}
+use native.Mathlib.Nat.{le-refl, one-mul, mul-zero, mul-le-mul, pow-le-pow-right}
 use native.Mathlib.Numerals.{add-one}
 use native.Mathlib.Omega.{arith}
 use borrow.Author.Tests.{eq-eqb, ne-eqb}
@@ -12,7 +12,7 @@ use lib.Dec.{eqb, lit<, lit≤}
 use native.Mathlib.Decide.{decLt}
 use lib.ListN.{length, getD, set, drop, drop-of-length-le}
 use lib.Seq.{drop-cons, set-out}
-use Rattle.meaning.specs.Labels.{Label, count, number, labelOf, several, plus, clear, without, renamed, renamedFrom}
+use Rattle.meaning.specs.Labels.{Label, count, number, labelOf, several, clear, without, renamed, renamedFrom}
 use Rattle.meaning.specs.Descriptions.{Pair}
 use Rattle.meaning.specs.Rounds.{pick, target}
 use Rattle.meaning.proofs.Bags.{number-plus}

@@ -1,27 +1,25 @@
 -- What the functions on words make of the numbers of labels: the numbers of what `meaning` makes of the labels. A label has
 -- at most 12 names; that the word has digits past them changes nothing.
 -- Assumes nothing.
-use mathlib.Core.Path.{_≡_, refl, sym, ap, ap₂, subst, _∙_}
+use mathlib.Core.Path.{_≡_, refl, sym, ap, ap₂, _∙_}
 use mathlib.Core.Bool.{Bool, true, false, _&&_}
 use mathlib.Core.List.{List, [], _∷_, _++_, map}
-use Prim.Native.Nat.{ℕ, zero, suc, _+_, _*_, _-_, _/_, _%_, _^_, _≤_, _<_, zero-le}
-use native.Mathlib.Nat.{mod-eq-of-lt, pow-suc, pow-le-pow-right, le-refl, lt-of-lt-of-le, le-of-suc-le-suc, not-suc-le-zero, add-suc}
+use Prim.Native.Nat.{ℕ, zero, suc, _+_, _*_, _-_, _/_, _%_, _^_, _≤_, _<_}
+use native.Mathlib.Nat.{mod-eq-of-lt, pow-suc, pow-le-pow-right, le-refl, lt-of-lt-of-le, le-of-suc-le-suc, not-suc-le-zero}
 use native.Mathlib.Omega.{arith}
 use native.Mathlib.Decide.{decLt}
-use borrow.Author.Tests.{lt-ltb, le-ltb}
-use lib.Dec.{T, leb, eqb, ltb, leb·zero, lit<}
+use lib.Dec.{T, leb, eqb, ltb, lit<}
 use lib.ListN.{length, getD, set, replicate}
-use Rattle.meaning.specs.Labels.{Label, count, size, number, labelOf, empty, several, single, plus, inside, minus, clear, without, renamed, renamedFrom}
+use Rattle.meaning.specs.Labels.{Label, count, size, number, labelOf, several, single, plus, inside, minus, clear, without, renamed, renamedFrom}
 use Rattle.meaning.specs.Descriptions.{Pair}
 use Rattle.meaning.specs.Rounds.{pick, target}
 use Rattle.meaning.specs.Legal.{Each, LegalPair}
 use Rattle.meaning.proofs.Bags.{number-plus, number-minus, size-plus}
 use Rattle.meaning.proofs.Digits.{Small, small}
-use Rattle.labels.specs.declared.Sum.{Sum}
 use Rattle.labels.specs.declared.Sum.the-variants.{Over, Of}
 use Rattle.labels.specs.Packing.{packed}
 use Rattle.labels.specs.Bags.{bag, sizeOf, pickSum, sumOf}
-use Rattle.labels.specs.Names.{pairOf, pairsIn, listed, targets}
+use Rattle.labels.specs.Names.{pairsIn, listed, targets}
 use Rattle.labels.specs.Stored.{pairWord, pairWords}
 use Rattle.labels.proofs.Words.{number-empty, number-several}
 

@@ -1,13 +1,13 @@
 -- Words and their digits to base 32.
 -- Assumes nothing.
-use mathlib.Core.Path.{_≡_, refl, sym, ap, ap₂, _∙_}
+use mathlib.Core.Path.{_≡_, refl, sym, ap, _∙_}
 use mathlib.Core.Bool.{Bool, true, false, _&&_}
-use mathlib.Core.List.{List, [], _∷_}
+use mathlib.Core.List.{[], _∷_}
 use Prim.Native.Nat.{ℕ, zero, suc, _+_, _*_, _-_, _/_, _%_, _^_, _≤_, _<_, zero-le}
-use native.Mathlib.Nat.{pow-suc, pow-succ', mod-eq-of-lt, zero-mod, zero-div, not-suc-le-zero, mul-comm, mul-assoc, mul-one, one-mul, mul-zero, zero-mul, div-div-eq-div-mul, le-of-suc-le-suc, div-one}
+use native.Mathlib.Nat.{pow-suc, pow-succ', mod-eq-of-lt, not-suc-le-zero, mul-comm, mul-assoc, mul-one, one-mul, div-div-eq-div-mul, le-of-suc-le-suc, div-one}
 use native.Mathlib.Omega.{arith}
 use borrow.Author.Tests.{lt-leb, le-leb}
-use lib.Dec.{T, leb, leb·zero, lit<}
+use lib.Dec.{leb, leb·zero, lit<}
 use lib.Pow.{pow-add, pow-lt}
 use lib.ListN.{length, set, length-set}
 use Rattle.meaning.specs.Labels.{Label, count, number, labelOf, empty, several, inside}

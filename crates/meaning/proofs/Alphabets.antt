@@ -11,7 +11,7 @@ use lib.Dec.{T, eqb}
 use Rattle.meaning.specs.Bytes.{Text, ascii}
 use Rattle.meaning.specs.Labels.{Label, size, number, isTau, plus, inside, minus, clear, without, renamedFrom, order}
 use Rattle.meaning.specs.Sets.{member, insert, ascending, spread, product}
-use Rattle.meaning.specs.Descriptions.{Pair, Rule, Operator, hide, rename, comm, allow, Term, act, tau, ref, seq, merge, sync, wrap, Order, all, only, Description}
+use Rattle.meaning.specs.Descriptions.{Pair, Rule, hide, rename, comm, allow, Term, act, tau, ref, seq, merge, sync, wrap, Order, all, only, Description}
 use Rattle.meaning.specs.Rounds.{target, allowed, applied, communicated, worked, next, roundSets}
 use Rattle.meaning.specs.Limits.{total, someLong, someOver, over}
 use Rattle.meaning.specs.Answers.{Outcome, tooLarge, listed, cut, sameLabels, sameSets, answerFrom, answer}

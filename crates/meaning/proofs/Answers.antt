@@ -1,26 +1,26 @@
 -- The executable answer meets the declarative statement, and any two answers that meet it are equal.
 -- Assumes nothing.
-use mathlib.Core.Path.{_≡_, refl, sym, ap, ap₂, subst, _∙_}
-use mathlib.Core.Logic.{_⊎_, inl, inr, _↔_}
-use mathlib.Core.Bool.{Bool, true, false, _&&_}
-use mathlib.Core.List.{List, [], _∷_, _++_, map}
+use mathlib.Core.Path.{_≡_, refl, sym, ap₂, subst, _∙_}
+use mathlib.Core.Logic.{inl, inr, _↔_}
+use mathlib.Core.Bool.{Bool, true, false}
+use mathlib.Core.List.{List, [], _∷_, _++_}
 use Prim.Native.Nat.{ℕ, zero, suc, _+_, _≤_, _<_, compare, Ordering, Ordering·lt, Ordering·eq, Ordering·gt}
-use native.Mathlib.Nat.{le-refl, suc-add, add-suc}
+use native.Mathlib.Nat.{suc-add, add-suc}
 use native.Mathlib.Omega.{arith}
 use native.Mathlib.Decide.{decLt}
-use lib.Dec.{T, isEq, not-T}
-use lib.ListN.{length, length-replicate}
-use Rattle.meaning.specs.Labels.{Label, size, number, order, empty}
-use Rattle.meaning.specs.Sets.{_∈_, at, Rising, ascending, spread, kept, keep}
+use lib.Dec.{T, isEq}
+use lib.ListN.{length}
+use Rattle.meaning.specs.Labels.{Label, size, order}
+use Rattle.meaning.specs.Sets.{_∈_, at, spread, kept, keep}
 use Rattle.meaning.specs.Descriptions.{Order, all, only, Description}
-use Rattle.meaning.specs.Rounds.{bodySets, next, roundSets, equationSets, InSet, Rounds}
-use Rattle.meaning.specs.Limits.{total, someLong, someOver, over, PassesLimit}
+use Rattle.meaning.specs.Rounds.{bodySets, roundSets, Rounds}
+use Rattle.meaning.specs.Limits.{someOver, over, PassesLimit}
 use Rattle.meaning.specs.Answers.{Allows, Outcome, tooLarge, listed, Lists, Answers, admits, cut, sameLabels, sameSets, answerFrom, answer}
 use Rattle.meaning.proofs.Tests.{Says, compare-says, and-left, and-right, and-both}
-use Rattle.meaning.proofs.Order.{_≺_, same→eq, eq→same}
+use Rattle.meaning.proofs.Order.{same→eq, eq→same}
 use Rattle.meaning.proofs.Digits.{small, number-below}
 use Rattle.meaning.proofs.Sorted.{Within, Sorted, NumberLess, sorted-rising, rising-unique}
-use Rattle.meaning.proofs.Members.{Through, Sum, Ascending, in-append, in-spread, in-spread→, in-keep, in-ascending}
+use Rattle.meaning.proofs.Members.{Ascending, in-spread, in-spread→, in-keep}
 use Rattle.meaning.proofs.Carried.{against-last}
 use Rattle.meaning.proofs.Growth.{round-ascends}
 use Rattle.meaning.proofs.Lengths.{round-full}

@@ -2,14 +2,13 @@
 -- Assumes nothing.
 use mathlib.Core.Path.{_≡_, refl, sym, ap, ap₂, _∙_}
 use mathlib.Core.Logic.{inl, inr}
-use mathlib.Core.Bool.{Bool, true, false, _&&_}
 use mathlib.Core.List.{List, [], _∷_}
-use Prim.Native.Nat.{ℕ, zero, suc, _+_, _*_, _-_, _≤_, _<_, zero-le}
+use Prim.Native.Nat.{ℕ, zero, suc, _+_, _*_, _-_, _≤_, zero-le}
 use native.Mathlib.Nat.{add-comm, add-assoc, le-refl, zero-sub, sub-zero, add-zero, zero-add, mul-add}
 use native.Mathlib.Omega.{arith}
 use lib.Dec.{T, leb, eqb, leb→le, le→leb, eqb→eq, eqb-refl}
-use lib.ListN.{length, set, replicate, length-set, length-replicate}
-use Rattle.meaning.specs.Labels.{Label, count, size, number, empty, several, single, plus, inside, minus, clear, without, renamed, renamedFrom}
+use lib.ListN.{length, set, length-set, length-replicate}
+use Rattle.meaning.specs.Labels.{Label, count, size, number, empty, several, plus, inside, minus, clear, without, renamedFrom}
 use Rattle.meaning.specs.Sets.{_∈_}
 use Rattle.meaning.proofs.Tests.{and-left, and-right, and-both}
 

@@ -1,20 +1,18 @@
 -- One theorem about two passes over the terms: a relation of sets that holds of nothing, and of what two terms make of related
 -- sets, holds of all the sets. Growth of rounds, widening, ascending order and the labels' lengths are its instances.
 -- Assumes nothing.
-use mathlib.Core.Path.{_≡_, refl, sym, ap, subst, subst₂, _∙_}
+use mathlib.Core.Path.{_≡_, refl}
 use mathlib.Core.Logic.{_⊎_, inl, inr}
-use mathlib.Core.List.{List, [], _∷_, _++_, map}
-use Prim.Native.Nat.{ℕ, zero, suc, _≤_, _<_, zero-le, compare, Ordering, Ordering·lt, Ordering·eq, Ordering·gt}
-use native.Mathlib.Nat.{le-refl, not-suc-le-zero}
+use mathlib.Core.List.{List, [], _∷_}
+use Prim.Native.Nat.{ℕ, zero, suc, _≤_, _<_, compare, Ordering, Ordering·lt, Ordering·eq, Ordering·gt}
 use native.Mathlib.Omega.{arith}
-use lib.ListN.{length, getD, length-append, List·getD-append, List·getD-eq-default, List·getD-map}
+use lib.ListN.{length, length-append, List·getD-append, List·getD-eq-default}
 use lib.Seq.{getD-at}
 use Rattle.meaning.specs.Labels.{Label}
-use Rattle.meaning.specs.Sets.{_∈_, at, ascending}
-use Rattle.meaning.specs.Descriptions.{Description, termCount, termAt, bodyAt}
-use Rattle.meaning.specs.Rounds.{Shape, shape, made, worked, bodySets, next, roundSets}
+use Rattle.meaning.specs.Sets.{at, ascending}
+use Rattle.meaning.specs.Descriptions.{Description, termAt}
+use Rattle.meaning.specs.Rounds.{shape, made, worked}
 use Rattle.meaning.proofs.Tests.{Says, compare-says}
-use Rattle.meaning.proofs.Members.{Ascending, ascending-ascends}
 
 -- Where the sets of the first n terms stand.
 pub length-worked : (d : Description) (eqs : List (List Label)) (n : ℕ) → length (worked d eqs n) ≡ n

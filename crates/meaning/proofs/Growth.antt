@@ -1,19 +1,18 @@
 -- Sets grow: term by term with widening, round by round by themselves. And every round's sets ascend.
 -- Assumes nothing.
-use mathlib.Core.Path.{_≡_, refl, sym, ap, subst, subst⁻¹, _∙_}
-use mathlib.Core.Logic.{_⊎_, inl, inr}
-use mathlib.Core.List.{List, [], _∷_, _++_, map}
-use Prim.Native.Nat.{ℕ, zero, suc, _+_, _≤_, _<_, zero-le}
-use native.Mathlib.Nat.{le-refl, not-suc-le-zero, le-dest, add-zero, add-suc}
+use mathlib.Core.Path.{_≡_, refl, subst}
+use mathlib.Core.List.{List, [], _∷_, map}
+use Prim.Native.Nat.{ℕ, zero, suc, _+_, _≤_, zero-le}
+use native.Mathlib.Nat.{le-dest, add-zero, add-suc}
 use native.Mathlib.Omega.{arith}
 use lib.ListN.{length, getD, List·getD-eq-default, List·getD-map}
 use Rattle.meaning.specs.Labels.{Label}
-use Rattle.meaning.specs.Sets.{_∈_, at, ascending}
-use Rattle.meaning.specs.Descriptions.{Term, Description, termCount, termAt, bodyAt}
-use Rattle.meaning.specs.Rounds.{Shape, shape, made, worked, bodySets, next, roundSets, InSet}
+use Rattle.meaning.specs.Sets.{at}
+use Rattle.meaning.specs.Descriptions.{Description, termCount, termAt, bodyAt}
+use Rattle.meaning.specs.Rounds.{shape, made, bodySets, next, roundSets}
 use Rattle.meaning.proofs.Sorted.{Within}
 use Rattle.meaning.proofs.Members.{Ascending, in-ascending, ascending-ascends}
-use Rattle.meaning.proofs.Made.{Family, Made, In, Inside, Grown, alike, in-made, in-made→, made-grows}
+use Rattle.meaning.proofs.Made.{In, Grown, alike, in-made, in-made→, made-grows}
 use Rattle.meaning.proofs.Carried.{length-worked, carried}
 
 -- Each set of one list lies within the set at the same place of another.

@@ -1,20 +1,20 @@
 -- The sets of terms are the least ones that meet the rules: a legal description's sets meet them, and they lie inside any that do.
 -- Assumes nothing.
-use mathlib.Core.Path.{_≡_, refl, sym, ap, subst, subst⁻¹, _∙_}
+use mathlib.Core.Path.{_≡_, sym, subst, _∙_}
 use mathlib.Core.Logic.{_⊎_, inl, inr}
 use mathlib.Core.List.{List, [], _∷_}
 use Prim.Native.Nat.{ℕ, zero, suc, _+_, _≤_, _<_}
 use native.Mathlib.Nat.{not-suc-le-zero, add-zero, add-suc, zero-add, suc-add}
 use native.Mathlib.Omega.{arith}
 use native.Mathlib.Decide.{decLt}
-use lib.ListN.{length, getD, List·getD-eq-default}
+use lib.ListN.{getD, List·getD-eq-default}
 use Rattle.meaning.specs.Labels.{Label}
-use Rattle.meaning.specs.Sets.{_∈_, at, ascending}
+use Rattle.meaning.specs.Sets.{_∈_, at}
 use Rattle.meaning.specs.Descriptions.{Term, act, tau, delta, ref, sum, cond, choice, ifelse, seq, merge, lmerge, sync, wrap, Order, Description, termCount, termAt, bodyAt}
 use Rattle.meaning.specs.Legal.{LegalTerm, LegalTerms, Legal}
 use Rattle.meaning.specs.Rounds.{Shape, leaf, reference, one, either, both, joint, through, shape, made, worked, bodySets, next, roundSets, InSet}
-use Rattle.meaning.proofs.Members.{Through, Sum, in-ascending}
-use Rattle.meaning.proofs.Made.{Family, Made, In, Inside, alike, in-made, in-made→, sum-grows, made-grows}
+use Rattle.meaning.proofs.Members.{Sum, in-ascending}
+use Rattle.meaning.proofs.Made.{Family, Made, In, alike, in-made, in-made→, sum-grows, made-grows}
 use Rattle.meaning.proofs.Carried.{worked-earlier, worked-last, worked-past, against-last}
 use Rattle.meaning.proofs.Growth.{rounds-grow, round-length, at-body}
 

@@ -1,17 +1,16 @@
 -- A computed test of legality, and that it is equivalent to legality.
 -- Assumes nothing.
-use mathlib.Core.Path.{_≡_}
 use mathlib.Core.Logic.{_↔_, Dec·and}
 use mathlib.Core.Bool.{Bool, true, false}
 use mathlib.Core.List.{List, [], _∷_, map}
-use Prim.Native.Nat.{ℕ, zero, suc, _≤_, _<_}
+use Prim.Native.Nat.{ℕ, suc, _≤_, _<_}
 use native.Mathlib.Decide.{decLe, decLt, ℕ-discrete}
 use lib.Dec.{T}
 use lib.ListN.{length}
 use Rattle.meaning.specs.Labels.{Label, size, number}
 use Rattle.meaning.specs.Sets.{Above, Rising}
 use Rattle.meaning.specs.Descriptions.{Pair, Rule, Operator, block, hide, rename, comm, allow, Term, act, tau, delta, ref, sum, cond, choice, ifelse, seq, merge, lmerge, sync, wrap, Order, all, only, Description, names, termCount, equations, termAt}
-use Rattle.meaning.specs.Legal.{Each, LegalLabel, LegalNames, LegalPair, LegalPairs, LegalRule, LegalRules, LegalLabels, LegalOperator, isMultiAction, LegalTwo, LegalTerm, LegalTerms, LegalOrder, Legal}
+use Rattle.meaning.specs.Legal.{Each, LegalLabel, LegalNames, LegalPair, LegalRule, LegalLabels, LegalOperator, isMultiAction, LegalTwo, LegalTerm, LegalTerms, LegalOrder, Legal}
 
 three : {A B C : Type 0} → Dec A → Dec B → Dec C → Dec (A × B × C)
 three (yes a) (yes b) (yes c) = yes (a, b, c)

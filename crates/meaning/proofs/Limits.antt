@@ -1,8 +1,8 @@
 -- A finite part of sets that passes a limit: so do the sets.
 -- Assumes nothing.
-use mathlib.Core.Path.{_≡_, refl, sym, subst, ap, _∙_}
+use mathlib.Core.Path.{refl, subst}
 use mathlib.Core.Logic.{_⊎_, inl, inr}
-use mathlib.Core.Bool.{Bool, true, false, _||_}
+use mathlib.Core.Bool.{_||_}
 use mathlib.Core.List.{List, [], _∷_}
 use Prim.Native.Nat.{ℕ, zero, suc, _≤_, _<_}
 use native.Mathlib.Omega.{arith}
@@ -12,10 +12,10 @@ use lib.ListN.{length}
 use Rattle.meaning.specs.Labels.{Label, size}
 use Rattle.meaning.specs.Sets.{_∈_, at}
 use Rattle.meaning.specs.Descriptions.{Description}
-use Rattle.meaning.specs.Rounds.{roundSets, InSet, Rounds}
-use Rattle.meaning.specs.Limits.{total, someLong, someOver, over, Once, PassesLimit}
+use Rattle.meaning.specs.Rounds.{roundSets, Rounds}
+use Rattle.meaning.specs.Limits.{total, someLong, someOver, over, PassesLimit}
 use Rattle.meaning.proofs.Tests.{or-cases, or-left, or-right}
-use Rattle.meaning.proofs.Sorted.{Within, once-count}
+use Rattle.meaning.proofs.Sorted.{once-count}
 use Rattle.meaning.proofs.Growth.{AllWithin}
 use Rattle.meaning.proofs.Stable.{AllOnce, Stable, total-grows, once-round, all-rounds, unstable-total}
 

@@ -1,10 +1,10 @@
 -- What an answer lists: labels with a count for each name and at most 31 actions, at most 1,024 of them.
 -- Assumes nothing.
-use mathlib.Core.Path.{_≡_, refl, sym, ap, subst, _∙_}
+use mathlib.Core.Path.{_≡_, ap}
 use mathlib.Core.Bool.{Bool, true, false}
 use mathlib.Core.Logic.{inl, inr}
-use mathlib.Core.List.{List, [], _∷_, _++_}
-use Prim.Native.Nat.{ℕ, zero, suc, pred, _+_, _≤_, _<_}
+use mathlib.Core.List.{List, [], _∷_}
+use Prim.Native.Nat.{ℕ, zero, suc, _≤_}
 use native.Mathlib.Omega.{arith}
 use native.Mathlib.Decide.{decLt}
 use lib.Dec.{T}
@@ -12,11 +12,10 @@ use lib.ListN.{length, length-append}
 use Rattle.meaning.specs.Labels.{Label, size}
 use Rattle.meaning.specs.Sets.{_∈_, at, spread, kept, keep}
 use Rattle.meaning.specs.Descriptions.{Order, Description, names}
-use Rattle.meaning.specs.Rounds.{roundSets, equationSets}
+use Rattle.meaning.specs.Rounds.{roundSets}
 use Rattle.meaning.specs.Limits.{someOver, over}
 use Rattle.meaning.specs.Answers.{Outcome, tooLarge, listed, Lists, cut, admits}
 use Rattle.meaning.proofs.Lengths.{round-full}
-use Rattle.meaning.proofs.Stable.{Stable}
 use Rattle.meaning.proofs.Limits.{over-one, over-some, round-passes}
 use Rattle.meaning.proofs.Answers.{no-long, lists, answers-unique}
 

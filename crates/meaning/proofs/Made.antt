@@ -1,11 +1,10 @@
 -- What a term is made of, as a property of labels: the same as the lists say, and growing with the sets and with the shape.
 -- Assumes nothing.
-use mathlib.Core.Path.{_≡_, refl, sym, ap, subst}
-use mathlib.Core.Logic.{_⊎_, inl, inr, _↔_}
-use mathlib.Core.List.{List, [], _∷_, _++_}
+use mathlib.Core.Logic.{_⊎_, inl, inr}
+use mathlib.Core.List.{List, [], _++_}
 use Prim.Native.Nat.{ℕ}
 use Rattle.meaning.specs.Labels.{Label}
-use Rattle.meaning.specs.Sets.{_∈_, at, spread, product}
+use Rattle.meaning.specs.Sets.{_∈_, at, product}
 use Rattle.meaning.specs.Rounds.{Shape, leaf, reference, one, either, both, joint, through, made}
 use Rattle.meaning.proofs.Members.{Through, Sum, in-append, in-spread, in-spread→, in-product, in-product→}
 

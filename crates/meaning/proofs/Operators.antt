@@ -1,24 +1,23 @@
 -- What operators make of labels: the applications of rules one by one, labels over all names, and that what an operator does
 -- to a label on a run is among what it makes of it in a set.
 -- Assumes nothing.
-use mathlib.Core.Path.{_≡_, refl, sym, ap, subst, subst⁻¹, _∙_}
-use mathlib.Core.Logic.{_⊎_, inl, inr, _↔_}
-use mathlib.Core.Bool.{Bool, true, false, _||_}
-use mathlib.Core.List.{List, [], _∷_, _++_}
-use Prim.Native.Nat.{ℕ, zero, suc, _+_, _≤_, _<_}
-use native.Mathlib.Nat.{le-refl, not-suc-le-zero}
+use mathlib.Core.Path.{_≡_, refl, ap, subst, _∙_}
+use mathlib.Core.Logic.{_⊎_, inl, inr}
+use mathlib.Core.List.{List, [], _∷_}
+use Prim.Native.Nat.{ℕ, zero, suc, _≤_, _<_}
+use native.Mathlib.Nat.{le-refl}
 use native.Mathlib.Omega.{arith}
 use lib.Dec.{T, eqb, eqb→eq, eqb-refl}
 use lib.ListN.{length}
-use Rattle.meaning.specs.Labels.{Label, size, isTau, count, single, plus, minus, inside, clear, without, renamed}
+use Rattle.meaning.specs.Labels.{Label, size, isTau, single, plus, minus, inside, clear, without, renamed}
 use Rattle.meaning.specs.Sets.{_∈_, member, spread, keep, turn}
 use Rattle.meaning.specs.Descriptions.{Rule, Operator, block, hide, rename, comm, allow}
 use Rattle.meaning.specs.Legal.{Each, LegalRule, LegalOperator}
 use Rattle.meaning.specs.Rounds.{target, allowed, replaced, applied, communicated, image}
 use Rattle.meaning.specs.Runs.{Communicates, enough, apply, Acts}
 use Rattle.meaning.proofs.Tests.{or-cases, or-left, or-right}
-use Rattle.meaning.proofs.Bags.{plus-none, plus-assoc, minus-plus, inside-plus, size-plus, size-minus, size-several, length-plus, length-minus, length-several, length-without, length-renamed, clear→zero, zero→clear}
-use Rattle.meaning.proofs.Members.{Through, in-append, in-spread, in-spread→, in-keep, in-turn, member→in, in→member}
+use Rattle.meaning.proofs.Bags.{plus-none, plus-assoc, minus-plus, inside-plus, size-plus, size-minus, size-several, length-plus, length-minus, length-several, length-without, length-renamed, zero→clear}
+use Rattle.meaning.proofs.Members.{in-append, in-spread, in-spread→, in-keep, in-turn, member→in, in→member}
 
 -- Listed, or tau.
 pub allowed→ : (ls : List Label) (a : Label) → T (allowed ls a) → (a ∈ ls) ⊎ (size a ≡ 0)

@@ -1,23 +1,21 @@
 -- What one round settles of the answer, for code that works rounds out one after the other: a limit passed, also by the first
 -- terms alone; a stable round; a term whose operands have not changed.
 -- Assumes nothing.
-use mathlib.Core.Path.{_≡_, refl, sym, ap, ap₂, subst, _∙_}
-use mathlib.Core.Logic.{_⊎_, inl, inr}
-use mathlib.Core.Bool.{Bool, true, false, _||_}
+use mathlib.Core.Path.{_≡_, refl, sym, ap, ap₂, subst}
+use mathlib.Core.Logic.{inl, inr}
 use mathlib.Core.List.{List, [], _∷_, _++_}
 use Prim.Native.Nat.{ℕ, zero, suc, _+_, _≤_, _<_}
-use native.Mathlib.Nat.{le-dest, add-zero, add-suc, add-assoc, zero-add}
+use native.Mathlib.Nat.{le-dest, add-zero, add-suc, zero-add}
 use native.Mathlib.Omega.{arith}
 use native.Mathlib.Decide.{decLt}
-use lib.Dec.{T, ltb, ltb→lt, lt→ltb}
-use lib.ListN.{length}
-use Rattle.meaning.specs.Labels.{Label, size}
-use Rattle.meaning.specs.Sets.{_∈_, at, ascending, spread, product}
+use lib.Dec.{T, ltb, ltb→lt}
+use Rattle.meaning.specs.Labels.{Label}
+use Rattle.meaning.specs.Sets.{at, ascending, spread, product}
 use Rattle.meaning.specs.Descriptions.{Order, Description, termCount, termAt}
 use Rattle.meaning.specs.Rounds.{Shape, leaf, reference, one, either, both, joint, through, shape, made, worked, bodySets, next, roundSets}
-use Rattle.meaning.specs.Limits.{total, someLong, someOver, over}
-use Rattle.meaning.specs.Answers.{Outcome, tooLarge, listed, cut, answer}
-use Rattle.meaning.proofs.Tests.{or-cases, or-left, or-right}
+use Rattle.meaning.specs.Limits.{total, someOver, over}
+use Rattle.meaning.specs.Answers.{tooLarge, listed, cut, answer}
+use Rattle.meaning.proofs.Tests.{or-cases}
 use Rattle.meaning.proofs.Stable.{Stable, unstable-total}
 use Rattle.meaning.proofs.Limits.{over-cases, over-one, over-some, over-all, round-passes}
 use Rattle.meaning.proofs.Answers.{lists, answer-only}

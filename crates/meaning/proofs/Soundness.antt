@@ -1,16 +1,15 @@
 -- Soundness: every label on any finite run from the root of a legal description is in the root's set.
 -- Assumes nothing.
-use mathlib.Core.Path.{_≡_, refl, sym, ap, subst, subst⁻¹, _∙_}
+use mathlib.Core.Path.{_≡_, refl, sym, subst}
 use mathlib.Core.Logic.{_⊎_, inl, inr}
-use mathlib.Core.Bool.{Bool, true, false, _&&_}
-use mathlib.Core.List.{List, [], _∷_}
+use mathlib.Core.List.{List}
 use Prim.Native.Nat.{ℕ}
 use Rattle.meaning.specs.Labels.{Label}
 use Rattle.meaning.specs.Sets.{_∈_}
-use Rattle.meaning.specs.Descriptions.{Operator, Term, act, tau, delta, ref, sum, cond, choice, ifelse, seq, merge, lmerge, sync, wrap, Order, Description, names, termAt, bodyAt}
+use Rattle.meaning.specs.Descriptions.{Term, act, tau, ref, sum, cond, choice, ifelse, seq, merge, lmerge, sync, wrap, Order, Description, names, termAt, bodyAt}
 use Rattle.meaning.specs.Legal.{LegalOperator, MultiAction, LegalTerm, Legal}
 use Rattle.meaning.specs.Rounds.{image, shape, InSet}
-use Rattle.meaning.specs.Runs.{State, ended, term, followed, beside, within, Acts, Step, by-act, by-tau, by-ref, by-sum, by-cond, by-choice-left, by-choice-right, by-ifelse-left, by-ifelse-right, by-seq, by-merge, by-lmerge, by-sync, by-operator, before, after, on-left, on-right, on-both, inner, Run, stop, go, OnRun}
+use Rattle.meaning.specs.Runs.{State, ended, term, followed, beside, within, Step, by-act, by-tau, by-ref, by-sum, by-cond, by-choice-left, by-choice-right, by-ifelse-left, by-ifelse-right, by-seq, by-merge, by-lmerge, by-sync, by-operator, before, after, on-left, on-right, on-both, inner, Run, stop, go, OnRun}
 use Rattle.meaning.proofs.Members.{Through, Sum}
 use Rattle.meaning.proofs.Made.{Made, sum-grows}
 use Rattle.meaning.proofs.Operators.{acts-image}

@@ -1,11 +1,10 @@
 -- A stable round stays, and then the set of a term, the union over all rounds, is its set in that round.
 -- Assumes nothing.
-use mathlib.Core.Path.{_≡_, refl, sym, ap, subst, _∙_, fun-ext}
-use mathlib.Core.Logic.{_⊎_, inl, inr, _↔_, _≢_}
-use mathlib.Core.Bool.{Bool, true, false, _&&_}
+use mathlib.Core.Path.{_≡_, ap, subst, _∙_, fun-ext}
+use mathlib.Core.Logic.{_↔_}
 use mathlib.Core.List.{List, [], _∷_, map}
 use Prim.Native.Nat.{ℕ, zero, suc, _+_, _≤_, _<_, zero-le}
-use native.Mathlib.Nat.{le-refl, not-suc-le-zero, le-dest, add-zero, add-suc}
+use native.Mathlib.Nat.{le-refl, le-dest, add-zero, add-suc}
 use native.Mathlib.Omega.{arith}
 use native.Mathlib.Decide.{decLt}
 use lib.ListN.{length}
@@ -15,8 +14,8 @@ use Rattle.meaning.specs.Descriptions.{Description}
 use Rattle.meaning.specs.Rounds.{worked, bodySets, next, roundSets, equationSets, InSet}
 use Rattle.meaning.specs.Limits.{Once, total}
 use Rattle.meaning.proofs.Order.{_≺_, ≺-irrefl, ≺-trans}
-use Rattle.meaning.proofs.Sorted.{Within, sorted-once, once-count}
-use Rattle.meaning.proofs.Members.{Ascending, ascending-unique}
+use Rattle.meaning.proofs.Sorted.{sorted-once, once-count}
+use Rattle.meaning.proofs.Members.{ascending-unique}
 use Rattle.meaning.proofs.Growth.{AllWithin, round-grows, rounds-grow, round-ascends}
 
 -- Round k+1 has the equation sets of round k.

@@ -1,15 +1,15 @@
 -- Widening: sets grow term by term and round by round, and so demand 3 holds of two legal descriptions.
 -- Assumes nothing.
-use mathlib.Core.Path.{_≡_, refl, sym, ap, subst, _∙_}
-use mathlib.Core.Logic.{_⊎_, inl, inr}
+use mathlib.Core.Path.{_≡_, refl, ap, subst}
+use mathlib.Core.Logic.{inl, inr}
 use mathlib.Core.Bool.{Bool}
 use mathlib.Core.List.{List, [], _∷_}
 use Prim.Native.Nat.{ℕ, zero, suc}
 use lib.Dec.{T}
 use lib.ListN.{length, getD}
 use Rattle.meaning.specs.Labels.{Label, count, clear, empty, single}
-use Rattle.meaning.specs.Sets.{_∈_, at, keep}
-use Rattle.meaning.specs.Descriptions.{Term, act, tau, delta, ref, sum, cond, choice, ifelse, seq, merge, lmerge, sync, wrap, Order, Description, names, termAt}
+use Rattle.meaning.specs.Sets.{_∈_, keep}
+use Rattle.meaning.specs.Descriptions.{Term, act, tau, delta, ref, sum, cond, choice, ifelse, seq, merge, lmerge, sync, wrap, Order, Description, names}
 use Rattle.meaning.specs.Legal.{Legal}
 use Rattle.meaning.specs.Rounds.{allowed, image, Shape, leaf, through, shape, InSet}
 use Rattle.meaning.specs.Runs.{OnRun}

@@ -1,9 +1,8 @@
 -- Limits (document 01, "Limits and refusal numbers").
 -- Assumes nothing.
-use mathlib.Core.Logic.{_⊎_}
-use mathlib.Core.Bool.{Bool, true, false, _||_}
+use mathlib.Core.Bool.{Bool, false, _||_}
 use mathlib.Core.List.{List, [], _∷_}
-use Prim.Native.Nat.{ℕ, _+_, _<_}
+use Prim.Native.Nat.{ℕ, _+_}
 use lib.Dec.{T, ltb}
 use lib.ListN.{length}
 use Rattle.meaning.specs.Labels.{Label, size}

@@ -1,6 +1,6 @@
 -- A set copied from the round before: what is laid, and that it is the term's set where what that is built of stayed.
 -- Assumes nothing.
-use mathlib.Core.Path.{_≡_, refl, sym, ap, ap₂, subst, _∙_}
+use mathlib.Core.Path.{_≡_, refl, sym, ap, subst, _∙_}
 use mathlib.Core.Logic.{_⊎_, inl}
 use mathlib.Core.Bool.{_&&_}
 use mathlib.Core.List.{List, [], _∷_, _++_}
@@ -8,8 +8,8 @@ use Prim.Native.Nat.{ℕ, zero, suc, _+_, _-_, _≤_, _<_, zero-le, min}
 use native.Mathlib.Omega.{arith}
 use borrow.Author.Tests.{le-leb, lt-leb}
 use lib.Dec.{T, eqb→eq}
-use lib.ListN.{length, getD, take, drop}
-use lib.Seq.{take-take, paste-zero, length-slice}
+use lib.ListN.{length, take, drop}
+use lib.Seq.{paste-zero, length-slice}
 use Rattle.meaning.specs.Labels.{Label}
 use Rattle.meaning.specs.Sets.{at, ascending, spread, product}
 use Rattle.meaning.specs.Descriptions.{Description, all, Term, act, tau, delta, ref, sum, cond, choice, ifelse, seq, merge, lmerge, sync, wrap, termCount, equations, termAt, bodyAt}
@@ -27,9 +27,9 @@ use Rattle.sets.specs.Parts.{partBefore, roomAt, laid}
 use Rattle.sets.specs.Building.{Grown}
 use Rattle.sets.proofs.Walking.{part-end}
 use Rattle.shapes.specs.Steady.{sizeAt, stays}
-use Rattle.rounds.specs.Working.{half, whole, partly, setOf, Ready, Worked}
+use Rattle.rounds.specs.Working.{half, partly, setOf, Ready, Worked}
 use Rattle.shapes.specs.Steady.{unchanged}
-use Rattle.rounds.specs.Terms.{Low, partIn, placeIn, leftIn, copyBuilt}
+use Rattle.rounds.specs.Terms.{partIn, placeIn, leftIn, copyBuilt}
 use Rattle.rounds.proofs.Areas.{part-taken}
 use Rattle.rounds.proofs.Turning.{same-size}
 use Rattle.rounds.proofs.Staying.{size-is, stays→}

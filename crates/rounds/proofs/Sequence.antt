@@ -1,6 +1,6 @@
 -- One thing built after another in the same set, from parts that stand before it.
 -- Assumes nothing.
-use mathlib.Core.Path.{_≡_, refl, sym, ap, ap₂, subst, _∙_}
+use mathlib.Core.Path.{_≡_, refl, sym, ap, subst, _∙_}
 use mathlib.Core.Bool.{Bool, true, false}
 use mathlib.Core.List.{List, [], _∷_}
 use Prim.Native.Nat.{ℕ, _-_, _≤_}
@@ -11,7 +11,7 @@ use Rattle.sets.specs.declared.Built.the-variants.{TooLarge, Holds}
 use Rattle.sets.specs.declared.Way.{Way}
 use Rattle.sets.specs.declared.Way.the-variants.{Copy}
 use Rattle.sets.specs.Parts.{setAt, laid, part, roomAt}
-use Rattle.sets.specs.Building.{Building, answerOf, goesOn, next, each, imaged, multiplied, Grown}
+use Rattle.sets.specs.Building.{Building, answerOf, goesOn, next, imaged, multiplied, Grown}
 use Rattle.sets.proofs.Laid.{length-setAt, take-laid}
 use Rattle.sets.proofs.Steps.{Steady, steady-each, steady-next, steady-imaged, Going, going-last, grown-as, next-holds, next-large, built-holds}
 use Rattle.shapes.specs.declared.Part.{Part}

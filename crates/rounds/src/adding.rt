@@ -28,29 +28,15 @@ fn add_joint(work: &mut [u64], a: Growth, b: Growth, at: usize, len: usize, most
     ensures { λ r. ⌜ Grown (jointAdded (roomAt at most (length (now (work .entry)))) (newIn at a (now (work .entry))) (wordsOf at (a .part) (now (work .entry))) (newIn at b (now (work .entry))) (wordsOf at (b .part) (now (work .entry)))) at len (now (work .entry)) (now (work .exit)) r ⌝ }
 {
     let none = [0u64];
-    let first_part = a.part;
-    let second_part = b.part;
-    let sums = add_new(
-        work,
-        a,
-        Giving::Times(second_part),
-        &none[..0],
-        at,
-        len,
-        most,
-    );
+    let first = a.part;
+    let second = b.part;
+    let by_first = Giving::Times(first);
+    let by_second = Giving::Times(second);
+    let sums = add_new(work, a, by_second, &none[..0], at, len, most);
     let Built::Holds(count) = sums else {
         return Built::TooLarge;
     };
-    add_new(
-        work,
-        b,
-        Giving::Times(first_part),
-        &none[..0],
-        at,
-        count,
-        most,
-    )
+    add_new(work, b, by_first, &none[..0], at, count, most)
 }
 
 // Both.

@@ -1,7 +1,7 @@
 -- The comm closure on the numbers of labels: each label with all that follows from it. A label that is there already is not
 -- followed again, and still nothing is missed: every label that is put in is followed by all rules.
 -- Assumes nothing.
-use mathlib.Core.Path.{_≡_, refl, sym, ap, ap₂, subst, _∙_}
+use mathlib.Core.Path.{_≡_, refl, sym, ap, subst, _∙_}
 use mathlib.Core.Logic.{_⊎_, inl, inr}
 use mathlib.Core.Bool.{Bool, true, false}
 use mathlib.Core.List.{List, [], _∷_, _++_, map}
@@ -11,31 +11,29 @@ use native.Mathlib.Omega.{arith}
 use borrow.Author.Tests.{le-ltb}
 use lib.Dec.{T, ltb}
 use lib.ListN.{length, length-map}
-use Rattle.meaning.specs.Labels.{Label, size, number, single, plus, minus, inside}
-use Rattle.meaning.specs.Sets.{_∈_, insert, ascending, spread}
+use Rattle.meaning.specs.Labels.{Label, size, number, single, minus, inside}
+use Rattle.meaning.specs.Sets.{_∈_, ascending, spread}
 use Rattle.meaning.specs.Descriptions.{Rule}
 use Rattle.meaning.specs.Legal.{Each, LegalRule}
 use Rattle.meaning.specs.Rounds.{replaced, applied, communicated}
 use Rattle.meaning.proofs.Bags.{length-minus, length-several, size-minus, size-several}
 use Rattle.meaning.proofs.Digits.{number-injective}
 use Rattle.meaning.proofs.Sorted.{Within}
-use Rattle.meaning.proofs.Members.{in-append, in-insert, in-ascending, in-spread, in-spread→, in-map, in-map→}
+use Rattle.meaning.proofs.Members.{in-append, in-ascending, in-spread, in-spread→, in-map, in-map→}
 use Rattle.meaning.proofs.Operators.{in-applied, in-applied→, length-replaced, fewer-left}
-use Rattle.labels.specs.Packing.{code, packed}
-use Rattle.labels.specs.Bags.{bag, sumOf}
+use Rattle.labels.specs.Packing.{packed}
 use Rattle.labels.specs.Stored.{ruleWords}
 use Rattle.labels.proofs.Meant.{Packs, packs-small, inside-number, difference-number, sum-number}
 use Rattle.sets.specs.declared.Inserted.{Inserted}
 use Rattle.sets.specs.declared.Inserted.the-variants.{Full, Present, Added}
-use Rattle.sets.specs.declared.Offer.{Offer}
-use Rattle.sets.specs.declared.Offer.the-variants.{Nothing, TooLong, Next}
+use Rattle.sets.specs.declared.Offer.the-variants.{Next}
 use Rattle.sets.specs.declared.Way.the-variants.{Comm}
 use Rattle.sets.specs.Inserting.{present, putIn, pickInserted, inserted}
-use Rattle.sets.specs.Building.{Building, done, stopped, goesOn, next, each, followed, enter, taken, Exchange, exchangesIn, pickOffer, summed, exchangeOf, eachRule, closed, imaged}
+use Rattle.sets.specs.Building.{Building, done, goesOn, next, each, followed, taken, Exchange, exchangesIn, pickOffer, exchangeOf, eachRule, closed, imaged}
 use Rattle.sets.specs.Joining.{insertNumber}
-use Rattle.sets.proofs.Sorting.{insert-present, insert-absent, rising-enter}
+use Rattle.sets.proofs.Sorting.{insert-present, insert-absent}
 use Rattle.sets.proofs.Steps.{length-putIn}
-use Rattle.sets.proofs.Meant.{AllPack, insert-number, numbers-rising, ascending-same, TooMuch, too-much-more, Whole, Outcome, each-outcome}
+use Rattle.sets.proofs.Meant.{AllPack, insert-number, numbers-rising, ascending-same, TooMuch, too-much-more, Outcome, each-outcome}
 use borrow.Author.Tests.{ltb-false}
 
 -- Rules are read as they are stored.

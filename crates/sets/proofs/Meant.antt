@@ -1,27 +1,24 @@
 -- What is built of the numbers of labels is the list of numbers of what `meaning` makes of the labels; and it is refused exactly
 -- where that passes a limit.
 -- Assumes nothing.
-use mathlib.Core.Path.{_≡_, refl, sym, ap, ap₂, subst, _∙_}
-use mathlib.Core.Logic.{_⊎_, inl, inr, _↔_}
-use mathlib.Core.Bool.{Bool, true, false, _||_}
-use mathlib.Core.List.{List, [], _∷_, _++_, map, append-nil}
-use Prim.Native.Nat.{ℕ, zero, suc, _+_, _-_, _≤_, _<_, zero-le, compare, Ordering, Ordering·lt, Ordering·eq, Ordering·gt}
-use native.Mathlib.Nat.{le-refl}
+use mathlib.Core.Path.{_≡_, refl, sym, ap, subst, _∙_}
+use mathlib.Core.Logic.{_⊎_, inl, inr}
+use mathlib.Core.Bool.{Bool, false}
+use mathlib.Core.List.{List, [], _∷_, _++_, map}
+use Prim.Native.Nat.{ℕ, _+_, _-_, _<_, compare, Ordering, Ordering·lt, Ordering·eq, Ordering·gt}
 use native.Mathlib.Omega.{arith}
-use lib.Dec.{T}
 use lib.ListN.{length, length-map}
-use Rattle.meaning.specs.Labels.{Label, size, number, order, plus}
-use Rattle.meaning.specs.Sets.{_∈_, Rising, placed, insert, ascending, spread, turn, product}
+use Rattle.meaning.specs.Labels.{Label, number, order}
+use Rattle.meaning.specs.Sets.{_∈_, Rising, placed, insert, ascending, spread}
 use Rattle.meaning.proofs.Tests.{Says}
 use Rattle.meaning.proofs.Order.{_≺_, order-says, ≺-irrefl, ≺-trans}
-use Rattle.meaning.proofs.Digits.{Small, number-below}
+use Rattle.meaning.proofs.Digits.{number-below}
 use Rattle.meaning.proofs.Sorted.{Within, sorted-once, once-count}
 use Rattle.meaning.proofs.Limits.{Long}
-use Rattle.meaning.proofs.Members.{in-append, in-insert, in-ascending, ascending-ascends, ascending-unique, in-map→}
+use Rattle.meaning.proofs.Members.{in-append, in-ascending, ascending-ascends, ascending-unique}
 use Rattle.labels.proofs.Meant.{Packs, packs-small}
-use Rattle.sets.specs.Building.{Building, done, stopped, goesOn, next, each, enter}
+use Rattle.sets.specs.Building.{Building, done, goesOn, next, each, enter}
 use Rattle.sets.specs.Joining.{placedBy, insertNumber}
-use Rattle.sets.proofs.Steps.{Steady}
 use Rattle.sets.proofs.Sorting.{compare-lt, compare-gt, compare-eq, rising-insert, Entering, rising-enter}
 
 -- The numbers of labels are ordered as the labels are.
@@ -148,13 +145,3 @@ module _ (names room : ℕ) (I : List Label → Type 0) (moves : (M N : List Lab
       entered : Entering room (number a) (map number (ascending M)) → Outcome (a ∷ M) (enter room (number a) (map number (ascending M)))
       entered (inl e) = inl (record { built = e ∙ ap done is; packs = λ c. elim [ inl k ↦ subst (Packs names) (sym k) p | inr m ↦ q c m ]; kept = i })
       entered (inr e) = inr (ap (λ (b : Building). b .whole) (e .0), inl (rw (← length-map (insert a (ascending M)) number, ← is) (e .1)))
-
--- What is built whole has room: a step keeps a set that has room within it.
-pub whole-fits : (room : ℕ) (build : List ℕ → Building) → Steady room build → (s : List ℕ) (t : List Label) → build s ≡ done (map number t) → length s ≤ room
-    → length t ≤ room
-unfolding Steady
-whole-fits room build steady s t e h =
-    let k = steady s in
-    let l = ap (λ (b : Building). length (b .set)) e in
-    let n = length-map t number in
-    omega arith

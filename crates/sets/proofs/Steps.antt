@@ -1,14 +1,14 @@
 -- Sets that are built step by step: a step never shortens a set and never takes it past the room; and what the words hold
 -- after some steps, with what is to come, is what is wanted.
 -- Assumes nothing.
-use mathlib.Core.Path.{_≡_, refl, sym, ap, ap₂, subst, _∙_}
+use mathlib.Core.Path.{_≡_, refl, sym, ap, ap₂, _∙_}
 use mathlib.Core.Bool.{Bool, true, false}
-use mathlib.Core.List.{List, [], _∷_, _++_}
-use Prim.Native.Nat.{ℕ, zero, suc, _+_, _-_, _≤_, _<_, max, min}
+use mathlib.Core.List.{List, [], _∷_}
+use Prim.Native.Nat.{ℕ, zero, suc, _+_, _-_, _≤_, _<_, max}
 use native.Mathlib.Omega.{arith}
 use borrow.Author.Tests.{ltb-true}
 use lib.Dec.{ltb}
-use lib.ListN.{length, getD, take, drop, length-append, length-take, length-drop}
+use lib.ListN.{length, length-append, length-take, length-drop}
 use Rattle.labels.specs.Packing.{code}
 use Rattle.sets.specs.declared.Inserted.{Inserted}
 use Rattle.sets.specs.declared.Inserted.the-variants.{Full, Present, Added}
@@ -17,8 +17,8 @@ use Rattle.sets.specs.declared.Built.the-variants.{TooLarge, Holds}
 use Rattle.sets.specs.declared.Offer.{Offer}
 use Rattle.sets.specs.declared.Offer.the-variants.{Nothing, TooLong, Next}
 use Rattle.sets.specs.declared.Way.{Way}
-use Rattle.sets.specs.Parts.{setAt, laid, roomAt, reachOf}
-use Rattle.sets.specs.Inserting.{placeOf, present, putIn, pickInserted, inserted, afterwards, Entered}
+use Rattle.sets.specs.Parts.{setAt, laid, roomAt}
+use Rattle.sets.specs.Inserting.{present, putIn, pickInserted, inserted, Entered}
 use Rattle.sets.specs.Building.{Building, done, stopped, pickBuilt, answerOf, goesOn, next, each, followed, enter, taken, Exchange, exchangesIn, exchangeOf, eachRule, closed, offerOf, depthOf, imaged, Grown}
 use Rattle.sets.proofs.Laid.{Fits, length-setAt, laid-self, length-laid, setAt-laid, laid-laid}
 

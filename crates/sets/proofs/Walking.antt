@@ -3,7 +3,7 @@
 use mathlib.Core.Path.{_≡_, refl, sym, ap, ap₂, subst, _∙_}
 use mathlib.Core.Bool.{Bool, true, false}
 use mathlib.Core.List.{List, [], _∷_}
-use Prim.Native.Nat.{ℕ, suc, _+_, _-_, _≤_, _<_, min}
+use Prim.Native.Nat.{ℕ, _+_, _-_, _≤_, _<_, min}
 use native.Mathlib.Decide.{decLe}
 use native.Mathlib.Numerals.{add-one}
 use native.Mathlib.Omega.{arith}
@@ -16,9 +16,9 @@ use Rattle.sets.specs.declared.Offer.{Offer}
 use Rattle.sets.specs.declared.Offer.the-variants.{Nothing, TooLong, Next}
 use Rattle.sets.specs.declared.Way.the-variants.{Plus}
 use Rattle.sets.specs.Parts.{setAt, laid, partBefore, roomAt, reachOf}
-use Rattle.sets.specs.Building.{Building, done, goesOn, next, answerOf, each, taken, Exchange, exchangesIn, closed, offerOf, imaged, Grown}
+use Rattle.sets.specs.Building.{Building, goesOn, next, answerOf, each, taken, Exchange, exchangesIn, closed, offerOf, imaged, Grown}
 use Rattle.sets.proofs.Laid.{setAt-reach, getD-laid, take-laid, take-min}
-use Rattle.sets.proofs.Steps.{Steady, Going, going-start, going-end, going-as, going-holds, going-large, grown-as}
+use Rattle.sets.proofs.Steps.{Steady, Going, going-start, going-end, going-as, going-holds, going-large}
 
 -- A part before a place, by its end in the list; it does not change while the set is built.
 take-both : (m n : ℕ) (l : List ℕ) → take m (take n l) ≡ take (min m n) l

@@ -3,11 +3,11 @@
 use mathlib.Core.Path.{_≡_, refl, sym, ap, subst, _∙_}
 use mathlib.Core.List.{List, [], _∷_, _++_, tail}
 use Prim.Native.Nat.{ℕ, zero, suc, _+_, _-_, _≤_, _<_}
-use native.Mathlib.Nat.{add-sub-of-le, min-eq-left}
+use native.Mathlib.Nat.{min-eq-left}
 use native.Mathlib.Numerals.{add-one}
 use native.Mathlib.Omega.{arith}
 use lib.ListN.{length, getD, take, drop, set, replicate, length-append, length-take, length-drop, length-set, length-replicate}
-use lib.Seq.{drop-cons, set-append-seam, append-snoc, take-suc, take-all, getD-append-add, getD-drop, getD-take}
+use lib.Seq.{drop-cons, set-append-seam, append-snoc, take-suc, take-all}
 use Rattle.shapes.specs.Putting.{put}
 
 length-snoc : (xs : List ℕ) (w : ℕ) → length (xs ++ (w ∷ [])) ≡ suc (length xs)
@@ -20,13 +20,6 @@ put-step xs l w n e h =
     (ap (λ (t : List ℕ). set (xs ++ t) (length xs) w) (drop-cons l (length xs) 0 (omega arith))
     ∙ set-append-seam xs (getD l (length xs) 0) (drop (suc (length xs)) l) w
     ∙ sym (append-snoc xs w (drop (suc (length xs)) l)))
-
--- a word past those that were put is as it was
-pub put-read : (xs l : List ℕ) (k : ℕ) → length xs ≤ k → getD (put xs l) k 0 ≡ getD l k 0
-put-read xs l k h =
-    let e : length xs + (k - length xs) ≡ k = add-sub-of-le h in
-    subst (λ (i : ℕ). getD (put xs l) i 0 ≡ getD l i 0) e
-    (getD-append-add xs (drop (length xs) l) (k - length xs) 0 ∙ getD-drop (length xs) l (k - length xs) 0)
 
 pub length-put : (xs l : List ℕ) → length xs ≤ length l → length (put xs l) ≡ length l
 length-put xs l h = length-append xs (drop (length xs) l) ∙ omega (arith, length-drop (length xs) l)
@@ -60,20 +53,12 @@ pub filling-end : (vs : List ℕ) (n : ℕ) (area₀ area : List ℕ) (i : ℕ) 
 filling-end vs n area₀ area i f h =
     f .words ∙ ap (λ (xs : List ℕ). put xs area₀) (take-all i vs (omega (arith, f .count))) ∙ ap (λ (m : ℕ). vs ++ drop m area₀) (f .count)
 
--- a word past those that were put
-pub filling-read : (vs : List ℕ) (n : ℕ) (area₀ area : List ℕ) (i k : ℕ) → Filling vs n area₀ area i → i ≤ k → getD area k 0 ≡ getD area₀ k 0
-filling-read vs n area₀ area i k f h =
-    ap (λ (a : List ℕ). getD a k 0) (f .words) ∙ put-read (take i vs) area₀ k (omega (arith, f .count, length-take i vs))
-
 pub length-zeros : (n : ℕ) → length (replicate {A = ℕ} n 0) ≡ n
 length-zeros n = length-replicate {A = ℕ} n 0
 
 -- the words from a place on
 pub length-part : (area : List ℕ) (from n : ℕ) → from + n ≤ length area → length (take n (drop from area)) ≡ n
 length-part area from n h = length-take n (drop from area) ∙ min-eq-left (omega (arith, length-drop from area))
-
-pub getD-part : (area : List ℕ) (from n i : ℕ) → i < n → getD (take n (drop from area)) i 0 ≡ getD area (from + i) 0
-getD-part area from n i h = getD-take n (drop from area) i 0 h ∙ getD-drop from area i 0
 
 -- Words that a filter keeps: the first of what is left.
 pub left-first : (vs ws : List ℕ) (n w : ℕ) → drop n vs ≡ w ∷ ws → (n < length vs) × (w ≡ getD vs n 0) × (drop (n + 1) vs ≡ ws)

@@ -1,6 +1,5 @@
 -- `labels::bags::inside` meets its contract. The loop's invariant: what is left of the words compares as the words do; the
 -- measure is what is left of the first. Assumes nothing.
-use Prim.Native.Nat.{ℕ, _<_, _^_}
 use mathlib.Core.Path.{refl}
 use native.Mathlib.Omega.{arith}
 use Rattle.meaning.specs.Labels.{inside}

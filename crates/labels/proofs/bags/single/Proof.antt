@@ -1,7 +1,5 @@
 -- `labels::bags::single` meets its contract. Assumes nothing.
-use mathlib.Core.Path.{_≡_, sym, ap, _∙_}
-use Prim.Native.Nat.{_*_, _%_, _^_}
-use native.Mathlib.Nat.{mod-eq-of-lt, one-mul}
+use mathlib.Core.Path.{sym, ap}
 use borrow.Author.Needs.{needs}
 use Rattle.labels.specs.Packing.{packed}
 use Rattle.labels.proofs.Words.{word-several, number-none}

@@ -1,5 +1,4 @@
 -- `labels::bags::sum` meets its contract. Assumes nothing.
-use mathlib.Core.Path.{ap}
 use borrow.Author.Needs.{needs}
 use borrow.Author.Tests.{lt-ltb, le-ltb}
 use Rattle.labels.specs.Bags.{sumOf}

@@ -1,11 +1,8 @@
 -- `labels::names::hide` meets its contract. The loop's invariant: the word stands for the bag without the names from the i-th
 -- on; the measure is i. Assumes nothing.
-use mathlib.Core.Path.{_≡_, sym, ap, _∙_}
-use mathlib.Core.List.{_∷_}
-use Prim.Native.Nat.{_≤_, _<_, _^_, suc}
+use mathlib.Core.Path.{ap}
 use native.Mathlib.Omega.{arith}
 use borrow.Author.Needs.{needs}
-use lib.ListN.{length, drop}
 use Rattle.meaning.specs.Labels.{without}
 use Rattle.labels.specs.Packing.{packed}
 use Rattle.labels.specs.Bags.{bag}

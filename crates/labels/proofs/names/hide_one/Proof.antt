@@ -1,6 +1,6 @@
 -- `labels::names::hide_one` meets its contract. Assumes nothing.
 use mathlib.Core.Path.{_≡_, sym, ap, _∙_}
-use Prim.Native.Nat.{_+_, _*_, _-_, _%_, _^_, _<_, _≤_}
+use Prim.Native.Nat.{_+_, _*_, _-_, _%_, _^_}
 use borrow.Author.Needs.{needs}
 use native.Mathlib.Omega.{arith}
 use lib.ListN.{set}

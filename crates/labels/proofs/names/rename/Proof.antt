@@ -1,7 +1,7 @@
 -- `labels::names::rename` meets its contract. The loop's invariant is `Moved`: what the first i names weigh, and what is left;
 -- the measure is how many names are left. Assumes nothing.
-use mathlib.Core.Path.{_≡_, sym, ap, subst, _∙_}
-use Prim.Native.Nat.{ℕ, _-_, _*_, _+_, _≤_, _%_, _^_}
+use mathlib.Core.Path.{ap}
+use Prim.Native.Nat.{_-_, _*_, _≤_, _%_, _^_}
 use native.Mathlib.Omega.{arith}
 use borrow.Author.Needs.{needs}
 use lib.ListN.{getD}

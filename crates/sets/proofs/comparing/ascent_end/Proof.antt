@@ -1,12 +1,12 @@
 -- `sets::comparing::ascent_end` meets its contract. The loop's invariant: the labels up to the i-th ascend; the measure is how
 -- many are left. Assumes nothing.
-use mathlib.Core.Path.{_≡_, sym, ap, ap₂, _∙_}
-use Prim.Native.Nat.{ℕ, _+_, _-_, _≤_, _<_}
+use mathlib.Core.Path.{sym, ap₂, _∙_}
+use Prim.Native.Nat.{_+_, _-_}
 use native.Mathlib.Omega.{arith}
 use borrow.Author.Needs.{needs}
 use borrow.Author.Tests.{ltb-true, ltb-false, not-true, not-false}
 use lib.Dec.{ltb}
-use lib.ListN.{length, getD}
+use lib.ListN.{getD}
 use Rattle.sets.proofs.Parts.{Climb, climb-start, climb-goes, climb-stops, climb-ends, ascent-part, ascent-none}
 use Rattle.sets.proofs.comparing.ascent_end.Statement.{statement}
 use Rattle.sets.proofs.comparing.ascent_end.Tie as tie

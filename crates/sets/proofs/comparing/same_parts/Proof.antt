@@ -1,12 +1,12 @@
 -- `sets::comparing::same_parts` meets its contract. The loop's invariant: the labels from the i-th and the j-th on decide; the
 -- measure is how many are left of the first part. Assumes nothing.
-use mathlib.Core.Path.{_≡_, sym, ap, ap₂, _∙_}
-use Prim.Native.Nat.{ℕ, _+_, _-_, _≤_, _<_}
+use mathlib.Core.Path.{_≡_, sym, ap₂, _∙_}
+use Prim.Native.Nat.{_-_}
 use native.Mathlib.Omega.{arith}
 use borrow.Author.Needs.{needs}
 use borrow.Author.Tests.{not-true, not-false}
 use lib.Dec.{eqb}
-use lib.ListN.{length, getD, take, drop}
+use lib.ListN.{take, drop}
 use Rattle.sets.specs.Parts.{part}
 use Rattle.sets.specs.Joining.{equalLists}
 use Rattle.sets.proofs.Parts.{part-to, equal-short, equal-fails, equal-goes, equal-ends}

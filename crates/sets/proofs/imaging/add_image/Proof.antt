@@ -1,13 +1,13 @@
 -- `sets::imaging::add_image` meets its contract. The loop's invariant: what the labels from the i-th on give is to come; the
 -- measure is how many they are. Assumes nothing.
-use mathlib.Core.Path.{_≡_, sym, ap, ap₂, _∙_}
-use Prim.Native.Nat.{ℕ, _-_, min}
+use mathlib.Core.Path.{ap, _∙_}
+use Prim.Native.Nat.{_-_}
 use native.Mathlib.Omega.{arith}
 use borrow.Author.Needs.{needs}
 use lib.ListN.{length}
 use Rattle.sets.specs.Parts.{setAt, partBefore, roomAt}
-use Rattle.sets.specs.Building.{each, imaged, taken, closed, exchangesIn, Grown}
-use Rattle.sets.proofs.Steps.{steady-imaged, going-length, grown-as}
+use Rattle.sets.specs.Building.{each, imaged, taken}
+use Rattle.sets.proofs.Steps.{steady-imaged, going-length}
 use Rattle.sets.proofs.Walking.{Walk, walk-start, walk-end, walk-holds, walk-large}
 use Rattle.sets.proofs.imaging.add_image.Statement.{statement}
 use Rattle.sets.proofs.imaging.add_image.Tie as tie

@@ -1,13 +1,9 @@
 -- `sets::imaging::made` meets its contract. Assumes nothing.
-use mathlib.Core.Path.{_≡_, sym, ap, _∙_}
-use mathlib.Core.Bool.{Bool, true, false, _||_}
-use Prim.Native.Nat.{ℕ}
+use mathlib.Core.Path.{sym, ap, _∙_}
 use borrow.Author.Needs.{needs}
 use lib.ListN.{getD}
 use Rattle.meaning.specs.Labels.{number, labelOf, renamed}
-use Rattle.labels.specs.declared.Label.{Label}
 use Rattle.labels.specs.Packing.{packed}
-use Rattle.sets.specs.declared.Way.{Way}
 use Rattle.sets.specs.declared.Offer.the-variants.{Next}
 use Rattle.sets.specs.Building.{summed, pickOffer}
 use Rattle.sets.proofs.imaging.made.Statement.{statement}

@@ -1,8 +1,8 @@
 -- `sets::multiplying::add_product` meets its contract. The loop's invariant: what the labels from the i-th on give with those of
 -- the second part is to come; the measure is how many they are. Assumes nothing.
-use mathlib.Core.Path.{_≡_, sym, ap, _∙_}
+use mathlib.Core.Path.{ap, _∙_}
 use mathlib.Core.List.{[], _∷_}
-use Prim.Native.Nat.{ℕ, _-_}
+use Prim.Native.Nat.{_-_}
 use native.Mathlib.Omega.{arith}
 use borrow.Author.Needs.{needs}
 use lib.ListN.{length}
