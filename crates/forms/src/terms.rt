@@ -212,19 +212,10 @@ fn in_range(x: Term, n: usize, equations: usize) -> bool
     ensures { λ r. ⌜ r ≡ inRange equations n (bareTerm x) ⌝ }
 {
     match x {
-        Term::Delta => true,
-        Term::Tau => true,
-        Term::Act(_) => true,
+        Term::Delta | Term::Tau | Term::Act(_) => true,
         Term::Ref(e) => e < equations,
-        Term::Sum(t) => t < n,
-        Term::Cond(t) => t < n,
-        Term::Choice(t, u) => both_below(t, u, n),
-        Term::IfElse(t, u) => both_below(t, u, n),
-        Term::Seq(t, u) => both_below(t, u, n),
-        Term::Merge(t, u) => both_below(t, u, n),
-        Term::LMerge(t, u) => both_below(t, u, n),
-        Term::Sync(t, u) => both_below(t, u, n),
-        Term::Wrap(_, t) => t < n,
+        Term::Sum(t) | Term::Cond(t) | Term::Wrap(_, t) => t < n,
+        Term::Choice(t, u) | Term::IfElse(t, u) | Term::Seq(t, u) | Term::Merge(t, u) | Term::LMerge(t, u) | Term::Sync(t, u) => both_below(t, u, n),
     }
 }
 
@@ -233,19 +224,8 @@ fn is_multi(x: Term) -> bool
     ensures { λ r. ⌜ r ≡ isMultiAction (bareTerm x) ⌝ }
 {
     match x {
-        Term::Delta => false,
-        Term::Tau => true,
-        Term::Act(_) => true,
-        Term::Ref(_) => false,
-        Term::Sum(_) => false,
-        Term::Cond(_) => false,
-        Term::Choice(_, _) => false,
-        Term::IfElse(_, _) => false,
-        Term::Seq(_, _) => false,
-        Term::Merge(_, _) => false,
-        Term::LMerge(_, _) => false,
-        Term::Sync(_, _) => true,
-        Term::Wrap(_, _) => false,
+        Term::Tau | Term::Act(_) | Term::Sync(_, _) => true,
+        _ => false,
     }
 }
 

@@ -1,137 +1,109 @@
 -- `forms::terms::in_range` meets its contract: each kind has its operands.
 -- Assumes nothing.
+use mathlib.Core.Path.{_≡_, refl}
+use mathlib.Core.Bool.{true}
+use mathlib.Core.Logic.{inl, inr}
+use mathlib.Core.List.{List, [], _∷_}
+use Prim.Native.Nat.{ℕ}
+use types.Run.{OneOf, miss}
+use denote.Enum.Declared.{tagOf}
+use Rattle.table.specs.declared.Term.{Term}
+use Rattle.table.specs.declared.Term.the-variants.{Delta, Tau, Act, Ref, Sum, Cond, Choice, IfElse, Seq, Merge, LMerge, Sync, Wrap}
+use Rattle.table.proofs.Term.{the-type}
+use Rattle.table.specs.Terms.{bareTerm}
+use Rattle.forms.specs.Faults.{inRange}
+use borrow.Author.Needs.{needs}
 use Rattle.forms.proofs.terms.in_range.Statement.{statement}
 use Rattle.forms.proofs.terms.in_range.Tie as tie
 
-enum-told : tie.Need-enum-told
-enum-told c = c .match .keys1
+abbrev leaves : List ℕ
+leaves = 0 ∷ 1 ∷ 2 ∷ []
 
-enum-told-2 : tie.Need-enum-told-2
-enum-told-2 c = c .match .keys2
-
-enum-told-3 : tie.Need-enum-told-3
-enum-told-3 c = c .match .keys3
+leaf-in-range : (e n : ℕ) (x : Term) → OneOf leaves (tagOf the-type x) → true ≡ inRange e n (bareTerm x)
+leaf-in-range e n Delta k = refl
+leaf-in-range e n Tau k = refl
+leaf-in-range e n (Act a) k = refl
+leaf-in-range e n (Ref r) k = absurd (miss leaves 3 tt k)
+leaf-in-range e n (Sum t) k = absurd (miss leaves 4 tt k)
+leaf-in-range e n (Cond t) k = absurd (miss leaves 5 tt k)
+leaf-in-range e n (Choice t u) k = absurd (miss leaves 6 tt k)
+leaf-in-range e n (IfElse t u) k = absurd (miss leaves 7 tt k)
+leaf-in-range e n (Seq t u) k = absurd (miss leaves 8 tt k)
+leaf-in-range e n (Merge t u) k = absurd (miss leaves 9 tt k)
+leaf-in-range e n (LMerge t u) k = absurd (miss leaves 10 tt k)
+leaf-in-range e n (Sync t u) k = absurd (miss leaves 11 tt k)
+leaf-in-range e n (Wrap o t) k = absurd (miss leaves 12 tt k)
 
 enum-known-x : tie.Need-enum-known-x
-enum-known-x c = c .match .keys4
+enum-known-x c = search needs
 
 enum-known-x-2 : tie.Need-enum-known-x-2
-enum-known-x-2 c = c .match .keys5
+enum-known-x-2 c = search needs
 
 enum-known-x-3 : tie.Need-enum-known-x-3
-enum-known-x-3 c = c .match .keys6
+enum-known-x-3 c = search needs
 
 enum-known-x-4 : tie.Need-enum-known-x-4
-enum-known-x-4 c = c .match .keys7
+enum-known-x-4 c = search needs
+
+enum-known-x-5 : tie.Need-enum-known-x-5
+enum-known-x-5 c = search needs
+
+enum-known-x-6 : tie.Need-enum-known-x-6
+enum-known-x-6 c = search needs
+
+enum-known-x-7 : tie.Need-enum-known-x-7
+enum-known-x-7 c = search needs
+
+enum-known-x-8 : tie.Need-enum-known-x-8
+enum-known-x-8 c = search needs
+
+enum-known-x-9 : tie.Need-enum-known-x-9
+enum-known-x-9 c = search needs
+
+enum-known-x-10 : tie.Need-enum-known-x-10
+enum-known-x-10 c = search needs
 
 both-below-requires : tie.Need-both-below-requires
 both-below-requires c κs = tt
 
-enum-known-x-5 : tie.Need-enum-known-x-5
-enum-known-x-5 c = c .match .keys8
-
-both-below-requires-2 : tie.Need-both-below-requires-2
-both-below-requires-2 c κs = tt
-
-enum-known-x-6 : tie.Need-enum-known-x-6
-enum-known-x-6 c = c .match .keys9
-
-both-below-requires-3 : tie.Need-both-below-requires-3
-both-below-requires-3 c κs = tt
-
-enum-known-x-7 : tie.Need-enum-known-x-7
-enum-known-x-7 c = c .match .keys10
-
-both-below-requires-4 : tie.Need-both-below-requires-4
-both-below-requires-4 c κs = tt
-
-enum-known-x-8 : tie.Need-enum-known-x-8
-enum-known-x-8 c = c .match .keys11
-
-both-below-requires-5 : tie.Need-both-below-requires-5
-both-below-requires-5 c κs = tt
-
-enum-known-x-9 : tie.Need-enum-known-x-9
-enum-known-x-9 c = c .match .keys12
-
-both-below-requires-6 : tie.Need-both-below-requires-6
-both-below-requires-6 c κs = tt
-
-enum-known-x-10 : tie.Need-enum-known-x-10
-enum-known-x-10 c = c .match .keys13
-
 returns : tie.Need-returns
-returns c = rw (c .enum-told .given .1)
+returns c = leaf-in-range (c .before .args .equations) (c .before .args .n) (c .before .args .x) (c .match .keys1)
 
 returns-2 : tie.Need-returns-2
-returns-2 c = rw (c .enum-told2 .given .1)
+returns-2 c = rw (c .before .x .given .1)
 
 returns-3 : tie.Need-returns-3
-returns-3 c = rw (c .enum-told3 .given .1)
+returns-3 c =
+    let h = c .both-below .ensures in
+    elim (c .before .match .came)
+    [ inl a ↦ rw (a .1 .given .1, ← a .3, ← a .4) h
+    | inr b ↦ elim b [ inl a ↦ rw (a .1 .given .1, ← a .3, ← a .4) h | inr b ↦ elim b [ inl a ↦ rw (a .1 .given .1, ← a .3, ← a .4) h | inr b ↦ elim b [ inl a ↦ rw (a .1 .given .1, ← a .3, ← a .4) h | inr b ↦ elim b [ inl a ↦ rw (a .1 .given .1, ← a .3, ← a .4) h | inr a ↦ rw (a .1 .given .1, ← a .3, ← a .4) h ] ] ] ]
+    ]
 
 returns-4 : tie.Need-returns-4
-returns-4 c = rw (c .before .x .given .1)
-
-returns-5 : tie.Need-returns-5
-returns-5 c = rw (c .before .x2 .given .1)
-
-returns-6 : tie.Need-returns-6
-returns-6 c = rw (c .before .x3 .given .1)
-
-returns-7 : tie.Need-returns-7
-returns-7 c = rw (c .before .before .x4 .given .1) (c .both-below .ensures)
-
-returns-8 : tie.Need-returns-8
-returns-8 c = rw (c .before .before .x5 .given .1) (c .both-below2 .ensures)
-
-returns-9 : tie.Need-returns-9
-returns-9 c = rw (c .before .before .x6 .given .1) (c .both-below3 .ensures)
-
-returns-10 : tie.Need-returns-10
-returns-10 c = rw (c .before .before .x7 .given .1) (c .both-below4 .ensures)
-
-returns-11 : tie.Need-returns-11
-returns-11 c = rw (c .before .before .x8 .given .1) (c .both-below5 .ensures)
-
-returns-12 : tie.Need-returns-12
-returns-12 c = rw (c .before .before .x9 .given .1) (c .both-below6 .ensures)
-
-returns-13 : tie.Need-returns-13
-returns-13 c = rw (c .before .x10 .given .1)
+returns-4 c =
+    elim (c .match .came)
+    [ inl a ↦ rw (a .3, a .1 .given .1)
+    | inr b ↦ elim b [ inl a ↦ rw (a .3, a .1 .given .1) | inr a ↦ rw (a .3, a .1 .given .1) ]
+    ]
 
 pub in-range-spec : {M : Type 1} → statement M
 in-range-spec =
     tie.close
     (tie.spec
-    enum-told
-    enum-told-2
-    enum-told-3
     enum-known-x
     enum-known-x-2
     enum-known-x-3
     enum-known-x-4
-    both-below-requires
     enum-known-x-5
-    both-below-requires-2
     enum-known-x-6
-    both-below-requires-3
     enum-known-x-7
-    both-below-requires-4
     enum-known-x-8
-    both-below-requires-5
     enum-known-x-9
-    both-below-requires-6
     enum-known-x-10
+    both-below-requires
     returns
     returns-2
     returns-3
-    returns-4
-    returns-5
-    returns-6
-    returns-7
-    returns-8
-    returns-9
-    returns-10
-    returns-11
-    returns-12
-    returns-13)
+    returns-4)

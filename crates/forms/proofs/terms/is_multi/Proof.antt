@@ -1,113 +1,60 @@
 -- `forms::terms::is_multi` meets its contract: each kind says whether it is a multi-action.
 -- Assumes nothing.
+use mathlib.Core.Path.{_≡_, refl}
+use mathlib.Core.Bool.{true, false}
+use mathlib.Core.List.{List, [], _∷_}
+use Prim.Native.Nat.{ℕ}
+use types.Run.{OneOf, miss}
+use denote.Enum.Declared.{tagOf}
+use Rattle.table.specs.declared.Term.{Term}
+use Rattle.table.proofs.Term.{the-type}
+use Rattle.table.specs.declared.Term.the-variants.{Delta, Tau, Act, Ref, Sum, Cond, Choice, IfElse, Seq, Merge, LMerge, Sync, Wrap}
+use Rattle.table.specs.Terms.{bareTerm}
+use Rattle.meaning.specs.Legal.{isMultiAction}
 use Rattle.forms.proofs.terms.is_multi.Statement.{statement}
 use Rattle.forms.proofs.terms.is_multi.Tie as tie
 
-enum-told : tie.Need-enum-told
-enum-told c = c .match .keys1
+abbrev multis : List ℕ
+multis = 1 ∷ 2 ∷ 11 ∷ []
 
-enum-told-2 : tie.Need-enum-told-2
-enum-told-2 c = c .match .keys2
+multi : (x : Term) → OneOf multis (tagOf the-type x) → true ≡ isMultiAction (bareTerm x)
+multi Delta k = absurd (miss multis 0 tt k)
+multi Tau k = refl
+multi (Act a) k = refl
+multi (Ref e) k = absurd (miss multis 3 tt k)
+multi (Sum t) k = absurd (miss multis 4 tt k)
+multi (Cond t) k = absurd (miss multis 5 tt k)
+multi (Choice t u) k = absurd (miss multis 6 tt k)
+multi (IfElse t u) k = absurd (miss multis 7 tt k)
+multi (Seq t u) k = absurd (miss multis 8 tt k)
+multi (Merge t u) k = absurd (miss multis 9 tt k)
+multi (LMerge t u) k = absurd (miss multis 10 tt k)
+multi (Sync t u) k = refl
+multi (Wrap o t) k = absurd (miss multis 12 tt k)
 
-enum-told-3 : tie.Need-enum-told-3
-enum-told-3 c = c .match .keys3
+abbrev others : List ℕ
+others = 0 ∷ 3 ∷ 4 ∷ 5 ∷ 6 ∷ 7 ∷ 8 ∷ 9 ∷ 10 ∷ 12 ∷ []
 
-enum-told-4 : tie.Need-enum-told-4
-enum-told-4 c = c .match .keys4
-
-enum-told-5 : tie.Need-enum-told-5
-enum-told-5 c = c .match .keys5
-
-enum-told-6 : tie.Need-enum-told-6
-enum-told-6 c = c .match .keys6
-
-enum-told-7 : tie.Need-enum-told-7
-enum-told-7 c = c .match .keys7
-
-enum-told-8 : tie.Need-enum-told-8
-enum-told-8 c = c .match .keys8
-
-enum-told-9 : tie.Need-enum-told-9
-enum-told-9 c = c .match .keys9
-
-enum-told-10 : tie.Need-enum-told-10
-enum-told-10 c = c .match .keys10
-
-enum-told-11 : tie.Need-enum-told-11
-enum-told-11 c = c .match .keys11
-
-enum-told-12 : tie.Need-enum-told-12
-enum-told-12 c = c .match .keys12
-
-enum-told-13 : tie.Need-enum-told-13
-enum-told-13 c = c .match .keys13
+no-multi : (x : Term) → OneOf others (tagOf the-type x) → false ≡ isMultiAction (bareTerm x)
+no-multi Delta k = refl
+no-multi Tau k = absurd (miss others 1 tt k)
+no-multi (Act a) k = absurd (miss others 2 tt k)
+no-multi (Ref e) k = refl
+no-multi (Sum t) k = refl
+no-multi (Cond t) k = refl
+no-multi (Choice t u) k = refl
+no-multi (IfElse t u) k = refl
+no-multi (Seq t u) k = refl
+no-multi (Merge t u) k = refl
+no-multi (LMerge t u) k = refl
+no-multi (Sync t u) k = absurd (miss others 11 tt k)
+no-multi (Wrap o t) k = refl
 
 returns : tie.Need-returns
-returns c = rw (c .enum-told .given .1)
+returns c = multi (c .before .args .x) (c .match .keys1)
 
 returns-2 : tie.Need-returns-2
-returns-2 c = rw (c .enum-told2 .given .1)
-
-returns-3 : tie.Need-returns-3
-returns-3 c = rw (c .enum-told3 .given .1)
-
-returns-4 : tie.Need-returns-4
-returns-4 c = rw (c .enum-told4 .given .1)
-
-returns-5 : tie.Need-returns-5
-returns-5 c = rw (c .enum-told5 .given .1)
-
-returns-6 : tie.Need-returns-6
-returns-6 c = rw (c .enum-told6 .given .1)
-
-returns-7 : tie.Need-returns-7
-returns-7 c = rw (c .enum-told7 .given .1)
-
-returns-8 : tie.Need-returns-8
-returns-8 c = rw (c .enum-told8 .given .1)
-
-returns-9 : tie.Need-returns-9
-returns-9 c = rw (c .enum-told9 .given .1)
-
-returns-10 : tie.Need-returns-10
-returns-10 c = rw (c .enum-told10 .given .1)
-
-returns-11 : tie.Need-returns-11
-returns-11 c = rw (c .enum-told11 .given .1)
-
-returns-12 : tie.Need-returns-12
-returns-12 c = rw (c .enum-told12 .given .1)
-
-returns-13 : tie.Need-returns-13
-returns-13 c = rw (c .enum-told13 .given .1)
+returns-2 c = no-multi (c .before .args .x) (c .match .keys2)
 
 pub is-multi-spec : {M : Type 1} → statement M
-is-multi-spec =
-    tie.close
-    (tie.spec
-    enum-told
-    enum-told-2
-    enum-told-3
-    enum-told-4
-    enum-told-5
-    enum-told-6
-    enum-told-7
-    enum-told-8
-    enum-told-9
-    enum-told-10
-    enum-told-11
-    enum-told-12
-    enum-told-13
-    returns
-    returns-2
-    returns-3
-    returns-4
-    returns-5
-    returns-6
-    returns-7
-    returns-8
-    returns-9
-    returns-10
-    returns-11
-    returns-12
-    returns-13)
+is-multi-spec = tie.close (tie.spec returns returns-2)
