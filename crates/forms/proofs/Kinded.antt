@@ -20,7 +20,6 @@ use Rattle.forms.specs.Terms.{either, madeOf, contents, listed}
 use Rattle.forms.specs.Kinds.{restOf, noKind, fartherFrom, wrapOf, kindPlace, KindFound, KindRead}
 use Rattle.forms.specs.declared.kinds.KindStep.{KindStep}
 use Rattle.forms.specs.declared.kinds.KindStep.the-variants as K
-use Rattle.forms.specs.declared.terms.WrapKind.{WrapKind}
 use Rattle.forms.specs.Places.{placeOf, Stands, Steps}
 use Rattle.forms.specs.declared.Step.{Step}
 use Rattle.forms.specs.declared.Step.the-variants.{To, Stuck}
@@ -97,36 +96,12 @@ dispatched k s =
 abbrev AtKind : ℕ → Type 0
 AtKind k = (nameOf 8 (getD packedKinds k 0) ≡ getD kinds k noKind .word) × ((s : Text) → dispatched k s ≡ restOf k s)
 
+same : {w : Text} {f : Text → Past Line} {B : Type 0} → B → ((w ≡ w) × ((s : Text) → f s ≡ f s)) × B
+same b = ((refl, λ s. refl), b)
+
 at-kinds : Below AtKind 17
 unfolding Below kinds nameOf
-at-kinds = (
-  (refl, λ s. refl),
-  (
-    (refl, λ s. refl),
-    (
-      (refl, λ s. refl),
-      (
-        (refl, λ s. refl),
-        (
-          (refl, λ s. refl),
-          (
-            (refl, λ s. refl),
-            (
-              (refl, λ s. refl),
-              (
-                (refl, λ s. refl),
-                (
-                  (refl, λ s. refl),
-                  ((refl, λ s. refl), ((refl, λ s. refl), ((refl, λ s. refl), ((refl, λ s. refl), ((refl, λ s. refl), ((refl, λ s. refl), ((refl, λ s. refl), ((refl, λ s. refl), tt)))))))),
-                ),
-              ),
-            ),
-          ),
-        ),
-      ),
-    ),
-  ),
-)
+at-kinds = same (same (same (same (same (same (same (same (same (same (same (same (same (same (same (same (same tt))))))))))))))))
 
 kind-word : (k : ℕ) → k < 17 → nameOf 8 (getD packedKinds k 0) ≡ getD kinds k noKind .word
 kind-word k h = below AtKind 17 k h at-kinds .0
@@ -151,8 +126,8 @@ module _ (k : ℕ) (h : k < 17) (s : Text) where
   pub rest-two : 6 ≤ k → k < 12 → ofTwo (madeOf k) s ≡ restOf k s
   rest-two a b = rw (le-ltb k 1 (omega arith), le-ltb k 2 (omega arith), le-ltb k 3 (omega arith), le-ltb k 6 a, lt-ltb k 12 b) at (kind-rest k h s)
 
-  pub rest-list : (w : WrapKind) → w ≡ wrapOf k → 12 ≤ k → ofList (contents w) (listed w) s ≡ restOf k s
-  rest-list w e a = rw e (rw (le-ltb k 1 (omega arith), le-ltb k 2 (omega arith), le-ltb k 3 (omega arith), le-ltb k 6 (omega arith), le-ltb k 12 a) at (kind-rest k h s))
+  pub rest-list : 12 ≤ k → ofList (contents (wrapOf k)) (listed (wrapOf k)) s ≡ restOf k s
+  rest-list a = rw (le-ltb k 1 (omega arith), le-ltb k 2 (omega arith), le-ltb k 3 (omega arith), le-ltb k 6 (omega arith), le-ltb k 12 a) at (kind-rest k h s)
 
 pub kind-count : length kinds ≡ 17
 unfolding kinds

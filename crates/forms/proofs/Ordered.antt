@@ -13,6 +13,7 @@ use Rattle.forms.specs.Faults.{orderFault, labelSaid}
 use Rattle.forms.specs.Places.{saidPlace}
 use Rattle.forms.specs.Entries.{labelEntry}
 use Rattle.forms.specs.Lists.{wholeList, over, ListRead}
+use Rattle.forms.specs.Terms.{Allow}
 use Rattle.forms.specs.Orders.{OrderTaken, OrderDue, onlyThese}
 use Rattle.forms.specs.declared.Found.the-variants.{Fine}
 use Rattle.forms.specs.declared.OrderStep.{OrderStep}
@@ -20,7 +21,6 @@ use Rattle.forms.specs.declared.labels.Said as C
 use Rattle.forms.specs.declared.labels.SaidStep.{SaidStep}
 use Rattle.forms.specs.declared.labels.SaidStep.the-variants as S
 use Rattle.forms.specs.declared.lists.ListKind.the-variants.{Labels}
-use Rattle.forms.specs.declared.terms.WrapKind.the-variants.{Allow}
 use Rattle.forms.proofs.Steps.{said-stays}
 use Rattle.forms.proofs.Operands.{ended-none, ended-some, over-nothing}
 use Rattle.forms.proofs.Wraps.{wrap-stuck, wrap-went, listed-faults, listed-words}

@@ -59,6 +59,17 @@ module _ {B : Type 0} {line : Text} {at : ℕ} {r : SaidStep} {due : Past Said} 
       → Stands line next place answer (k (saidOf e) (drop next line)) → Stands line at place answer (onward due k)
   said-onwards e t = goes k (said-went s e) t
 
+-- a step that is stuck is the answer of the whole
+pub stuck-still : {A : Type 0} {f g : ℕ → ℕ → A} {line : Text} {at p : ℕ} {r : Step} {due : Past A} → Steps f line at r due → r ≡ Stuck p → Steps g line at r due
+stuck-still s e = record { stands = rw e (rw e at (s .stands)) }
+
+pub halted : {A B : Type 0} {f : ℕ → ℕ → A} {g : ℕ → ℕ → B} {line : Text} {at p : ℕ} {r : Step} {due : Past A} (k : A → Text → Past B) → Steps f line at r due → r ≡ Stuck p
+    → Steps g line at r (onward due k)
+halted k s e = record { stands = rw e (stops k (rw e at (s .stands))) }
+
+pub said-halted : {line : Text} {at p : ℕ} {r : SaidStep} {due : Past Said} (k : Said → Text → Past Said) → Says line at r due → r ≡ S.Stuck p → Says line at r (onward due k)
+said-halted k s e = record { stands = rw e (stops k (rw e at (s .stands))) }
+
 -- the same step, its number read in another way
 pub otherwise : {A : Type 0} {line : Text} {at next : ℕ} {t : Text} {a b : A} {due : Past A} → Stands line at next (past a t) due → b ≡ a → Stands line at next (past b t) due
 otherwise s h = rw h s

@@ -14,12 +14,10 @@ use Rattle.forms.specs.Tallies.{Said}
 use Rattle.forms.specs.Places.{Stands, saidOf}
 use Rattle.forms.specs.Entries.{nameEntry, pairEntry, ruleEntry, labelEntry}
 use Rattle.forms.specs.Lists.{listFaults, listEntry, listWords, listOf, unlessNone, wholeList, over, ListRead}
-use Rattle.forms.specs.Terms.{listKind, ContentsOf, contents, listed, wrappedOf}
+use Rattle.forms.specs.Terms.{WrapKind, Block, Hide, Rename, Comm, Allow, listKind, ContentsOf, contents, listed, wrappedOf}
 use Rattle.forms.specs.declared.labels.Said as C
 use Rattle.forms.specs.declared.labels.SaidStep.{SaidStep}
 use Rattle.forms.specs.declared.labels.SaidStep.the-variants as S
-use Rattle.forms.specs.declared.terms.WrapKind.{WrapKind}
-use Rattle.forms.specs.declared.terms.WrapKind.the-variants.{Block, Hide, Rename, Comm, Allow}
 use Rattle.forms.specs.declared.lists.ListKind.the-variants.{Labels}
 use Rattle.forms.proofs.Steps.{regrouped, said-went, said-stays}
 use Rattle.forms.proofs.Seen.{carried}

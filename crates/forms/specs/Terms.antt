@@ -18,8 +18,6 @@ use Rattle.table.specs.declared.Operator.{Operator}
 use Rattle.table.specs.declared.Operator.the-variants as O
 use Rattle.forms.specs.declared.lists.ListKind.{ListKind}
 use Rattle.forms.specs.declared.lists.ListKind.the-variants.{Names, Pairs, Rules, Labels}
-use Rattle.forms.specs.declared.terms.WrapKind.{WrapKind}
-use Rattle.forms.specs.declared.terms.WrapKind.the-variants.{Block, Hide, Rename, Comm, Allow}
 use Rattle.table.specs.Encoded.{termWords, termFor, filled, slotsFrom}
 use Rattle.forms.specs.Faults.{fine, termSaid, wordsOfFault, termFault}
 use Rattle.forms.specs.Tallies.{foundOf}
@@ -47,16 +45,11 @@ abbrev pub either : {A : Type 0} → Bool → A → A → A
 either true a b = a
 either false a b = b
 
-abbrev pub oneOf : ℕ → ℕ → D.Term
-oneOf k t = either (eqb k 3) (D.ref t) (either (eqb k 4) (D.sum t) (D.cond t))
-
-abbrev pub twoOf : ℕ → ℕ → ℕ → D.Term
-twoOf k t u =
-    either (eqb k 6) (D.choice t u) (either (eqb k 7) (D.ifelse t u) (either (eqb k 8) (D.seq t u) (either (eqb k 9) (D.merge t u) (either (eqb k 10) (D.lmerge t u) (D.sync t u)))))
-
 -- by the last number, and one before it for the kinds with two
 abbrev pub madeOf : ℕ → ℕ → ℕ → D.Term
-madeOf k t u = either (ltb k 6) (oneOf k u) (twoOf k t u)
+madeOf k t u =
+    either (eqb k 3) (D.ref u) (either (eqb k 4) (D.sum u) (either (eqb k 5) (D.cond u) (either (eqb k 6) (D.choice t u) (either (eqb k 7) (D.ifelse t u)
+    (either (eqb k 8) (D.seq t u) (either (eqb k 9) (D.merge t u) (either (eqb k 10) (D.lmerge t u) (D.sync t u))))))))
 
 -- A line with its names looked up: the term at its number, the fault of its names and its list, and the list's words over the
 -- start of the store.
@@ -76,6 +69,9 @@ abbrev pub Storeless : List Text → ℕ → Text → Past Line → TermStep →
 Storeless words n line due r = (store : List ℕ) → LineRead words n line due store store r
 
 -- The kinds with a list.
+pub data WrapKind : Type 0 where
+  Block Hide Rename Comm Allow : WrapKind
+
 abbrev pub listKind : WrapKind → ListKind
 listKind Block = Names
 listKind Hide = Names

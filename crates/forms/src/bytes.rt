@@ -131,7 +131,7 @@ pub fn read_word(line: &[u8], at: usize) -> Step
 {
     let end = word_end(line, at);
     let Step::To(_, next) = end else {
-        return Step::Stuck(stuck_at(end));
+        return end;
     };
     Step::To(packed(&line[at..next]), next)
 }
@@ -143,7 +143,7 @@ pub fn number_after(line: &[u8], at: usize, sign: &[u8]) -> Step
 {
     let first = read_literal(line, at, sign);
     let Step::To(_, from) = first else {
-        return Step::Stuck(stuck_at(first));
+        return first;
     };
     read_number(line, from)
 }
@@ -154,7 +154,7 @@ pub fn word_after(line: &[u8], at: usize, sign: &[u8]) -> Step
 {
     let first = read_literal(line, at, sign);
     let Step::To(_, from) = first else {
-        return Step::Stuck(stuck_at(first));
+        return first;
     };
     read_word(line, from)
 }

@@ -107,7 +107,7 @@ pub fn read_label(line: &[u8], at: usize, names: &[u64]) -> SaidStep
     loop {
         let part = read_part(line, from, names);
         let SaidStep::To(said, next) = part else {
-            return SaidStep::Stuck(said_stuck_at(part));
+            return part;
         };
         let fault = said.fault;
         tally = counted(tally, fault, said.first, said.second, 31);

@@ -26,7 +26,6 @@ use crate::faults::worse_of;
 use crate::labels::Said;
 use crate::labels::SaidStep;
 use crate::labels::read_label;
-use crate::labels::said_stuck_at;
 use crate::names::find_name;
 use crate::names::name_fault;
 
@@ -169,10 +168,8 @@ fn entry_word(kind: ListKind, first: u64, second: u64) -> u64
     ensures { λ r. ⌜ r ≡ entryWord kind first second ⌝ }
 {
     match kind {
-        ListKind::Names => first,
         ListKind::Pairs => first + 32 * second,
-        ListKind::Rules => first,
-        ListKind::Labels => first,
+        _ => first,
     }
 }
 
@@ -203,7 +200,7 @@ fn read_list(kind: ListKind, line: &[u8], at: usize, names: &[u64], store: &mut 
     loop {
         let entry = read_entry(kind, line, from, names);
         let SaidStep::To(said, next) = entry else {
-            return SaidStep::Stuck(said_stuck_at(entry));
+            return entry;
         };
         let fault = said.fault;
         tally = counted(tally, fault, said.first, shape.weight, shape.limit);
@@ -224,25 +221,14 @@ fn read_list(kind: ListKind, line: &[u8], at: usize, names: &[u64], store: &mut 
     }
 }
 
-fn takes_none(kind: ListKind) -> bool
-    ensures { λ r. ⌜ r ≡ takesNone kind ⌝ }
-{
-    match kind {
-        ListKind::Names => false,
-        ListKind::Pairs => false,
-        ListKind::Rules => false,
-        ListKind::Labels => true,
-    }
-}
-
 fn is_none(kind: ListKind, line: &[u8], at: usize) -> bool
     requires { ⌜ at ≤ length (now line) ⌝ }
     ensures { λ r. ⌜ r ≡ (takesNone kind && sameText (drop at (now (line .entry))) (ascii "none")) ⌝ }
 {
-    if !takes_none(kind) {
-        return false;
+    match kind {
+        ListKind::Labels => rest_is(line, at, b"none"),
+        _ => false,
     }
-    rest_is(line, at, b"none")
 }
 
 // A list as it stands in a line: `none` is the list of no labels.

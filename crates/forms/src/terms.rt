@@ -9,7 +9,7 @@ ghost use Rattle.meaning.specs.Legal.{isMultiAction};
 ghost use Rattle.forms.specs.Text.{past, onward, ended};
 ghost use Rattle.forms.specs.Forms.{plain, ofName, ofOne, ofTwo, ofList, termLine};
 ghost use Rattle.forms.specs.Faults.{bothBelow, inRange, worse, unless, operandsFit};
-ghost use Rattle.forms.specs.Terms.{PlainRead, oneOf, twoOf, madeOf, LineRead, Storeless, listKind, contents, listed, wrappedOf, bareSlot, TermAnswer};
+ghost use Rattle.forms.specs.Terms.{PlainRead, madeOf, LineRead, Storeless, listKind, contents, listed, wrappedOf, bareSlot, TermAnswer};
 ghost use Rattle.meaning.specs.Answers.{range, operand};
 ghost use Rattle.meaning.specs.Descriptions.{delta};
 ghost use Rattle.forms.specs.Tallies.{faultOf, foundOf};
@@ -51,46 +51,20 @@ fn finish(line: &[u8], at: usize, x: Term) -> TermStep
 }
 
 // The kinds with one number, and those with two, by their places among the kinds.
-fn one_of(k: usize, t: usize) -> Term
-    ensures { λ r. ⌜ (bareTerm r ≡ oneOf k t) × IsPlain r ⌝ }
-{
-    if k == 3 {
-        return Term::Ref(t);
-    }
-    if k == 4 {
-        return Term::Sum(t);
-    }
-    Term::Cond(t)
-}
-
-fn two_of(k: usize, t: usize, u: usize) -> Term
-    ensures { λ r. ⌜ (bareTerm r ≡ twoOf k t u) × IsPlain r ⌝ }
-{
-    if k == 6 {
-        return Term::Choice(t, u);
-    }
-    if k == 7 {
-        return Term::IfElse(t, u);
-    }
-    if k == 8 {
-        return Term::Seq(t, u);
-    }
-    if k == 9 {
-        return Term::Merge(t, u);
-    }
-    if k == 10 {
-        return Term::LMerge(t, u);
-    }
-    Term::Sync(t, u)
-}
-
 fn made_of(k: usize, t: usize, u: usize) -> Term
     ensures { λ r. ⌜ (bareTerm r ≡ madeOf k t u) × IsPlain r ⌝ }
 {
-    if k < 6 {
-        return one_of(k, u);
+    match k {
+        3 => Term::Ref(u),
+        4 => Term::Sum(u),
+        5 => Term::Cond(u),
+        6 => Term::Choice(t, u),
+        7 => Term::IfElse(t, u),
+        8 => Term::Seq(t, u),
+        9 => Term::Merge(t, u),
+        10 => Term::LMerge(t, u),
+        _ => Term::Sync(t, u),
     }
-    two_of(k, t, u)
 }
 
 // The last number of a line, or the only one.
@@ -131,41 +105,33 @@ fn read_act(line: &[u8], at: usize, names: &[u64], n: usize) -> TermStep
     TermStep::To(Term::Act(a), name_fault(a, names.len()))
 }
 
-// The kinds with one operand and a list.
-pub enum WrapKind {
-    Block,
-    Hide,
-    Rename,
-    Comm,
-    Allow,
-}
-
-fn list_kind(w: WrapKind) -> ListKind
-    ensures { λ r. ⌜ r ≡ listKind w ⌝ }
+// The kinds with one operand and a list, by their places too.
+fn list_kind(k: usize) -> ListKind
+    ensures { λ r. ⌜ r ≡ listKind (wrapOf k) ⌝ }
 {
-    match w {
-        WrapKind::Block => ListKind::Names,
-        WrapKind::Hide => ListKind::Names,
-        WrapKind::Rename => ListKind::Pairs,
-        WrapKind::Comm => ListKind::Rules,
-        WrapKind::Allow => ListKind::Labels,
+    match k {
+        12 => ListKind::Names,
+        13 => ListKind::Names,
+        14 => ListKind::Pairs,
+        15 => ListKind::Rules,
+        _ => ListKind::Labels,
     }
 }
 
-fn wrapped(w: WrapKind, place: Place) -> Operator
-    ensures { λ r. ⌜ r ≡ wrappedOf w place ⌝ }
+fn wrapped(k: usize, place: Place) -> Operator
+    ensures { λ r. ⌜ r ≡ wrappedOf (wrapOf k) place ⌝ }
 {
-    match w {
-        WrapKind::Block => Operator::Block(place),
-        WrapKind::Hide => Operator::Hide(place),
-        WrapKind::Rename => Operator::Rename(place),
-        WrapKind::Comm => Operator::Comm(place),
-        WrapKind::Allow => Operator::Allow(place),
+    match k {
+        12 => Operator::Block(place),
+        13 => Operator::Hide(place),
+        14 => Operator::Rename(place),
+        15 => Operator::Comm(place),
+        _ => Operator::Allow(place),
     }
 }
 
 fn read_wrap(
-    w: WrapKind,
+    k: usize,
     line: &[u8],
     at: usize,
     names: &[u64],
@@ -173,7 +139,7 @@ fn read_wrap(
     store: &mut [u64],
 ) -> TermStep
     requires { ⌜ (at ≤ length (now line)) × (length (now names) ≤ 12) × (length (now line) ≤ 8192) × (n < 96) ⌝ }
-    ensures { λ r. ⌜ LineRead (map (nameOf 8) (now (names .entry))) n (now (line .entry)) (ofList (contents w) (listed w) (drop at (now (line .entry)))) (now (store .entry)) (now (store .exit)) r ⌝ }
+    ensures { λ r. ⌜ LineRead (map (nameOf 8) (now (names .entry))) n (now (line .entry)) (ofList (contents (wrapOf k)) (listed (wrapOf k)) (drop at (now (line .entry)))) (now (store .entry)) (now (store .exit)) r ⌝ }
 {
     let operand = number_after(line, at, b" ");
     let Step::To(t, after) = operand else {
@@ -183,7 +149,7 @@ fn read_wrap(
     let Step::To(_, from) = space else {
         return TermStep::Stuck(stuck_at(space));
     };
-    let kind = list_kind(w);
+    let kind = list_kind(k);
     let list = read_whole(kind, line, from, names, store);
     let SaidStep::To(said, next) = list else {
         return TermStep::Stuck(said_stuck_at(list));
@@ -197,7 +163,7 @@ fn read_wrap(
         entries: said.first as usize,
     };
     let fault = said.fault;
-    let operator = wrapped(w, place);
+    let operator = wrapped(k, place);
     TermStep::To(Term::Wrap(operator, t as usize), fault)
 }
 
@@ -215,7 +181,12 @@ fn in_range(x: Term, n: usize, equations: usize) -> bool
         Term::Delta | Term::Tau | Term::Act(_) => true,
         Term::Ref(e) => e < equations,
         Term::Sum(t) | Term::Cond(t) | Term::Wrap(_, t) => t < n,
-        Term::Choice(t, u) | Term::IfElse(t, u) | Term::Seq(t, u) | Term::Merge(t, u) | Term::LMerge(t, u) | Term::Sync(t, u) => both_below(t, u, n),
+        Term::Choice(t, u)
+        | Term::IfElse(t, u)
+        | Term::Seq(t, u)
+        | Term::Merge(t, u)
+        | Term::LMerge(t, u)
+        | Term::Sync(t, u) => both_below(t, u, n),
     }
 }
 
@@ -227,24 +198,6 @@ fn is_multi(x: Term) -> bool
         Term::Tau | Term::Act(_) | Term::Sync(_, _) => true,
         _ => false,
     }
-}
-
-fn wrap_of(k: usize) -> WrapKind
-    ensures { λ r. ⌜ r ≡ wrapOf k ⌝ }
-{
-    if k == 12 {
-        return WrapKind::Block;
-    }
-    if k == 13 {
-        return WrapKind::Hide;
-    }
-    if k == 14 {
-        return WrapKind::Rename;
-    }
-    if k == 15 {
-        return WrapKind::Comm;
-    }
-    WrapKind::Allow
 }
 
 // What follows the word of the kind at a place among the kinds.
@@ -274,7 +227,7 @@ fn read_kind(
     if k < 12 {
         return read_two(k, line, at);
     }
-    read_wrap(wrap_of(k), line, at, names, n, store)
+    read_wrap(k, line, at, names, n, store)
 }
 
 // A word before the kind's may have been stuck farther on.

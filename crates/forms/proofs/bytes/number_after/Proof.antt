@@ -1,7 +1,7 @@
 -- `forms::bytes::number_after` meets its contract: one step after the other.
 -- Assumes nothing.
 use borrow.Author.Needs.{needs}
-use Rattle.forms.proofs.Steps.{went, halts, onwards}
+use Rattle.forms.proofs.Steps.{went, halted, onwards}
 use Rattle.forms.proofs.bytes.number_after.Statement.{statement}
 use Rattle.forms.proofs.bytes.number_after.Tie as tie
 
@@ -14,11 +14,8 @@ enum-known-first c = c .match .keys1
 enum-told : tie.Need-enum-told
 enum-told c = c .match .keys2
 
-stuck-at-requires : tie.Need-stuck-at-requires
-stuck-at-requires c κs = tt
-
 returns : tie.Need-returns
-returns c = record { stands = halts _ (c .before .before .before .read-literal .ensures) (c .before .enum-told .given .1) (c .stuck-at .ensures) }
+returns c = halted _ (c .before .before .read-literal .ensures) (c .enum-told .given .1)
 
 read-number-requires : tie.Need-read-number-requires
 read-number-requires c κs = went (c .before .before .before .read-literal .ensures) (c .before .first .given .1) .within
@@ -33,7 +30,6 @@ number-after-spec =
     read-literal-requires
     enum-known-first
     enum-told
-    stuck-at-requires
     returns
     read-number-requires
     returns-2)

@@ -1,3 +1,5 @@
+-- `forms::bytes::read_word` meets its contract: the bytes up to the name's end, packed.
+-- Assumes nothing.
 use borrow.Author.Needs.{needs}
 use mathlib.Core.Path.{_≡_, refl, sym, ap, _∙_}
 use Prim.Native.Nat.{_≤_, _<_, _-_, _+_}
@@ -5,52 +7,34 @@ use native.Mathlib.Omega.{arith}
 use lib.ListN.{length, take, drop, getD}
 use Rattle.table.specs.Decoded.{nameOf}
 use Rattle.forms.proofs.Words.{named, name-back}
-use Rattle.forms.proofs.Steps.{went, stays, otherwise}
+use Rattle.forms.proofs.Steps.{went, stuck-still, otherwise}
 use Rattle.forms.proofs.bytes.read_word.Statement.{statement}
 use Rattle.forms.proofs.bytes.read_word.Tie as tie
-use Rattle.forms.proofs.bytes.read_word.Reads as reads
-use Rattle.forms.proofs.bytes.read_word.Lts as lts
-use Rattle.forms.proofs.bytes.packed.Reads as packed-reads
-use Rattle.forms.proofs.bytes.stuck_at.Reads as stuck-at-reads
-use Rattle.forms.proofs.bytes.word_end.Reads as word-end-reads
 
--- src/bytes.rt:134:9
 word-end-requires : tie.Need-word-end-requires
 word-end-requires c κs = search needs
 
--- src/bytes.rt:135:21
 enum-known-end : tie.Need-enum-known-end
 enum-known-end c = c .match .keys1
 
--- src/bytes.rt:136:28
 enum-told : tie.Need-enum-told
 enum-told c = c .match .keys2
 
--- src/bytes.rt:136:28
-stuck-at-requires : tie.Need-stuck-at-requires
-stuck-at-requires c κs = tt
-
--- src/bytes.rt:136:9
 returns : tie.Need-returns
-returns c = record { stands = stays (c .before .before .before .word-end .ensures) (c .before .enum-told .given .1) (c .stuck-at .ensures) }
+returns c = stuck-still (c .before .before .word-end .ensures) (c .enum-told .given .1)
 
--- src/bytes.rt:138:21
 sub-packed : tie.Need-sub-packed
 sub-packed c = went (c .before .before .before .word-end .ensures) (c .before .end .given .1) .after
 
--- src/bytes.rt:138:21
 part-packed-start : tie.Need-part-packed-start
 part-packed-start c = went (c .before .before .before .word-end .ensures) (c .before .end .given .1) .after
 
--- src/bytes.rt:138:21
 part-packed-end : tie.Need-part-packed-end
 part-packed-end c = went (c .before .before .before .word-end .ensures) (c .before .end .given .1) .within
 
--- src/bytes.rt:138:14
 packed-requires : tie.Need-packed-requires
 packed-requires c κs = named _ (went (c .before .before .before .before .word-end .ensures) (c .before .before .end .given .1) .says) .0
 
--- src/bytes.rt:130:1
 returns-2 : tie.Need-returns-2
 returns-2 c =
     let s = went (c .before .before .before .before .before .word-end .ensures) (c .before .before .before .end .given .1) in
@@ -63,7 +47,6 @@ read-word-spec =
     word-end-requires
     enum-known-end
     enum-told
-    stuck-at-requires
     returns
     sub-packed
     part-packed-start

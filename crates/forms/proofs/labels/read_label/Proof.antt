@@ -40,15 +40,13 @@ enum-known-part c = c .match .keys1
 enum-told : tie.Need-enum-told Inv-loop μ-loop
 enum-told c = c .match .keys2
 
-said-stuck-at-requires : tie.Need-said-stuck-at-requires Inv-loop μ-loop
-said-stuck-at-requires c κs = tt
-
 returns : tie.Need-returns Inv-loop μ-loop
 returns c =
+    let a = c .before .before .before .before .before .before .args in
     record {
       stands =
-          become (label-seen _ (drop (c .before .before .before .before .before .before .before .args .at) (c .before .before .before .before .before .before .before .args .line .now)))
-          (stuck-with partsEntry (list-stuck (c .before .before .before .before .loop .inv .1) (said-stays (c .before .before .before .read-part .ensures) (c .before .enum-told .given .1) (c .said-stuck-at .ensures))));
+          become (label-seen _ (drop (a .at) (a .line .now)))
+          (rw (c .enum-told .given .1) (stuck-with partsEntry (list-stuck (c .before .before .before .loop .inv .1) (rw (c .enum-told .given .1) at (c .before .before .read-part .ensures .stands)))));
     }
 
 known : (c : tie.After-known-told Inv-loop μ-loop) → Known (saidOf (c .before .part .given .0 .0))
@@ -110,7 +108,6 @@ read-label-spec =
     read-part-requires
     enum-known-part
     enum-told
-    said-stuck-at-requires
     returns
     counted-requires
     added-requires

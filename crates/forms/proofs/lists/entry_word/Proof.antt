@@ -1,18 +1,23 @@
--- `forms::lists::entry_word` meets its contract: each kind has its word.
+-- `forms::lists::entry_word` meets its contract: only a pair has its second number in the word.
 -- Assumes nothing.
-use Prim.Native.Nat.{_+_, _*_, _^_, _<_}
+use mathlib.Core.Path.{_≡_, refl}
+use mathlib.Core.List.{List, [], _∷_}
+use Prim.Native.Nat.{ℕ, _+_, _*_, _^_, _<_}
 use native.Mathlib.Omega.{arith}
+use types.Run.{OneOf, miss}
+use denote.Enum.Declared.{tagOf}
+use Rattle.forms.specs.declared.lists.ListKind.{ListKind}
+use Rattle.forms.specs.declared.lists.ListKind.the-variants.{Names, Pairs, Rules, Labels}
+use Rattle.forms.specs.Lists.{entryWord}
+use Rattle.forms.proofs.lists.ListKind.{the-type}
 use Rattle.forms.proofs.lists.entry_word.Statement.{statement}
 use Rattle.forms.proofs.lists.entry_word.Tie as tie
 
 enum-told : tie.Need-enum-told
 enum-told c = c .match .keys1
 
-enum-told-2 : tie.Need-enum-told-2
-enum-told-2 c = c .match .keys2
-
-fits : (c : tie.After-enum-told2) → c .before .before .args .first + 32 * c .before .before .args .second < 2 ^ 64
-fits c = rw (c .enum-told2 .given .1) at (c .before .before .pre)
+fits : (c : tie.After-enum-told) → c .before .before .args .first + 32 * c .before .before .args .second < 2 ^ 64
+fits c = rw (c .enum-told .given .1) at (c .before .before .pre)
 
 mul-result : tie.Need-mul-result
 mul-result c = let h = fits c in omega arith
@@ -20,35 +25,17 @@ mul-result c = let h = fits c in omega arith
 add-result : tie.Need-add-result
 add-result c = let h = fits c in omega arith
 
-enum-told-3 : tie.Need-enum-told-3
-enum-told-3 c = c .match .keys3
-
-enum-told-4 : tie.Need-enum-told-4
-enum-told-4 c = c .match .keys4
-
 returns : tie.Need-returns
 returns c = rw (c .enum-told .given .1)
 
+no-pair : (kind : ListKind) (first second : ℕ) → OneOf (0 ∷ 2 ∷ 3 ∷ []) (tagOf the-type kind) → first ≡ entryWord kind first second
+no-pair Names first second k = refl
+no-pair Pairs first second k = absurd (miss (0 ∷ 2 ∷ 3 ∷ []) 1 tt k)
+no-pair Rules first second k = refl
+no-pair Labels first second k = refl
+
 returns-2 : tie.Need-returns-2
-returns-2 c = rw (c .enum-told2 .given .1)
-
-returns-3 : tie.Need-returns-3
-returns-3 c = rw (c .enum-told3 .given .1)
-
-returns-4 : tie.Need-returns-4
-returns-4 c = rw (c .enum-told4 .given .1)
+returns-2 c = let a = c .before .args in no-pair (a .kind) (a .first) (a .second) (c .match .keys2)
 
 pub entry-word-spec : {M : Type 1} → statement M
-entry-word-spec =
-    tie.close
-    (tie.spec
-    enum-told
-    enum-told-2
-    mul-result
-    add-result
-    enum-told-3
-    enum-told-4
-    returns
-    returns-2
-    returns-3
-    returns-4)
+entry-word-spec = tie.close (tie.spec enum-told mul-result add-result returns returns-2)

@@ -1,16 +1,20 @@
 -- `forms::lists::is_none` meets its contract: only a list of labels can be `none`.
 -- Assumes nothing.
 use borrow.Author.Needs.{needs}
-use mathlib.Core.Path.{_≡_, refl, sym, ap, _∙_}
-use borrow.Author.Tests.{not-true, not-false}
+use mathlib.Core.Path.{_≡_, refl}
+use mathlib.Core.Bool.{Bool, false, _&&_}
+use mathlib.Core.List.{[], _∷_}
+use types.Run.{OneOf, miss}
+use denote.Enum.Declared.{tagOf}
+use Rattle.forms.specs.declared.lists.ListKind.{ListKind}
+use Rattle.forms.specs.declared.lists.ListKind.the-variants.{Names, Pairs, Rules, Labels}
+use Rattle.forms.specs.Lists.{takesNone}
+use Rattle.forms.proofs.lists.ListKind.{the-type}
 use Rattle.forms.proofs.lists.is_none.Statement.{statement}
 use Rattle.forms.proofs.lists.is_none.Tie as tie
 
-takes-none-requires : tie.Need-takes-none-requires
-takes-none-requires c κs = tt
-
-returns : tie.Need-returns
-returns c = rw (sym (c .before .takes-none .ensures) ∙ not-true _ (c .if1 .taken))
+enum-told : tie.Need-enum-told
+enum-told c = c .match .keys1
 
 slice-aggregate-rest-is : tie.Need-slice-aggregate-rest-is
 slice-aggregate-rest-is c = refl
@@ -18,15 +22,17 @@ slice-aggregate-rest-is c = refl
 rest-is-requires : tie.Need-rest-is-requires
 rest-is-requires c κs = search needs
 
+returns : tie.Need-returns
+returns c = rw (c .before .before .enum-told .given .1) (c .rest-is .ensures)
+
+no-labels : (kind : ListKind) (b : Bool) → OneOf (0 ∷ 1 ∷ 2 ∷ []) (tagOf the-type kind) → false ≡ (takesNone kind && b)
+no-labels Names b k = refl
+no-labels Pairs b k = refl
+no-labels Rules b k = refl
+no-labels Labels b k = absurd (miss (0 ∷ 1 ∷ 2 ∷ []) 3 tt k)
+
 returns-2 : tie.Need-returns-2
-returns-2 c = rw (sym (c .before .before .before .takes-none .ensures) ∙ not-false _ (c .before .before .if1 .left)) (c .rest-is .ensures)
+returns-2 c = no-labels (c .before .before .args .kind) _ (c .match .keys2)
 
 pub is-none-spec : {M : Type 1} → statement M
-is-none-spec =
-    tie.close
-    (tie.spec
-    takes-none-requires
-    returns
-    slice-aggregate-rest-is
-    rest-is-requires
-    returns-2)
+is-none-spec = tie.close (tie.spec enum-told slice-aggregate-rest-is rest-is-requires returns returns-2)

@@ -43,17 +43,14 @@ enum-known-entry c = c .match .keys1
 enum-told : tie.Need-enum-told Inv-loop μ-loop
 enum-told c = c .match .keys2
 
-said-stuck-at-requires : tie.Need-said-stuck-at-requires Inv-loop μ-loop
-said-stuck-at-requires c κs = tt
-
 same-length : tie.Need-same-length Inv-loop μ-loop
-same-length c = ap length (c .before .before .before .before .loop .inv .3 .store-is) ∙ length-over _ _
+same-length c = ap length (c .before .before .before .loop .inv .3 .store-is) ∙ length-over _ _
 
 returns : tie.Need-returns Inv-loop μ-loop
 returns c =
-    let s = list-stuck (c .before .before .before .before .loop .inv .1) (said-stays (c .before .before .before .read-entry .ensures) (c .before .enum-told .given .1) (c .said-stuck-at .ensures)) in
+    let s = list-stuck (c .before .before .before .loop .inv .1) (rw (c .enum-told .given .1) at (c .before .before .read-entry .ensures .stands)) in
     record {
-      read = record { stands = stuck-with (listEntry (c .before .before .before .before .before .before .before .before .before .args .kind)) s };
+      read = record { stands = rw (c .enum-told .given .1) (stuck-with (listEntry (c .before .before .before .before .before .before .before .before .args .kind)) s) };
       stored = λ es p h. absurd (not-read (s .says) h);
     }
 
@@ -146,7 +143,6 @@ read-list-spec =
     read-entry-requires
     enum-known-entry
     enum-told
-    said-stuck-at-requires
     same-length
     returns
     counted-requires

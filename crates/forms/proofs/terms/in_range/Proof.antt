@@ -76,16 +76,16 @@ returns-2 c = rw (c .before .x .given .1)
 returns-3 : tie.Need-returns-3
 returns-3 c =
     let h = c .both-below .ensures in
-    elim (c .before .match .came)
-    [ inl a ↦ rw (a .1 .given .1, ← a .3, ← a .4) h
-    | inr b ↦ elim b [ inl a ↦ rw (a .1 .given .1, ← a .3, ← a .4) h | inr b ↦ elim b [ inl a ↦ rw (a .1 .given .1, ← a .3, ← a .4) h | inr b ↦ elim b [ inl a ↦ rw (a .1 .given .1, ← a .3, ← a .4) h | inr b ↦ elim b [ inl a ↦ rw (a .1 .given .1, ← a .3, ← a .4) h | inr a ↦ rw (a .1 .given .1, ← a .3, ← a .4) h ] ] ] ]
+    elim (c .before .match .came) [
+      | inl a ↦ rw (a .1 .given .1, ← a .3, ← a .4) h
+      | inr b ↦ elim b [ inl a ↦ rw (a .1 .given .1, ← a .3, ← a .4) h | inr b ↦ elim b [ inl a ↦ rw (a .1 .given .1, ← a .3, ← a .4) h | inr b ↦ elim b [ inl a ↦ rw (a .1 .given .1, ← a .3, ← a .4) h | inr b ↦ elim b [ inl a ↦ rw (a .1 .given .1, ← a .3, ← a .4) h | inr a ↦ rw (a .1 .given .1, ← a .3, ← a .4) h ] ] ] ]
     ]
 
 returns-4 : tie.Need-returns-4
 returns-4 c =
-    elim (c .match .came)
-    [ inl a ↦ rw (a .3, a .1 .given .1)
-    | inr b ↦ elim b [ inl a ↦ rw (a .3, a .1 .given .1) | inr a ↦ rw (a .3, a .1 .given .1) ]
+    elim (c .match .came) [
+      | inl a ↦ rw (a .3, a .1 .given .1)
+      | inr b ↦ elim b [ inl a ↦ rw (a .3, a .1 .given .1) | inr a ↦ rw (a .3, a .1 .given .1) ]
     ]
 
 pub in-range-spec : {M : Type 1} → statement M

@@ -64,20 +64,17 @@ returns-5 c =
     (rest-two (a .k) (c .before .before .before .before .before .before .before .before .before .pre .4) (drop (a .at) (a .line .now)) (c .before .before .if4 .left) (c .before .if5 .taken))
     (plain-line (map (nameOf 8) (a .names .now)) (a .n) (a .line .now) (ofTwo (madeOf (a .k)) (drop (a .at) (a .line .now))) (a .store .now) (c .read-two .result) (c .read-two .ensures))
 
-wrap-of-requires : tie.Need-wrap-of-requires
-wrap-of-requires c κs = tt
-
 read-wrap-requires : tie.Need-read-wrap-requires
-read-wrap-requires c κs = let p = c .before .before .before .before .before .before .before .before .before .before .pre in (p .0, p .1, p .2, p .3)
+read-wrap-requires c κs = let p = c .before .before .before .before .before .before .before .before .before .pre in (p .0, p .1, p .2, p .3)
 
 same-length : tie.Need-same-length
 same-length c = search needs
 
 returns-6 : tie.Need-returns-6
 returns-6 c =
-    let a = c .before .before .before .before .before .before .before .before .before .before .before .before .before .args in
+    let a = c .before .before .before .before .before .before .before .before .before .before .before .before .args in
     line-become (map (nameOf 8) (a .names .now)) (a .n) (a .line .now) (a .store .now) _ (c .before .before .read-wrap .result)
-    (rest-list (a .k) (c .before .before .before .before .before .before .before .before .before .before .before .before .before .pre .4) (drop (a .at) (a .line .now)) _ (c .before .before .before .before .wrap-of .ensures) (c .before .before .before .before .before .if5 .left))
+    (rest-list (a .k) (c .before .before .before .before .before .before .before .before .before .before .before .before .pre .4) (drop (a .at) (a .line .now)) (c .before .before .before .before .if5 .left))
     (c .before .before .read-wrap .ensures)
 
 pub read-kind-spec : {M : Type 1} → statement M
@@ -94,7 +91,6 @@ read-kind-spec =
     returns-4
     read-two-requires
     returns-5
-    wrap-of-requires
     read-wrap-requires
     same-length
     returns-6)

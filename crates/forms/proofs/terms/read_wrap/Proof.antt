@@ -12,6 +12,7 @@ use Rattle.forms.specs.Text.{onward, past}
 use Rattle.forms.specs.Forms.{wraps}
 use Rattle.forms.specs.Faults.{wordsOfFault}
 use Rattle.forms.specs.Lists.{over, wholeList, ListRead}
+use Rattle.forms.specs.Kinds.{wrapOf}
 use Rattle.forms.specs.Terms.{listKind, listed, wrappedOf}
 use Rattle.forms.proofs.Steps.{went, stays, said-went, said-stays}
 use Rattle.forms.proofs.Operands.{ended-none, ended-some}
@@ -36,8 +37,8 @@ stuck-at-requires c κs = tt
 
 returns : tie.Need-returns
 returns c =
-    ap (λ d. onward d (after-operand (c .before .before .before .before .before .before .before .before .args .w))) (stays (c .before .before .before .number-after .ensures) (c .before .enum-told .given .1) (c .stuck-at .ensures) .says)
-    ∙ wrap-seen (c .before .before .before .before .before .before .before .before .args .w) (drop (c .before .before .before .before .before .before .before .before .args .at) (c .before .before .before .before .before .before .before .before .args .line .now))
+    ap (λ d. onward d (after-operand (wrapOf (c .before .before .before .before .before .before .before .before .args .k)))) (stays (c .before .before .before .number-after .ensures) (c .before .enum-told .given .1) (c .stuck-at .ensures) .says)
+    ∙ wrap-seen (wrapOf (c .before .before .before .before .before .before .before .before .args .k)) (drop (c .before .before .before .before .before .before .before .before .args .at) (c .before .before .before .before .before .before .before .before .args .line .now))
 
 slice-aggregate-read-literal : tie.Need-slice-aggregate-read-literal
 slice-aggregate-read-literal c = refl
@@ -56,9 +57,9 @@ stuck-at-requires-2 c κs = tt
 
 returns-2 : tie.Need-returns-2
 returns-2 c =
-    ap (λ d. onward d (after-space (c .before .before .before .before .before .before .before .before .before .before .before .before .before .args .w) (c .before .before .before .before .before .before .operand .given .0 .0))) (stays (c .before .before .before .read-literal .ensures) (c .before .enum-told2 .given .1) (c .stuck-at2 .ensures) .says)
-    ∙ ap (λ d. onward d (after-operand (c .before .before .before .before .before .before .before .before .before .before .before .before .before .args .w))) (went (c .before .before .before .before .before .before .before .before .number-after .ensures) (c .before .before .before .before .before .before .operand .given .1) .says)
-    ∙ wrap-seen (c .before .before .before .before .before .before .before .before .before .before .before .before .before .args .w) (drop (c .before .before .before .before .before .before .before .before .before .before .before .before .before .args .at) (c .before .before .before .before .before .before .before .before .before .before .before .before .before .args .line .now))
+    ap (λ d. onward d (after-space (wrapOf (c .before .before .before .before .before .before .before .before .before .before .before .before .before .args .k)) (c .before .before .before .before .before .before .operand .given .0 .0))) (stays (c .before .before .before .read-literal .ensures) (c .before .enum-told2 .given .1) (c .stuck-at2 .ensures) .says)
+    ∙ ap (λ d. onward d (after-operand (wrapOf (c .before .before .before .before .before .before .before .before .before .before .before .before .before .args .k)))) (went (c .before .before .before .before .before .before .before .before .number-after .ensures) (c .before .before .before .before .before .before .operand .given .1) .says)
+    ∙ wrap-seen (wrapOf (c .before .before .before .before .before .before .before .before .before .before .before .before .before .args .k)) (drop (c .before .before .before .before .before .before .before .before .before .before .before .before .before .args .at) (c .before .before .before .before .before .before .before .before .before .before .before .before .before .args .line .now))
 
 list-kind-requires : tie.Need-list-kind-requires
 list-kind-requires c κs = tt
@@ -76,8 +77,8 @@ said-stuck-at-requires : tie.Need-said-stuck-at-requires
 said-stuck-at-requires c κs = tt
 
 listing : (c : tie.After-read-whole)
-    → ListRead (listKind (c .before .before .before .before .before .before .before .before .before .before .before .before .before .before .before .before .args .w)) (c .before .before .before .before .before .before .before .before .before .before .before .before .before .before .before .before .args .line .now) (c .before .before .before .before .space .given .0 .1 .0)
-    (wholeList (map (nameOf 8) (c .before .before .before .before .before .before .before .before .before .before .before .before .before .before .before .before .args .names .now)) (listKind (c .before .before .before .before .before .before .before .before .before .before .before .before .before .before .before .before .args .w)) (drop (c .before .before .before .before .space .given .0 .1 .0) (c .before .before .before .before .before .before .before .before .before .before .before .before .before .before .before .before .args .line .now))) (c .before .before .before .before .before .before .before .before .before .before .before .before .before .before .before .before .args .store .now) (c .read-whole .last .1 .1 .1 .1 .0) (c .read-whole .result)
+    → ListRead (listKind (wrapOf (c .before .before .before .before .before .before .before .before .before .before .before .before .before .before .before .before .args .k))) (c .before .before .before .before .before .before .before .before .before .before .before .before .before .before .before .before .args .line .now) (c .before .before .before .before .space .given .0 .1 .0)
+    (wholeList (map (nameOf 8) (c .before .before .before .before .before .before .before .before .before .before .before .before .before .before .before .before .args .names .now)) (listKind (wrapOf (c .before .before .before .before .before .before .before .before .before .before .before .before .before .before .before .before .args .k))) (drop (c .before .before .before .before .space .given .0 .1 .0) (c .before .before .before .before .before .before .before .before .before .before .before .before .before .before .before .before .args .line .now))) (c .before .before .before .before .before .before .before .before .before .before .before .before .before .before .before .before .args .store .now) (c .read-whole .last .1 .1 .1 .1 .0) (c .read-whole .result)
 listing c = rw (c .before .before .list-kind .ensures) at (c .read-whole .ensures)
 
 same-length : tie.Need-same-length
@@ -85,24 +86,24 @@ same-length c = search needs
 
 returns-3 : tie.Need-returns-3
 returns-3 c =
-    ap (λ d. onward d (after-list (c .before .before .before .before .before .before .before .before .before .before .before .before .before .before .before .before .before .before .before .before .before .args .w) (c .before .before .before .before .before .before .before .before .before .before .before .before .before .before .operand .given .0 .0)))
-    (wrap-stuck (c .before .before .before .before .before .before .before .before .before .before .before .before .before .before .before .before .before .before .before .before .before .args .w) (map (nameOf 8) (c .before .before .before .before .before .before .before .before .before .before .before .before .before .before .before .before .before .before .before .before .before .args .names .now)) (c .before .before .before .before .before .before .before .before .before .before .before .before .before .before .before .before .before .before .before .before .before .args .line .now) (c .before .before .before .before .before .before .before .before .before .space .given .0 .1 .0) (listing (c .before .before .before .before .before))
+    ap (λ d. onward d (after-list (wrapOf (c .before .before .before .before .before .before .before .before .before .before .before .before .before .before .before .before .before .before .before .before .before .args .k)) (c .before .before .before .before .before .before .before .before .before .before .before .before .before .before .operand .given .0 .0)))
+    (wrap-stuck (wrapOf (c .before .before .before .before .before .before .before .before .before .before .before .before .before .before .before .before .before .before .before .before .before .args .k)) (map (nameOf 8) (c .before .before .before .before .before .before .before .before .before .before .before .before .before .before .before .before .before .before .before .before .before .args .names .now)) (c .before .before .before .before .before .before .before .before .before .before .before .before .before .before .before .before .before .before .before .before .before .args .line .now) (c .before .before .before .before .before .before .before .before .before .space .given .0 .1 .0) (listing (c .before .before .before .before .before))
     (said-stays (listing (c .before .before .before .before .before) .read) (c .before .enum-told3 .given .1) (c .said-stuck-at .ensures)))
-    ∙ ap (λ d. onward d (after-space (c .before .before .before .before .before .before .before .before .before .before .before .before .before .before .before .before .before .before .before .before .before .args .w) (c .before .before .before .before .before .before .before .before .before .before .before .before .before .before .operand .given .0 .0))) (went (c .before .before .before .before .before .before .before .before .before .before .before .read-literal .ensures) (c .before .before .before .before .before .before .before .before .before .space .given .1) .says)
-    ∙ ap (λ d. onward d (after-operand (c .before .before .before .before .before .before .before .before .before .before .before .before .before .before .before .before .before .before .before .before .before .args .w))) (went (c .before .before .before .before .before .before .before .before .before .before .before .before .before .before .before .before .number-after .ensures) (c .before .before .before .before .before .before .before .before .before .before .before .before .before .before .operand .given .1) .says)
-    ∙ wrap-seen (c .before .before .before .before .before .before .before .before .before .before .before .before .before .before .before .before .before .before .before .before .before .args .w) (drop (c .before .before .before .before .before .before .before .before .before .before .before .before .before .before .before .before .before .before .before .before .before .args .at) (c .before .before .before .before .before .before .before .before .before .before .before .before .before .before .before .before .before .before .before .before .before .args .line .now))
+    ∙ ap (λ d. onward d (after-space (wrapOf (c .before .before .before .before .before .before .before .before .before .before .before .before .before .before .before .before .before .before .before .before .before .args .k)) (c .before .before .before .before .before .before .before .before .before .before .before .before .before .before .operand .given .0 .0))) (went (c .before .before .before .before .before .before .before .before .before .before .before .read-literal .ensures) (c .before .before .before .before .before .before .before .before .before .space .given .1) .says)
+    ∙ ap (λ d. onward d (after-operand (wrapOf (c .before .before .before .before .before .before .before .before .before .before .before .before .before .before .before .before .before .before .before .before .before .args .k)))) (went (c .before .before .before .before .before .before .before .before .before .before .before .before .before .before .before .before .number-after .ensures) (c .before .before .before .before .before .before .before .before .before .before .before .before .before .before .operand .given .1) .says)
+    ∙ wrap-seen (wrapOf (c .before .before .before .before .before .before .before .before .before .before .before .before .before .before .before .before .before .before .before .before .before .args .k)) (drop (c .before .before .before .before .before .before .before .before .before .before .before .before .before .before .before .before .before .before .before .before .before .args .at) (c .before .before .before .before .before .before .before .before .before .before .before .before .before .before .before .before .before .before .before .before .before .args .line .now))
 
 same-length-2 : tie.Need-same-length-2
 same-length-2 c = search needs
 
 returns-4 : tie.Need-returns-4
 returns-4 c =
-    let l = wrap-went (c .before .before .before .before .before .before .before .before .before .before .before .before .before .before .before .before .before .before .before .before .before .before .args .w) (map (nameOf 8) (c .before .before .before .before .before .before .before .before .before .before .before .before .before .before .before .before .before .before .before .before .before .before .args .names .now)) (c .before .before .before .before .before .before .before .before .before .before .before .before .before .before .before .before .before .before .before .before .before .before .args .line .now) (c .before .before .before .before .before .before .before .before .before .before .space .given .0 .1 .0) (listing (c .before .before .before .before .before .before)) (c .before .before .list .given .1) in
-    ap (λ d. onward d (λ _ m. past (wraps (listed (c .before .before .before .before .before .before .before .before .before .before .before .before .before .before .before .before .before .before .before .before .before .before .args .w) (l .0)) (c .before .before .before .before .before .before .before .before .before .before .before .before .before .before .before .operand .given .0 .0)) m)) (ended-some (c .before .before .before .before .before .before .before .before .before .before .before .before .before .before .before .before .before .before .before .before .before .before .args .line .now) (c .before .before .list .given .0 .1 .0) (c .if1 .taken))
-    ∙ ap (λ d. onward d (after-list (c .before .before .before .before .before .before .before .before .before .before .before .before .before .before .before .before .before .before .before .before .before .before .args .w) (c .before .before .before .before .before .before .before .before .before .before .before .before .before .before .before .operand .given .0 .0))) (l .1)
-    ∙ ap (λ d. onward d (after-space (c .before .before .before .before .before .before .before .before .before .before .before .before .before .before .before .before .before .before .before .before .before .before .args .w) (c .before .before .before .before .before .before .before .before .before .before .before .before .before .before .before .operand .given .0 .0))) (went (c .before .before .before .before .before .before .before .before .before .before .before .before .read-literal .ensures) (c .before .before .before .before .before .before .before .before .before .before .space .given .1) .says)
-    ∙ ap (λ d. onward d (after-operand (c .before .before .before .before .before .before .before .before .before .before .before .before .before .before .before .before .before .before .before .before .before .before .args .w))) (went (c .before .before .before .before .before .before .before .before .before .before .before .before .before .before .before .before .before .number-after .ensures) (c .before .before .before .before .before .before .before .before .before .before .before .before .before .before .before .operand .given .1) .says)
-    ∙ wrap-seen (c .before .before .before .before .before .before .before .before .before .before .before .before .before .before .before .before .before .before .before .before .before .before .args .w) (drop (c .before .before .before .before .before .before .before .before .before .before .before .before .before .before .before .before .before .before .before .before .before .before .args .at) (c .before .before .before .before .before .before .before .before .before .before .before .before .before .before .before .before .before .before .before .before .before .before .args .line .now))
+    let l = wrap-went (wrapOf (c .before .before .before .before .before .before .before .before .before .before .before .before .before .before .before .before .before .before .before .before .before .before .args .k)) (map (nameOf 8) (c .before .before .before .before .before .before .before .before .before .before .before .before .before .before .before .before .before .before .before .before .before .before .args .names .now)) (c .before .before .before .before .before .before .before .before .before .before .before .before .before .before .before .before .before .before .before .before .before .before .args .line .now) (c .before .before .before .before .before .before .before .before .before .before .space .given .0 .1 .0) (listing (c .before .before .before .before .before .before)) (c .before .before .list .given .1) in
+    ap (λ d. onward d (λ _ m. past (wraps (listed (wrapOf (c .before .before .before .before .before .before .before .before .before .before .before .before .before .before .before .before .before .before .before .before .before .before .args .k)) (l .0)) (c .before .before .before .before .before .before .before .before .before .before .before .before .before .before .before .operand .given .0 .0)) m)) (ended-some (c .before .before .before .before .before .before .before .before .before .before .before .before .before .before .before .before .before .before .before .before .before .before .args .line .now) (c .before .before .list .given .0 .1 .0) (c .if1 .taken))
+    ∙ ap (λ d. onward d (after-list (wrapOf (c .before .before .before .before .before .before .before .before .before .before .before .before .before .before .before .before .before .before .before .before .before .before .args .k)) (c .before .before .before .before .before .before .before .before .before .before .before .before .before .before .before .operand .given .0 .0))) (l .1)
+    ∙ ap (λ d. onward d (after-space (wrapOf (c .before .before .before .before .before .before .before .before .before .before .before .before .before .before .before .before .before .before .before .before .before .before .args .k)) (c .before .before .before .before .before .before .before .before .before .before .before .before .before .before .before .operand .given .0 .0))) (went (c .before .before .before .before .before .before .before .before .before .before .before .before .read-literal .ensures) (c .before .before .before .before .before .before .before .before .before .before .space .given .1) .says)
+    ∙ ap (λ d. onward d (after-operand (wrapOf (c .before .before .before .before .before .before .before .before .before .before .before .before .before .before .before .before .before .before .before .before .before .before .args .k)))) (went (c .before .before .before .before .before .before .before .before .before .before .before .before .before .before .before .before .before .number-after .ensures) (c .before .before .before .before .before .before .before .before .before .before .before .before .before .before .before .operand .given .1) .says)
+    ∙ wrap-seen (wrapOf (c .before .before .before .before .before .before .before .before .before .before .before .before .before .before .before .before .before .before .before .before .before .before .args .k)) (drop (c .before .before .before .before .before .before .before .before .before .before .before .before .before .before .before .before .before .before .before .before .before .before .args .at) (c .before .before .before .before .before .before .before .before .before .before .before .before .before .before .before .before .before .before .before .before .before .before .args .line .now))
 
 mul-first : tie.Need-mul-first
 mul-first c = omega (arith, c .before .before .before .before .before .before .before .before .before .before .before .before .before .before .before .before .before .before .before .before .before .before .pre .3)
@@ -116,21 +117,21 @@ same-length-3 c = search needs
 returns-5 : tie.Need-returns-5
 unfolding wordsOfFault
 returns-5 c =
-    let l = wrap-went (c .before .before .before .before .before .before .before .before .before .before .before .before .before .before .before .before .before .before .before .before .before .before .before .args .w) (map (nameOf 8) (c .before .before .before .before .before .before .before .before .before .before .before .before .before .before .before .before .before .before .before .before .before .before .before .args .names .now)) (c .before .before .before .before .before .before .before .before .before .before .before .before .before .before .before .before .before .before .before .before .before .before .before .args .line .now) (c .before .before .before .before .before .before .before .before .before .before .before .space .given .0 .1 .0) (listing (c .before .before .before .before .before .before .before)) (c .before .before .before .list .given .1) in
+    let l = wrap-went (wrapOf (c .before .before .before .before .before .before .before .before .before .before .before .before .before .before .before .before .before .before .before .before .before .before .before .args .k)) (map (nameOf 8) (c .before .before .before .before .before .before .before .before .before .before .before .before .before .before .before .before .before .before .before .before .before .before .before .args .names .now)) (c .before .before .before .before .before .before .before .before .before .before .before .before .before .before .before .before .before .before .before .before .before .before .before .args .line .now) (c .before .before .before .before .before .before .before .before .before .before .before .space .given .0 .1 .0) (listing (c .before .before .before .before .before .before .before)) (c .before .before .before .list .given .1) in
     record {
-      line = wraps (listed (c .before .before .before .before .before .before .before .before .before .before .before .before .before .before .before .before .before .before .before .before .before .before .before .args .w) (l .0)) (c .before .before .before .before .before .before .before .before .before .before .before .before .before .before .before .before .operand .given .0 .0);
+      line = wraps (listed (wrapOf (c .before .before .before .before .before .before .before .before .before .before .before .before .before .before .before .before .before .before .before .before .before .before .before .args .k)) (l .0)) (c .before .before .before .before .before .before .before .before .before .before .before .before .before .before .before .before .operand .given .0 .0);
       says =
-          ap (λ d. onward d (λ _ m. past (wraps (listed (c .before .before .before .before .before .before .before .before .before .before .before .before .before .before .before .before .before .before .before .before .before .before .before .args .w) (l .0)) (c .before .before .before .before .before .before .before .before .before .before .before .before .before .before .before .before .operand .given .0 .0)) m)) (ended-none (c .before .before .before .before .before .before .before .before .before .before .before .before .before .before .before .before .before .before .before .before .before .before .before .args .line .now) (c .before .before .before .list .given .0 .1 .0) (c .before .if1 .left))
-          ∙ ap (λ d. onward d (after-list (c .before .before .before .before .before .before .before .before .before .before .before .before .before .before .before .before .before .before .before .before .before .before .before .args .w) (c .before .before .before .before .before .before .before .before .before .before .before .before .before .before .before .before .operand .given .0 .0))) (l .1)
-          ∙ ap (λ d. onward d (after-space (c .before .before .before .before .before .before .before .before .before .before .before .before .before .before .before .before .before .before .before .before .before .before .before .args .w) (c .before .before .before .before .before .before .before .before .before .before .before .before .before .before .before .before .operand .given .0 .0))) (went (c .before .before .before .before .before .before .before .before .before .before .before .before .before .read-literal .ensures) (c .before .before .before .before .before .before .before .before .before .before .before .space .given .1) .says)
-          ∙ ap (λ d. onward d (after-operand (c .before .before .before .before .before .before .before .before .before .before .before .before .before .before .before .before .before .before .before .before .before .before .before .args .w))) (went (c .before .before .before .before .before .before .before .before .before .before .before .before .before .before .before .before .before .before .number-after .ensures) (c .before .before .before .before .before .before .before .before .before .before .before .before .before .before .before .before .operand .given .1) .says)
-          ∙ wrap-seen (c .before .before .before .before .before .before .before .before .before .before .before .before .before .before .before .before .before .before .before .before .before .before .before .args .w) (drop (c .before .before .before .before .before .before .before .before .before .before .before .before .before .before .before .before .before .before .before .before .before .before .before .args .at) (c .before .before .before .before .before .before .before .before .before .before .before .before .before .before .before .before .before .before .before .before .before .before .before .args .line .now));
+          ap (λ d. onward d (λ _ m. past (wraps (listed (wrapOf (c .before .before .before .before .before .before .before .before .before .before .before .before .before .before .before .before .before .before .before .before .before .before .before .args .k)) (l .0)) (c .before .before .before .before .before .before .before .before .before .before .before .before .before .before .before .before .operand .given .0 .0)) m)) (ended-none (c .before .before .before .before .before .before .before .before .before .before .before .before .before .before .before .before .before .before .before .before .before .before .before .args .line .now) (c .before .before .before .list .given .0 .1 .0) (c .before .if1 .left))
+          ∙ ap (λ d. onward d (after-list (wrapOf (c .before .before .before .before .before .before .before .before .before .before .before .before .before .before .before .before .before .before .before .before .before .before .before .args .k)) (c .before .before .before .before .before .before .before .before .before .before .before .before .before .before .before .before .operand .given .0 .0))) (l .1)
+          ∙ ap (λ d. onward d (after-space (wrapOf (c .before .before .before .before .before .before .before .before .before .before .before .before .before .before .before .before .before .before .before .before .before .before .before .args .k)) (c .before .before .before .before .before .before .before .before .before .before .before .before .before .before .before .before .operand .given .0 .0))) (went (c .before .before .before .before .before .before .before .before .before .before .before .before .before .read-literal .ensures) (c .before .before .before .before .before .before .before .before .before .before .before .space .given .1) .says)
+          ∙ ap (λ d. onward d (after-operand (wrapOf (c .before .before .before .before .before .before .before .before .before .before .before .before .before .before .before .before .before .before .before .before .before .before .before .args .k)))) (went (c .before .before .before .before .before .before .before .before .before .before .before .before .before .before .before .before .before .before .number-after .ensures) (c .before .before .before .before .before .before .before .before .before .before .before .before .before .before .before .before .operand .given .1) .says)
+          ∙ wrap-seen (wrapOf (c .before .before .before .before .before .before .before .before .before .before .before .before .before .before .before .before .before .before .before .before .before .before .before .args .k)) (drop (c .before .before .before .before .before .before .before .before .before .before .before .before .before .before .before .before .before .before .before .before .before .before .before .args .at) (c .before .before .before .before .before .before .before .before .before .before .before .before .before .before .before .before .before .before .before .before .before .before .before .args .line .now));
       term =
           ap (λ o. Wrap o (c .before .before .before .before .before .before .before .before .before .before .before .before .before .before .before .before .operand .given .0 .0))
-          (c .wrapped .ensures ∙ ap (λ k. wrappedOf (c .before .before .before .before .before .before .before .before .before .before .before .before .before .before .before .before .before .before .before .before .before .before .before .args .w) (record { at = 32 * c .before .before .before .before .before .before .before .before .before .before .before .before .before .before .before .before .before .before .before .before .before .before .before .args .n; entries = k })) (ap (λ e. e .first) (l .2))
-          ∙ listed-operator (c .before .before .before .before .before .before .before .before .before .before .before .before .before .before .before .before .before .before .before .before .before .before .before .args .w) (map (nameOf 8) (c .before .before .before .before .before .before .before .before .before .before .before .before .before .before .before .before .before .before .before .before .before .before .before .args .names .now)) (c .before .before .before .before .before .before .before .before .before .before .before .before .before .before .before .before .before .before .before .before .before .before .before .args .n) (l .0));
-      faults = ap (λ e. e .found) (l .2) ∙ listed-faults (c .before .before .before .before .before .before .before .before .before .before .before .before .before .before .before .before .before .before .before .before .before .before .before .args .w) (map (nameOf 8) (c .before .before .before .before .before .before .before .before .before .before .before .before .before .before .before .before .before .before .before .before .before .before .before .args .names .now)) (l .0);
-      stored = λ e. l .3 ∙ ap (λ ws. over ws (c .before .before .before .before .before .before .before .before .before .before .before .before .before .before .before .before .before .before .before .before .before .before .before .args .store .now)) (listed-words (c .before .before .before .before .before .before .before .before .before .before .before .before .before .before .before .before .before .before .before .before .before .before .before .args .w) (map (nameOf 8) (c .before .before .before .before .before .before .before .before .before .before .before .before .before .before .before .before .before .before .before .before .before .before .before .args .names .now)) (l .0) e);
+          (c .wrapped .ensures ∙ ap (λ k. wrappedOf (wrapOf (c .before .before .before .before .before .before .before .before .before .before .before .before .before .before .before .before .before .before .before .before .before .before .before .args .k)) (record { at = 32 * c .before .before .before .before .before .before .before .before .before .before .before .before .before .before .before .before .before .before .before .before .before .before .before .args .n; entries = k })) (ap (λ e. e .first) (l .2))
+          ∙ listed-operator (wrapOf (c .before .before .before .before .before .before .before .before .before .before .before .before .before .before .before .before .before .before .before .before .before .before .before .args .k)) (map (nameOf 8) (c .before .before .before .before .before .before .before .before .before .before .before .before .before .before .before .before .before .before .before .before .before .before .before .args .names .now)) (c .before .before .before .before .before .before .before .before .before .before .before .before .before .before .before .before .before .before .before .before .before .before .before .args .n) (l .0));
+      faults = ap (λ e. e .found) (l .2) ∙ listed-faults (wrapOf (c .before .before .before .before .before .before .before .before .before .before .before .before .before .before .before .before .before .before .before .before .before .before .before .args .k)) (map (nameOf 8) (c .before .before .before .before .before .before .before .before .before .before .before .before .before .before .before .before .before .before .before .before .before .before .before .args .names .now)) (l .0);
+      stored = λ e. l .3 ∙ ap (λ ws. over ws (c .before .before .before .before .before .before .before .before .before .before .before .before .before .before .before .before .before .before .before .before .before .before .before .args .store .now)) (listed-words (wrapOf (c .before .before .before .before .before .before .before .before .before .before .before .before .before .before .before .before .before .before .before .before .before .before .before .args .k)) (map (nameOf 8) (c .before .before .before .before .before .before .before .before .before .before .before .before .before .before .before .before .before .before .before .before .before .before .before .args .names .now)) (l .0) e);
     }
 
 pub read-wrap-spec : {M : Type 1} → statement M
