@@ -5,13 +5,17 @@ use mathlib.Core.Bool.{Bool, true, false, _&&_}
 use mathlib.Core.List.{List, [], _∷_, _++_}
 use Prim.Native.Nat.{ℕ, zero, suc, _+_, _*_, _-_, _≤_, _<_}
 use native.Mathlib.Numerals.{add-one}
-use lib.Dec.{T, leb, eqb, leb→le}
+use lib.Dec.{T, leb, ltb, eqb, leb→le}
 use lib.ListN.{length, getD, drop, drop-of-length-le}
 use lib.Seq.{drop-cons}
-use borrow.Author.Tests.{eq-eqb, ne-eqb}
+use native.Mathlib.Omega.{arith}
+use borrow.Author.Tests.{eq-eqb, ne-eqb, ltb-true, ltb-false}
 use Rattle.meaning.specs.Bytes.{Text}
 use Rattle.meaning.proofs.Tests.{and-left, and-right}
 use Rattle.forms.specs.Text.{Past, past, stuck, literal, isDigit, isLower, secondDigit, number}
+use Rattle.forms.specs.Places.{digitOf, Steps}
+use Rattle.forms.specs.declared.Step.{Step}
+use Rattle.forms.specs.declared.Step.the-variants.{To, Stuck}
 
 -- the first byte from a place on, and the rest
 pub rest-cons : (s : Text) (n : ℕ) → n < length s → drop n s ≡ getD s n 0 ∷ drop (n + 1) s
@@ -39,35 +43,102 @@ literal-all due i h = rw (drop-of-length-le due h)
 abbrev pub digit : ℕ → Bool
 digit b = leb 48 b && leb b 57
 
-module _ (line : Text) (at : ℕ) where
-  pub number-none : length line ≤ at → stuck (drop at line) ≡ number (drop at line)
-  unfolding number
-  number-none h = rw (drop-of-length-le line h)
-
-  module _ (h : at < length line) where
-    pub number-other : digit (getD line at 0) ≡ false → stuck (drop at line) ≡ number (drop at line)
-    unfolding number isDigit
-    number-other e = rw (rest-cons line at h, e, number)
-
-    pub number-zero : digit (getD line at 0) ≡ true → getD line at 0 ≡ 48 → past 0 (drop (at + 1) line) ≡ number (drop at line)
-    unfolding number isDigit
-    number-zero e z = rw (rest-cons line at h, e, eq-eqb (getD line at 0) 48 z, number)
-
-    pub number-more : digit (getD line at 0) ≡ true → (getD line at 0 ≡ 48 → ⊥) → secondDigit (getD line at 0 - 48) (drop (at + 1) line) ≡ number (drop at line)
-    unfolding number isDigit
-    number-more e z = rw (rest-cons line at h, e, ne-eqb (getD line at 0) 48 z, number)
-
-  pub second-none : (n : ℕ) → length line ≤ at → past n (drop at line) ≡ secondDigit n (drop at line)
-  unfolding secondDigit
-  second-none n h = rw (drop-of-length-le line h)
-
-  pub second-other : (n : ℕ) → at < length line → digit (getD line at 0) ≡ false → past n (drop at line) ≡ secondDigit n (drop at line)
-  unfolding secondDigit isDigit
-  second-other n h e = rw (rest-cons line at h, e, secondDigit)
-
-  pub second-more : (n : ℕ) → at < length line → digit (getD line at 0) ≡ true → past (10 * n + (getD line at 0 - 48)) (drop (at + 1) line) ≡ secondDigit n (drop at line)
-  unfolding secondDigit isDigit
-  second-more n h e = rw (rest-cons line at h, e, secondDigit)
+digit-most : (b : ℕ) → digit b ≡ true → (48 ≤ b) × (b ≤ 57)
+digit-most b e = let t : T (digit b) = rw e tt in (leb→le 48 b (and-left (leb 48 b) (leb b 57) t), leb→le b 57 (and-right (leb 48 b) (leb b 57) t))
 
 pub digit-low : (b : ℕ) → digit b ≡ true → 48 ≤ b
-digit-low b e = leb→le 48 b (and-left (leb 48 b) (leb b 57) (rw e tt))
+digit-low b e = digit-most b e .0
+
+module _ (line : Text) (at : ℕ) where
+  pub digit-none : length line ≤ at → 10 ≡ digitOf (drop at line)
+  digit-none h = rw (drop-of-length-le line h)
+
+  pub digit-other : at < length line → digit (getD line at 0) ≡ false → 10 ≡ digitOf (drop at line)
+  unfolding isDigit
+  digit-other h e = rw (rest-cons line at h, e)
+
+  pub digit-here : at < length line → digit (getD line at 0) ≡ true → getD line at 0 - 48 ≡ digitOf (drop at line)
+  unfolding isDigit
+  digit-here h e = rw (rest-cons line at h, e)
+
+  pub digit-within : digitOf (drop at line) ≤ 9 → at < length line
+  digit-within h = cases (ltb at (length line)) refl
+    where
+      cases : (t : Bool) → ltb at (length line) ≡ t → at < length line
+      cases true e = ltb-true at (length line) e
+      cases false e = let d = digit-none (ltb-false at (length line) e) in omega arith
+
+pub number-stuck : (s : Text) → 9 < digitOf s → stuck s ≡ number s
+unfolding number isDigit
+number-stuck [] h = refl
+number-stuck (b ∷ s) h = cases (isDigit b) refl
+  where
+    cases : (t : Bool) → isDigit b ≡ t → stuck (b ∷ s) ≡ number (b ∷ s)
+    cases true e = let k : 9 < b - 48 = rw e at h in let m = digit-most b e in absurd (omega arith)
+    cases false e = rw (e, number)
+
+pub second-none : (n : ℕ) (s : Text) → 9 < digitOf s → past n s ≡ secondDigit n s
+unfolding secondDigit isDigit
+second-none n [] h = refl
+second-none n (b ∷ s) h = cases (isDigit b) refl
+  where
+    cases : (t : Bool) → isDigit b ≡ t → past n (b ∷ s) ≡ secondDigit n (b ∷ s)
+    cases true e = let k : 9 < b - 48 = rw e at h in let m = digit-most b e in absurd (omega arith)
+    cases false e = rw (e, secondDigit)
+
+is-digit : (b : ℕ) (s : Text) → digitOf (b ∷ s) ≤ 9 → isDigit b ≡ true
+is-digit b s h = cases (isDigit b) refl
+  where
+    cases : (t : Bool) → isDigit b ≡ t → t ≡ true
+    cases true e = refl
+    cases false e = let k : 10 ≤ 9 = rw e at h in absurd (omega arith)
+
+module _ (line : Text) (at : ℕ) (h : digitOf (drop at line) ≤ 9) where
+  here : drop at line ≡ getD line at 0 ∷ drop (at + 1) line
+  here = rest-cons line at (digit-within line at h)
+
+  first : isDigit (getD line at 0) ≡ true
+  first = is-digit (getD line at 0) (drop (at + 1) line) (rw here at h)
+
+  value : (48 ≤ getD line at 0) × (digitOf (drop at line) ≡ getD line at 0 - 48)
+  unfolding isDigit
+  value = (digit-most (getD line at 0) first .0, rw (here, first))
+
+  pub number-zero : digitOf (drop at line) ≡ 0 → past 0 (drop (at + 1) line) ≡ number (drop at line)
+  unfolding number
+  number-zero z = let v = value in rw (here, first, eq-eqb (getD line at 0) 48 (omega arith), number)
+
+  pub number-more : 0 < digitOf (drop at line) → secondDigit (digitOf (drop at line)) (drop (at + 1) line) ≡ number (drop at line)
+  unfolding number
+  number-more z = let v = value in rw (v .1, here, first, ne-eqb (getD line at 0) 48 (λ e. omega arith), number)
+
+  pub second-more : (n : ℕ) → past (10 * n + digitOf (drop at line)) (drop (at + 1) line) ≡ secondDigit n (drop at line)
+  unfolding secondDigit
+  second-more n = rw (value .1, here, first, secondDigit)
+
+-- What a number comes to by its digits.
+module _ (line : Text) (at : ℕ) {tens : ℕ} (e : tens ≡ digitOf (drop at line)) where
+  abbrev Read : Step → Type 0
+  Read r = Steps (λ n next. n) line at r (number (drop at line))
+
+  pub number-none : at ≤ length line → 9 < tens → Read (Stuck at)
+  number-none w h = record { stands = record { says = number-stuck (drop at line) (omega arith); after = omega arith; within = w } }
+
+  module _ (h : tens ≤ 9) where
+    pub first-within : at < length line
+    first-within = digit-within line at (omega arith)
+
+    pub zero-read : tens ≡ 0 → Read (To 0 (at + 1))
+    zero-read z = let w = first-within in record { stands = record { says = number-zero line at (omega arith) (omega arith); after = omega arith; within = omega arith } }
+
+    module _ (z : tens ≡ 0 → ⊥) {ones : ℕ} (f : ones ≡ digitOf (drop (at + 1) line)) where
+      more : secondDigit tens (drop (at + 1) line) ≡ number (drop at line)
+      more = rw e (number-more line at (omega arith) (omega arith))
+
+      pub one-read : 9 < ones → Read (To tens (at + 1))
+      one-read k = let w = first-within in record { stands = record { says = second-none tens (drop (at + 1) line) (omega arith) ∙ more; after = omega arith; within = omega arith } }
+
+      pub two-read : ones ≤ 9 → Read (To (10 * tens + ones) (at + 1 + 1))
+      two-read k =
+          let w = digit-within line (at + 1) (omega arith) in
+          record { stands = record { says = rw f (second-more line (at + 1) (omega arith) tens) ∙ more; after = omega arith; within = omega arith } }

@@ -1,16 +1,27 @@
 -- What the answers of the line readers stand for: a place in the line is the text from there on.
 -- Assumes nothing.
 use mathlib.Core.Path.{_≡_}
-use Prim.Native.Nat.{ℕ, _≤_}
+use mathlib.Core.Bool.{Bool, true, false}
+use mathlib.Core.List.{[], _∷_}
+use Prim.Native.Nat.{ℕ, _-_, _≤_}
 use lib.ListN.{length, drop}
 use Rattle.meaning.specs.Bytes.{Text}
-use Rattle.forms.specs.Text.{Past, past, stuck}
+use Rattle.forms.specs.Text.{Past, past, stuck, isDigit}
 use Rattle.forms.specs.Tallies.{foundOf, Said}
 use Rattle.forms.specs.declared.labels.Said as C
 use Rattle.forms.specs.declared.labels.SaidStep.{SaidStep}
 use Rattle.forms.specs.declared.labels.SaidStep.the-variants as S
 use Rattle.forms.specs.declared.Step.{Step}
 use Rattle.forms.specs.declared.Step.the-variants.{To, Stuck}
+
+-- the digit with which a text begins, 10 where it does not
+abbrev digitIf : Bool → ℕ → ℕ
+digitIf true b = b - 48
+digitIf false b = 10
+
+abbrev pub digitOf : Text → ℕ
+digitOf [] = 10
+digitOf (b ∷ s) = digitIf (isDigit b) b
 
 abbrev pub placeOf : Step → ℕ
 placeOf (To v next) = next

@@ -10,7 +10,7 @@ ghost use lib.Dec.{leb};
 ghost use Rattle.table.specs.Decoded.{nameOf};
 ghost use Rattle.table.specs.Encoded.{wordOf};
 ghost use Rattle.forms.specs.Text.{onward, literal, starts, sameText, isLower, isDigit, number, word};
-ghost use Rattle.forms.specs.Places.{placeOf, Steps};
+ghost use Rattle.forms.specs.Places.{digitOf, placeOf, Steps};
 use crate::Step;
 
 pub fn stuck_at(s: Step) -> usize
@@ -47,31 +47,37 @@ fn between(b: u8, low: u8, high: u8) -> bool
     low <= b && b <= high
 }
 
+// The digit at a place, 10 where there is none.
+fn digit_at(line: &[u8], at: usize) -> u64
+    ensures { λ r. ⌜ r ≡ digitOf (drop at (now (line .entry))) ⌝ }
+{
+    if line.len() <= at {
+        return 10;
+    }
+    let b = line[at];
+    if !between(b, 48, 57) {
+        return 10;
+    }
+    (b - 48) as u64
+}
+
 // A decimal number: one or two digits, no leading zero.
 pub fn read_number(line: &[u8], at: usize) -> Step
     requires { ⌜ at ≤ length (now line) ⌝ }
     ensures { λ r. ⌜ Steps (λ n next. n) (now (line .entry)) at r (number (drop at (now (line .entry)))) ⌝ }
 {
-    if line.len() <= at {
-        return Step::Stuck(at);
-    }
-    let first = line[at];
-    if !between(first, 48, 57) {
+    let tens = digit_at(line, at);
+    if 9 < tens {
         return Step::Stuck(at);
     }
     let next = at + 1;
-    if first == 48 {
+    if tens == 0 {
         return Step::To(0, next);
     }
-    let tens = (first - 48) as u64;
-    if line.len() <= next {
+    let ones = digit_at(line, next);
+    if 9 < ones {
         return Step::To(tens, next);
     }
-    let second = line[next];
-    if !between(second, 48, 57) {
-        return Step::To(tens, next);
-    }
-    let ones = (second - 48) as u64;
     let both = 10 * tens + ones;
     let after = next + 1;
     Step::To(both, after)
