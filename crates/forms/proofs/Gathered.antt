@@ -16,7 +16,7 @@ use Rattle.forms.specs.Text.{Past, past, stuck, onward, literal, byte, s
 use Rattle.forms.specs.Tallies.{Said}
 use Rattle.forms.specs.Places.{Stands}
 use Rattle.forms.specs.Entries.{seen}
-use Rattle.forms.proofs.Rests.{rest-cons, literal-more}
+use Rattle.forms.proofs.Rests.{rest-cons, sign-within, literal-more}
 
 -- One entry, and what follows it.
 abbrev with-first : {A : Type 0} → A → Past (List A) → Past (List A)
@@ -89,16 +89,7 @@ module _ {A : Type 0} (say : A → Said) (by : ℕ) (item : Text → Past A) whe
 -- A sign that stands there.
 pub sign-passed : (by : ℕ) (line : Text) (next : ℕ) → starts by (drop next line) ≡ true → (next < length line) × (past tt (drop (next + 1) line) ≡ byte by (drop next line))
 unfolding literal
-sign-passed by line next e = cases (leb (length line) next) refl
-  where
-    here : next < length line → past tt (drop (next + 1) line) ≡ byte by (drop next line)
-    here h =
-        let k : starts by (getD line next 0 ∷ drop (next + 1) line) ≡ true = rw (rest-cons line next h) at e in
-        literal-more (by ∷ []) line 0 next (omega arith) h (sym (eqb-true by (getD line next 0) k))
-
-    cases : (t : Bool) → leb (length line) next ≡ t → (next < length line) × (past tt (drop (next + 1) line) ≡ byte by (drop next line))
-    cases true h = absurd (false≢true (rw (drop-of-length-le line (leb-true (length line) next h)) at e))
-    cases false h = let k = leb-false (length line) next h in (k, here k)
+sign-passed by line next e = (sign-within by line next e, literal-more by [] line next e)
 
 -- How far a list was read, with one entry more to come.
 pub record Progress (by : ℕ) (item : Text → Past Said) (line : Text) (start at : ℕ) (es : List Said) : Type 0 where

@@ -28,31 +28,15 @@ use Rattle.forms.proofs.Steps.{went, stays}
 use Rattle.forms.proofs.Farthest.{join-stuck, join-more}
 
 -- A packed word, byte by byte.
-module _ (line : Text) (next left : ℕ) (some : 0 < left) where
-  pub packed-none : (k : ℕ) → left < 256 ^ k → length line ≤ next → stuck (drop next line) ≡ literal (nameOf k left) (drop next line)
-  unfolding nameOf literal
-  packed-none zero h e = let j : left < 1 = h in absurd (omega arith)
-  packed-none (suc k) h e = rw (ne-eqb left 0 (λ z. omega (arith, z)), nameOf, drop-of-length-le line e)
+pub packed-split : (left k : ℕ) → 0 < left → left < 256 ^ k → (m : ℕ) × (left / 256 < 256 ^ m) × (nameOf k left ≡ left % 256 ∷ nameOf m (left / 256))
+unfolding nameOf
+packed-split left zero some h = let j : left < 1 = h in absurd (omega arith)
+packed-split left (suc k) some h = (k, div-lt-iff-lt-mul (lit< tt) .1 (rw (pow-suc 256 k) at h), rw (ne-eqb left 0 (λ z. omega (arith, z)), nameOf))
 
-  pub packed-other : (k : ℕ) → left < 256 ^ k → next < length line → (getD line next 0 ≡ left % 256 → ⊥) → stuck (drop next line) ≡ literal (nameOf k left) (drop next line)
-  unfolding nameOf literal
-  packed-other zero h e d = let j : left < 1 = h in absurd (omega arith)
-  packed-other (suc k) h e d = rw (ne-eqb left 0 (λ z. omega (arith, z)), nameOf, rest-cons line next e, ne-eqb (left % 256) (getD line next 0) (λ z. d (sym z)), literal)
-
-  pub packed-more : (k : ℕ) → left < 256 ^ k → next < length line → getD line next 0 ≡ left % 256
-      → (m : ℕ) × (left / 256 < 256 ^ m) × (literal (nameOf m (left / 256)) (drop (next + 1) line) ≡ literal (nameOf k left) (drop next line))
-  unfolding nameOf literal
-  packed-more zero h e d = let j : left < 1 = h in absurd (omega arith)
-  packed-more (suc k) h e d = (
-    k,
-    div-lt-iff-lt-mul (lit< tt) .1 (rw (pow-suc 256 k) at h),
-    rw (ne-eqb left 0 (λ z. omega (arith, z)), nameOf, rest-cons line next e, eq-eqb (left % 256) (getD line next 0) (sym d), literal),
-  )
-
-pub packed-all : (k : ℕ) {s : Text} → past tt s ≡ literal (nameOf k 0) s
-unfolding nameOf literal
-packed-all zero = refl
-packed-all (suc k) = refl
+pub packed-all : {left : ℕ} (k : ℕ) → left ≡ 0 → nameOf k left ≡ []
+unfolding nameOf
+packed-all zero e = refl
+packed-all (suc k) e = rw e
 
 -- One kind after the other.
 module _ (ks : List Kind) (k : ℕ) (s : Text) where

@@ -1,7 +1,7 @@
 -- The text from a place on, byte by byte, against the forms at the bottom of a line.
 -- Assumes nothing.
 use mathlib.Core.Path.{_≡_, refl, sym, ap, _∙_}
-use mathlib.Core.Bool.{Bool, true, false, _&&_}
+use mathlib.Core.Bool.{Bool, true, false, _&&_, false≢true}
 use mathlib.Core.List.{List, [], _∷_, _++_}
 use Prim.Native.Nat.{ℕ, zero, suc, _+_, _*_, _-_, _≤_, _<_}
 use native.Mathlib.Numerals.{add-one}
@@ -12,7 +12,7 @@ use native.Mathlib.Omega.{arith}
 use borrow.Author.Tests.{eq-eqb, ne-eqb, ltb-true, ltb-false}
 use Rattle.meaning.specs.Bytes.{Text}
 use Rattle.meaning.proofs.Tests.{and-left, and-right}
-use Rattle.forms.specs.Text.{Past, past, stuck, literal, isDigit, isLower, secondDigit, number}
+use Rattle.forms.specs.Text.{Past, past, stuck, starts, literal, isDigit, isLower, secondDigit, number}
 use Rattle.forms.specs.Places.{digitOf, Steps}
 use Rattle.forms.specs.declared.Step.{Step}
 use Rattle.forms.specs.declared.Step.the-variants.{To, Stuck}
@@ -21,23 +21,47 @@ use Rattle.forms.specs.declared.Step.the-variants.{To, Stuck}
 pub rest-cons : (s : Text) (n : ℕ) → n < length s → drop n s ≡ getD s n 0 ∷ drop (n + 1) s
 rest-cons s n h = rw add-one (drop-cons s n 0 h)
 
+-- A sign that stands there lies in the line.
+pub sign-within : (sign : ℕ) (line : Text) (next : ℕ) → starts sign (drop next line) ≡ true → next < length line
+sign-within sign line next e = cases (ltb next (length line)) refl
+  where
+    cases : (t : Bool) → ltb next (length line) ≡ t → next < length line
+    cases true h = ltb-true next (length line) h
+    cases false h = absurd (false≢true (rw (drop-of-length-le line (ltb-false next (length line) h)) at e))
+
 -- A word that must stand there as it is, byte by byte.
-module _ (due line : Text) (i next : ℕ) where
-  pub literal-none : i < length due → length line ≤ next → stuck (drop next line) ≡ literal (drop i due) (drop next line)
-  unfolding literal
-  literal-none h k = rw (rest-cons due i h, drop-of-length-le line k)
-
-  pub literal-other : i < length due → next < length line → (getD line next 0 ≡ getD due i 0 → ⊥) → stuck (drop next line) ≡ literal (drop i due) (drop next line)
-  unfolding literal
-  literal-other h k d = rw (rest-cons due i h, rest-cons line next k, ne-eqb (getD due i 0) (getD line next 0) (λ e. d (sym e)), literal)
-
-  pub literal-more : i < length due → next < length line → getD line next 0 ≡ getD due i 0 → literal (drop (i + 1) due) (drop (next + 1) line) ≡ literal (drop i due) (drop next line)
-  unfolding literal
-  literal-more h k e = rw (rest-cons due i h, rest-cons line next k, eq-eqb (getD due i 0) (getD line next 0) (sym e), literal)
-
-pub literal-all : (due : Text) (i : ℕ) {s : Text} → length due ≤ i → past tt s ≡ literal (drop i due) s
+pub literal-other : (c : ℕ) (w s : Text) → starts c s ≡ false → stuck s ≡ literal (c ∷ w) s
 unfolding literal
-literal-all due i h = rw (drop-of-length-le due h)
+literal-other c w [] e = refl
+literal-other c w (b ∷ s) e = rw (e, literal)
+
+pub literal-more : (c : ℕ) (w line : Text) (next : ℕ) → starts c (drop next line) ≡ true → literal w (drop (next + 1) line) ≡ literal (c ∷ w) (drop next line)
+unfolding literal
+literal-more c w line next e =
+    let r = rest-cons line next (sign-within c line next e) in
+    let k : eqb c (getD line next 0) ≡ true = rw r at e in
+    rw (r, k, literal)
+
+-- A word of which some bytes stood there, and what is left of it.
+pub record Spelling (whole left line : Text) (at next : ℕ) : Type 0 where
+  pub says : literal left (drop next line) ≡ literal whole (drop at line)
+  pub after : at ≤ next
+  pub within : next ≤ length line
+
+abbrev pub Spelled : Text → Text → ℕ → Step → Type 0
+Spelled whole line at r = Steps (λ v next. tt) line at r (literal whole (drop at line))
+
+module _ {whole left line : Text} {at next : ℕ} (s : Spelling whole left line at next) where
+  module _ {c : ℕ} {rest : Text} (e : left ≡ c ∷ rest) where
+    pub spelled-other : starts c (drop next line) ≡ false → Spelled whole line at (Stuck next)
+    spelled-other f = record { stands = record { says = literal-other c rest (drop next line) f ∙ (rw e at (s .says)); after = s .after; within = s .within } }
+
+    pub spelled-more : starts c (drop next line) ≡ true → Spelling whole rest line at (next + 1)
+    spelled-more f = let w = sign-within c line next f in record { says = literal-more c rest line next f ∙ (rw e at (s .says)); after = omega (arith, s .after); within = omega arith }
+
+  pub spelled-all : left ≡ [] → {v : ℕ} → Spelled whole line at (To v next)
+  unfolding literal
+  spelled-all e = record { stands = record { says = rw e at (s .says); after = s .after; within = s .within } }
 
 -- A number, digit by digit.
 abbrev pub digit : ℕ → Bool

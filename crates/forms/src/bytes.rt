@@ -29,10 +29,7 @@ pub fn read_literal(line: &[u8], at: usize, due: &[u8]) -> Step
     let mut next = at;
     let mut i = 0;
     while i < due.len() {
-        if line.len() <= next {
-            return Step::Stuck(next);
-        }
-        if line[next] != due[i] {
+        if !sign_at(line, next, due[i]) {
             return Step::Stuck(next);
         }
         next += 1;

@@ -8,6 +8,7 @@ ghost use Rattle.forms.specs.Forms.{ofKind, kinds};
 ghost use Rattle.forms.specs.Places.{Steps};
 ghost use Rattle.forms.specs.Kinds.{kindPlace, KindRead};
 use crate::Step;
+use crate::bytes::sign_at;
 use crate::bytes::stuck_at;
 
 // A packed word that must stand there as it is.
@@ -18,11 +19,8 @@ fn read_packed(line: &[u8], at: usize, due: u64) -> Step
     let mut next = at;
     let mut left = due;
     while 0 < left {
-        if line.len() <= next {
-            return Step::Stuck(next);
-        }
-        let b = line[next] as u64;
-        if b != left % 256 {
+        let b = (left % 256) as u8;
+        if !sign_at(line, next, b) {
             return Step::Stuck(next);
         }
         next += 1;
