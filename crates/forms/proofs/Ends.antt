@@ -20,7 +20,7 @@ use Rattle.forms.specs.declared.Step.the-variants.{To, Stuck}
 use Rattle.meaning.specs.Bytes.{ascii}
 use Rattle.forms.proofs.Rests.{rest-cons}
 use Rattle.forms.proofs.Words.{take-snoc}
-use Rattle.forms.proofs.Steps.{regrouped}
+use Rattle.forms.proofs.Steps.{halted, onwards}
 use Rattle.forms.proofs.Operands.{ended-none, ended-some}
 
 -- a value with nothing after it
@@ -58,10 +58,13 @@ module _ {A : Type 0} (f : ℕ → ℕ → A) (line : Text) (at : ℕ) {due : Pa
   ended-steps (Stuck p) s =
       record { stands = record { says = ap (λ d. onward d last-with) (s .stands .says); after = s .stands .after; within = s .stands .within } }
 
-pub count-seen : (key s : Text) → onward (onward (literal key s) (λ _ q. number q)) last-with ≡ countLine key s
-unfolding countLine
-count-seen key s = regrouped (literal key s) (λ _ q. number q) last-with
+-- A key, an item and the end.
+module _ {A : Type 0} (f : ℕ → ℕ → A) (item : Text → Past A) (key line : Text) {start : Step} (h : Steps (λ v next. tt) line 0 start (literal key (drop 0 line))) where
+  abbrev Keyed : Step → Type 0
+  Keyed r = Steps f line 0 r (onward (literal key line) (λ _ q. onward (item q) last-with))
 
-pub name-line-seen : (s : Text) → onward (onward (literal (ascii "name=") s) (λ _ q. word q)) last-with ≡ nameLine s
-unfolding nameLine
-name-line-seen s = regrouped (literal (ascii "name=") s) (λ _ q. word q) last-with
+  pub key-stuck : {p : ℕ} → start ≡ Stuck p → Keyed start
+  key-stuck e = halted _ h e
+
+  pub key-read : {v at : ℕ} {s r : Step} → start ≡ To v at → Steps f line at s (item (drop at line)) → r ≡ endedStep (length line) s → Keyed r
+  key-read {s = s} e t d = rw d (record { stands = onwards _ h e (ended-steps f line _ s t .stands) })

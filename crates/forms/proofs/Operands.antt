@@ -2,25 +2,30 @@
 -- Assumes nothing.
 use mathlib.Core.Path.{_≡_, refl, sym, ap, subst, _∙_}
 use mathlib.Core.List.{List, [], _∷_}
-use Prim.Native.Nat.{ℕ, _≤_, _<_}
+use mathlib.Core.Bool.{true, false}
+use Prim.Native.Nat.{ℕ, _+_, _≤_, _<_}
 use lib.ListN.{length, getD, drop, drop-of-length-le}
 use Rattle.meaning.specs.Bytes.{Text}
 use Rattle.meaning.specs.Descriptions as D
-use Rattle.forms.specs.Text.{Past, past, stuck, onward, ended, literal, number, word}
+use Rattle.forms.specs.Text.{Past, past, stuck, onward, ended, starts, literal, number, word}
 use Rattle.forms.specs.Forms.{Line, plain, acts, space, ofName, ofOne, ofTwo}
 use Rattle.forms.specs.declared.TermStep.{TermStep}
-use Rattle.forms.specs.Terms.{PlainRead, LineRead}
-use Rattle.forms.specs.Faults.{wordsOfFault, nameNumber, nameFault}
+use Rattle.forms.specs.Terms.{PlainRead, LineTerm, LineRead}
+use Rattle.forms.specs.Faults.{wordsOfFault}
 use Rattle.forms.specs.Tallies.{foundOf}
+use Rattle.forms.specs.Places.{saidPlace, saidOf, Says}
+use Rattle.forms.specs.Entries.{seen, nameEntry}
 use Rattle.forms.specs.Lists.{over}
 use Rattle.forms.specs.declared.TermStep.the-variants as T
-use Rattle.forms.specs.declared.Found as G
+use Rattle.forms.specs.declared.labels.Said as C
+use Rattle.forms.specs.declared.labels.SaidStep.{SaidStep}
+use Rattle.forms.specs.declared.labels.SaidStep.the-variants as S
 use Rattle.table.specs.declared.Term.{Term}
 use Rattle.table.specs.declared.Term.the-variants.{Delta, Tau, Act, Ref, Sum, Cond, Choice, IfElse, Seq, Merge, LMerge, Sync, Wrap}
 use Rattle.table.specs.Terms.{IsPlain, bareTerm}
 use Rattle.table.specs.Encoded.{termWords, termFor}
-use Rattle.forms.proofs.Rests.{rest-cons}
-use Rattle.forms.proofs.Steps.{regrouped}
+use Rattle.forms.proofs.Rests.{rest-cons, literal-other, literal-more}
+use Rattle.forms.proofs.Steps.{regrouped, said-went, said-stays, back-stuck, back-past}
 
 pub ended-none : (line : Text) (at : ℕ) → length line ≤ at → past tt [] ≡ ended (drop at line)
 unfolding ended
@@ -48,14 +53,6 @@ two-seen make s = regrouped (literal (space ∷ []) s) (λ _ q. number q) (λ t 
 
 pub plain-become : (line : Text) {due other : Past Line} (r : TermStep) → due ≡ other → PlainRead line due r → PlainRead line other r
 plain-become line r e h = subst (λ d. PlainRead line d r) e h
-
--- The name after a space, as one step, and the end of the line.
-abbrev pub named-with : Text → Text → Past Line
-named-with w q = onward (ended q) (λ _ p. past (acts w) p)
-
-pub name-seen : (s : Text) → onward (onward (literal (space ∷ []) s) (λ _ q. word q)) named-with ≡ ofName s
-unfolding ofName
-name-seen s = regrouped (literal (space ∷ []) s) (λ _ q. word q) named-with
 
 -- A term of numbers alone, as a line: it is the term at any number, and it puts nothing into the store.
 plain-term : (n : ℕ) (x : Term) → IsPlain x → x ≡ termFor n (bareTerm x)
@@ -104,11 +101,41 @@ plain-line words n line due store (T.To x f) h =
     }
 plain-line words n line due store (T.Stuck p) h = h
 
--- A name, as a line.
-pub act-line : (words : List Text) (n : ℕ) (line : Text) (due : Past Line) (store : List ℕ) {a : ℕ} {f : G.Found} (w : Text) → past (acts w) [] ≡ due
-    → a ≡ nameNumber words w → foundOf f ≡ nameFault words w → LineRead words n line due store store (T.To (Act a) f)
-unfolding wordsOfFault
-act-line words n line due store w s h k = record { line = acts w; says = s; term = ap Act h; faults = k; stored = λ _. over-nothing store }
+-- The answers on a line with a name: by the space before it, by the name, and by the end.
+module _ (words : List Text) (line : Text) (at : ℕ) where
+  pub act-no-space : starts space (drop at line) ≡ false → stuck (drop at line) ≡ ofName (drop at line)
+  unfolding ofName
+  act-no-space f = ap (λ d. onward d (λ _ r. onward (word r) (λ w q. onward (ended q) (λ _ p. past (acts w) p)))) (literal-other space [] (drop at line) f)
+
+  module _ (f : starts space (drop at line) ≡ true) {r : SaidStep} (h : Says line (at + 1) r (seen (nameEntry words) word (drop (at + 1) line))) where
+    beyond : {x : Past Line} → x ≡ onward (word (drop (at + 1) line)) (λ w q. onward (ended q) (λ _ p. past (acts w) p)) → x ≡ ofName (drop at line)
+    unfolding ofName literal
+    beyond e = e ∙ ap (λ d. onward d (λ _ r. onward (word r) (λ w q. onward (ended q) (λ _ p. past (acts w) p)))) (literal-more space [] line at f)
+
+    pub act-no-name : {p q : ℕ} → r ≡ S.Stuck p → q ≡ saidPlace r → stuck (drop q line) ≡ ofName (drop at line)
+    act-no-name e g =
+        beyond (ap (λ d. onward d (λ w q. onward (ended q) (λ _ p. past (acts w) p))) (back-stuck (nameEntry words) (word (drop (at + 1) line)) (said-stays h e g .says)))
+
+    module _ {e : C.Said} {next : ℕ} (g : r ≡ S.To e next) where
+      name : (w : Text) × (past w (drop next line) ≡ word (drop (at + 1) line)) × (saidOf e ≡ nameEntry words w)
+      name = back-past (nameEntry words) (word (drop (at + 1) line)) (said-went h g .says)
+
+      ends : {x : Past (Unit {0})} → x ≡ ended (drop next line) → onward x (λ _ p. past (acts (name .0)) p) ≡ ofName (drop at line)
+      ends k = beyond (ap (λ d. onward d (λ _ p. past (acts (name .0)) p)) k ∙ ap (λ d. onward d (λ w q. onward (ended q) (λ _ p. past (acts w) p))) (name .1))
+
+      pub act-no-end : next < length line → stuck (drop next line) ≡ ofName (drop at line)
+      act-no-end k = ends (ended-some line next k)
+
+      pub act-line : (n : ℕ) (store : List ℕ) → length line ≤ next → LineTerm words n (ofName (drop at line)) store store (Act (e .first)) (e .fault)
+      unfolding wordsOfFault
+      act-line n store k =
+          record {
+            line = acts (name .0);
+            says = ends (ended-none line next k);
+            term = ap (λ d. Act (d .first)) (name .2);
+            faults = ap (λ d. d .found) (name .2);
+            stored = λ _. over-nothing store;
+          }
 
 pub line-become : (words : List Text) (n : ℕ) (line : Text) {due other : Past Line} (before after : List ℕ) (r : TermStep) → due ≡ other
     → LineRead words n line due before after r → LineRead words n line other before after r

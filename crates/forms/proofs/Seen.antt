@@ -10,11 +10,11 @@ use borrow.Author.Tests.{leb-true, leb-false, le-leb, lt-leb}
 use lib.Dec.{leb, ltb}
 use lib.ListN.{length, length-map}
 use Rattle.meaning.specs.Bytes.{Text}
-use Rattle.meaning.specs.Answers.{name}
+use Rattle.meaning.specs.Answers.{name, amount}
 use Rattle.table.specs.Decoded.{nameOf}
-use Rattle.forms.specs.Text.{Past, past, stuck, onward, literal, number, word}
+use Rattle.forms.specs.Text.{Past, past, stuck, onward, literal, byte, number, word}
 use Rattle.forms.specs.Forms.{Parts, part, label, pair, rule, colon, greater}
-use Rattle.forms.specs.Faults.{Found, unless, nameNumber, nameFault, actions}
+use Rattle.forms.specs.Faults.{Found, worse, unless, nameNumber, nameFault, actions}
 use Rattle.forms.specs.Tallies.{Said}
 use Rattle.forms.specs.Places.{Stands, Says}
 use Rattle.forms.specs.Sides.{withRight, rightSide, Sided, twoOrMore, Enough}
@@ -42,12 +42,31 @@ module _ {A C D E : Type 0} (make : A → C → D) (say : D → E) (f : A → C 
   in-two (past a r) y z = middle a (y r) z
   in-two (stuck r) y z = refl
 
+pub carried : {A B C : Type 0} (say : A → B) (k : B → Text → Past C) (x : Past A) → onward (onward x (λ a r. past (say a) r)) k ≡ onward x (λ a r. k (say a) r)
+carried say k (past a r) = refl
+carried say k (stuck r) = refl
+
+-- a part: what its name says, with its count
+abbrev partOf : Said → ℕ → Said
+partOf e n = record { found = worse (e .found) (unless (leb 1 n) amount); first = e .first; second = n }
+
 pub part-seen : (words : List Text) (s : Text)
-    → onward (word s) (λ w r. onward (onward (literal (colon ∷ []) r) (λ _ q. number q)) (λ n p. past (partSaid words (record { name = w; times = n })) p))
-    ≡ seen (partSaid words) part s
+    → onward (seen (nameEntry words) word s) (λ e r. onward (onward (byte colon r) (λ _ q. number q)) (λ n p. past (partOf e n) p)) ≡ seen (partSaid words) part s
 unfolding part
 part-seen words s =
-    in-two (λ w n. record { name = w; times = n }) (partSaid words) (λ w n. partSaid words (record { name = w; times = n })) (λ w n. refl) (word s) (literal (colon ∷ [])) number
+    carried (nameEntry words) (λ e r. onward (onward (byte colon r) (λ _ q. number q)) (λ n p. past (partOf e n) p)) (word s)
+    ∙ in-two (λ w n. record { name = w; times = n }) (partSaid words) (λ w n. partOf (nameEntry words w) n) (λ w n. refl) (word s) (literal (colon ∷ [])) number
+
+-- the right side, as what its name says
+pub right-seen : (words : List Text) (l : Said) (s : Text)
+    → onward (byte greater s) (λ _ q. onward (seen (nameEntry words) word q) (λ e p. past (record { found = worse (l .found) (e .found); first = l .first; second = e .first }) p)) ≡ rightSide words l s
+right-seen words l s = go (byte greater s)
+  where
+    go : (x : Past (Unit {0}))
+        → onward x (λ _ q. onward (seen (nameEntry words) word q) (λ e p. past (record { found = worse (l .found) (e .found); first = l .first; second = e .first }) p))
+        ≡ onward (onward x (λ _ q. word q)) (λ w p. past (withRight words l w) p)
+    go (past u q) = carried (nameEntry words) (λ e p. past (record { found = worse (l .found) (e .found); first = l .first; second = e .first }) p) (word q)
+    go (stuck q) = refl
 
 pub said-same : {f g : Found} {a b c d : ℕ} → f ≡ g → a ≡ b → c ≡ d
     → _≡_ {A = Said} (record { found = f; first = a; second = c }) (record { found = g; first = b; second = d })
@@ -67,10 +86,6 @@ at-least-two n = cases (leb 2 n) refl
 
 rule-same : (words : List Text) (a : Parts) (w : Text) → withRight words (twoOrMore (labelEntry words a)) w ≡ ruleEntry words (record { left = a; right = w })
 rule-same words a w = rw (at-least-two (actions a))
-
-pub carried : {A B C : Type 0} (say : A → B) (k : B → Text → Past C) (x : Past A) → onward (onward x (λ a r. past (say a) r)) k ≡ onward x (λ a r. k (say a) r)
-carried say k (past a r) = refl
-carried say k (stuck r) = refl
 
 -- Entries of two sides: the right one after a left one that was read.
 pub pair-seen : (words : List Text) (s : Text) → onward (seen (nameEntry words) word s) (rightSide words) ≡ seen (pairEntry words) pair s

@@ -1,11 +1,14 @@
 -- Steps one after the other: where a step is stuck the whole is stuck there, and where it goes on the next step decides.
 -- Assumes nothing.
-use mathlib.Core.Path.{_≡_, refl, sym, ap, _∙_}
-use Prim.Native.Nat.{ℕ, _≤_}
+use mathlib.Core.Path.{_≡_, refl, sym, ap, subst, _∙_}
+use mathlib.Core.Bool.{true, false}
+use mathlib.Core.List.{[]}
+use Prim.Native.Nat.{ℕ, _+_, _≤_}
+use native.Mathlib.Omega.{arith}
 use native.Mathlib.Nat.{le-trans, le-refl}
 use lib.ListN.{length, drop}
 use Rattle.meaning.specs.Bytes.{Text}
-use Rattle.forms.specs.Text.{Past, past, stuck, onward}
+use Rattle.forms.specs.Text.{Past, past, stuck, onward, byte, starts, literal}
 use Rattle.forms.specs.declared.Step.{Step}
 use Rattle.forms.specs.declared.Step.the-variants.{To, Stuck}
 use Rattle.forms.specs.declared.labels.Said as C
@@ -13,6 +16,7 @@ use Rattle.forms.specs.declared.labels.SaidStep.{SaidStep}
 use Rattle.forms.specs.declared.labels.SaidStep.the-variants as S
 use Rattle.forms.specs.Tallies.{Said}
 use Rattle.forms.specs.Places.{placeOf, stepOf, Stands, Steps, saidPlace, saidOf, saidStep, Says}
+use Rattle.forms.proofs.Rests.{literal-other, literal-more}
 
 -- Said of any answer.
 module _ {A B : Type 0} {line : Text} {at place : ℕ} {due : Past A} (k : A → Text → Past B) where
@@ -70,6 +74,16 @@ halted k s e = record { stands = rw e (stops k (rw e at (s .stands))) }
 pub said-halted : {line : Text} {at p : ℕ} {r : SaidStep} {due : Past Said} (k : Said → Text → Past Said) → Says line at r due → r ≡ S.Stuck p → Says line at r (onward due k)
 said-halted k s e = record { stands = rw e (stops k (rw e at (s .stands))) }
 
+-- a sign that must stand there
+module _ {B : Type 0} (sign : ℕ) (line : Text) (at : ℕ) (k : Unit {0} → Text → Past B) where
+  pub no-sign : starts sign (drop at line) ≡ false → at ≤ length line → Stands line at at (stuck (drop at line)) (onward (byte sign (drop at line)) k)
+  no-sign f w = record { says = ap (λ d. onward d k) (literal-other sign [] (drop at line) f); after = le-refl at; within = w }
+
+  pub past-sign : {place : ℕ} {answer : Past B} → starts sign (drop at line) ≡ true → Stands line (at + 1) place answer (k tt (drop (at + 1) line))
+      → Stands line at place answer (onward (byte sign (drop at line)) k)
+  unfolding literal
+  past-sign f s = record { says = s .says ∙ ap (λ d. onward d k) (literal-more sign [] line at f); after = omega (arith, s .after); within = s .within }
+
 -- the same step, its number read in another way
 pub otherwise : {A : Type 0} {line : Text} {at next : ℕ} {t : Text} {a b : A} {due : Past A} → Stands line at next (past a t) due → b ≡ a → Stands line at next (past b t) due
 otherwise s h = rw h s
@@ -89,3 +103,24 @@ inner x f g s = rw regrouped at s
 
 pub says-stuck : {A : Type 0} {f : ℕ → ℕ → A} {line : Text} {at p : ℕ} {r : Step} {due : Past A} → Steps f line at r due → r ≡ Stuck p → stuck (drop p line) ≡ due
 says-stuck s e = (rw e at (s .stands)) .says
+
+-- What was read, back from what it says.
+abbrev pub textIn : {A : Type 0} → Past A → Text
+textIn (past a r) = r
+textIn (stuck r) = r
+
+abbrev pub IsStuck : {A : Type 0} → Past A → Type 0
+IsStuck (past a r) = ⊥
+IsStuck (stuck r) = Unit {0}
+
+abbrev valueOr : {A : Type 0} → A → Past A → A
+valueOr b (past a r) = a
+valueOr b (stuck r) = b
+
+pub back-stuck : {A B : Type 0} (g : A → B) (x : Past A) {t : Text} → stuck t ≡ onward x (λ a o. past (g a) o) → stuck t ≡ x
+back-stuck g (past a r) h = absurd (subst IsStuck h tt)
+back-stuck g (stuck r) h = ap stuck (ap textIn h)
+
+pub back-past : {A B : Type 0} (g : A → B) (x : Past A) {b : B} {r : Text} → past b r ≡ onward x (λ a o. past (g a) o) → (a : A) × (past a r ≡ x) × (b ≡ g a)
+back-past g (past a o) {b} h = (a, ap (past a) (ap textIn h), ap (valueOr b) h)
+back-past g (stuck o) h = absurd (subst IsStuck (sym h) tt)

@@ -3,27 +3,33 @@
 use mathlib.Core.Path.{_≡_, refl, sym, ap, subst, _∙_}
 use mathlib.Core.Bool.{Bool, true, false}
 use mathlib.Core.List.{List, [], _∷_, map}
-use Prim.Native.Nat.{ℕ, suc, _*_}
+use Prim.Native.Nat.{ℕ, suc, _+_, _*_, _≤_, _<_}
 use lib.ListN.{length, drop, length-map}
 use Rattle.meaning.specs.Bytes.{Text, ascii}
+use Rattle.table.specs.declared.Operator.{Operator}
+use Rattle.table.specs.declared.Term.the-variants.{Wrap}
 use Rattle.table.specs.Encoded.{operatorWords, operatorFor}
-use Rattle.forms.specs.Text.{Past, past, stuck, onward, sameText, ended, literal, word, separated}
+use Rattle.forms.specs.Text.{Past, past, stuck, onward, sameText, ended, starts, literal, word, separated}
 use Rattle.forms.specs.Forms.{Line, wraps, Parts, comma, space, pair, rule, label, labelList, ofList}
-use Rattle.forms.specs.Faults.{fine, worse, unless, worst, rising, labelFault, ruleFault, rulesFault, labelsFault, listFault, operatorSaid, nameNumber, pairSaid, ruleSaid, labelSaid}
+use Rattle.forms.specs.Faults.{fine, wordsOfFault, worse, unless, worst, rising, labelFault, ruleFault, rulesFault, labelsFault, listFault, operatorSaid, nameNumber, pairSaid, ruleSaid, labelSaid}
 use Rattle.forms.specs.Tallies.{Said}
-use Rattle.forms.specs.Places.{Stands, saidOf}
+use Rattle.forms.specs.Places.{placeOf, Stands, Steps, saidPlace, saidOf}
 use Rattle.forms.specs.Entries.{nameEntry, pairEntry, ruleEntry, labelEntry}
 use Rattle.forms.specs.Lists.{listFaults, listEntry, listWords, listOf, unlessNone, wholeList, over, ListRead}
-use Rattle.forms.specs.Terms.{WrapKind, Block, Hide, Rename, Comm, Allow, listKind, ContentsOf, contents, listed, wrappedOf}
+use Rattle.forms.specs.Terms.{WrapKind, Block, Hide, Rename, Comm, Allow, listKind, ContentsOf, contents, listed, wrappedOf, LineTerm}
 use Rattle.forms.specs.declared.labels.Said as C
 use Rattle.forms.specs.declared.labels.SaidStep.{SaidStep}
 use Rattle.forms.specs.declared.labels.SaidStep.the-variants as S
+use Rattle.forms.specs.declared.lists.ListKind.{ListKind}
 use Rattle.forms.specs.declared.lists.ListKind.the-variants.{Labels}
-use Rattle.forms.proofs.Steps.{regrouped, said-went, said-stays}
+use Rattle.forms.specs.declared.Step.{Step}
+use Rattle.forms.specs.declared.Step.the-variants.{To, Stuck}
+use Rattle.forms.proofs.Rests.{literal-other, literal-more}
+use Rattle.forms.proofs.Steps.{regrouped, went, stays, said-went, said-stays, back-stuck, back-past}
 use Rattle.forms.proofs.Seen.{carried}
 use Rattle.forms.proofs.Gathered.{all-too}
 use Rattle.forms.proofs.Parts.{worse-none}
-use Rattle.forms.proofs.Operands.{operand}
+use Rattle.forms.proofs.Operands.{ended-none, ended-some, operand}
 use Rattle.forms.proofs.Contents.{names-faults, pairs-faults, rules-faults, labels-faults, names-words, pairs-words, rules-words, labels-words}
 
 abbrev pub entries : (w : WrapKind) → List Text → ContentsOf w → List Said
@@ -80,27 +86,6 @@ listed-operator Rename words n c = rw (same-length (pairEntry words) (pairSaid w
 listed-operator Comm words n c = rw (same-length (ruleEntry words) (ruleSaid words) c)
 listed-operator Allow words n c = rw (same-length (labelEntry words) (labelSaid words) c)
 
--- What was read, back from what it says.
-abbrev pub textIn : {A : Type 0} → Past A → Text
-textIn (past a r) = r
-textIn (stuck r) = r
-
-abbrev pub IsStuck : {A : Type 0} → Past A → Type 0
-IsStuck (past a r) = ⊥
-IsStuck (stuck r) = Unit {0}
-
-abbrev valueOr : {A : Type 0} → A → Past A → A
-valueOr b (past a r) = a
-valueOr b (stuck r) = b
-
-back-stuck : {A B : Type 0} (g : A → B) (x : Past A) {t : Text} → stuck t ≡ onward x (λ a o. past (g a) o) → stuck t ≡ x
-back-stuck g (past a r) h = absurd (subst IsStuck h tt)
-back-stuck g (stuck r) h = ap stuck (ap textIn h)
-
-back-past : {A B : Type 0} (g : A → B) (x : Past A) {b : B} {r : Text} → past b r ≡ onward x (λ a o. past (g a) o) → (a : A) × (past a r ≡ x) × (b ≡ g a)
-back-past g (past a o) {b} h = (a, ap (past a) (ap textIn h), ap (valueOr b) h)
-back-past g (stuck o) h = absurd (subst IsStuck (sym h) tt)
-
 module _ (w : WrapKind) (words : List Text) (line : Text) (from : ℕ) {before after : List ℕ} {r : SaidStep}
     (h : ListRead (listKind w) line from (wholeList words (listKind w) (drop from line)) before after r) where
   flat : onward (wholeList words (listKind w) (drop from line)) (λ es p. past (listEntry (listKind w) es) p)
@@ -135,3 +120,48 @@ module _ (w : WrapKind) where
   pub wrap-seen : (s : Text) → onward (operand s) after-operand ≡ ofList (contents w) (listed w) s
   unfolding ofList
   wrap-seen s = regrouped (literal (space ∷ []) s) (λ _ q. Rattle.forms.specs.Text.number q) after-operand
+
+-- The answers on a line of a kind with a list: by its operand, by the space after it, by its list, and by the end.
+module _ (w : WrapKind) (words : List Text) (line : Text) (at : ℕ) where
+  abbrev Due : Past Line
+  Due = ofList (contents w) (listed w) (drop at line)
+
+  pub no-operand : {p q : ℕ} {r : Step} → Steps (λ n next. n) line at r (operand (drop at line)) → r ≡ Stuck p → q ≡ placeOf r → stuck (drop q line) ≡ Due
+  no-operand s e h = ap (λ d. onward d (after-operand w)) (stays s e h .says) ∙ wrap-seen w (drop at line)
+
+  module _ {t from : ℕ} {r : Step} (s : Steps (λ n next. n) line at r (operand (drop at line))) (e : r ≡ To t from) where
+    reach : {x : Past Line} → x ≡ after-operand w t (drop from line) → x ≡ Due
+    reach h = h ∙ ap (λ d. onward d (after-operand w)) (went s e .says) ∙ wrap-seen w (drop at line)
+
+    pub no-space : starts space (drop from line) ≡ false → stuck (drop from line) ≡ Due
+    no-space f = reach (ap (λ d. onward d (after-space w t)) (literal-other space [] (drop from line) f))
+
+    module _ (f : starts space (drop from line) ≡ true) {kind : ListKind} (j : kind ≡ listKind w) {before after : List ℕ} {l : SaidStep}
+        (h : ListRead kind line (from + 1) (wholeList words kind (drop (from + 1) line)) before after l) where
+      list : ListRead (listKind w) line (from + 1) (wholeList words (listKind w) (drop (from + 1) line)) before after l
+      list = rw j at h
+
+      beyond : {x : Past Line} → x ≡ onward (contents w (drop (from + 1) line)) (after-list w t) → x ≡ Due
+      unfolding literal
+      beyond e = reach (e ∙ ap (λ d. onward d (after-space w t)) (literal-more space [] line from f))
+
+      pub no-list : {p q : ℕ} → l ≡ S.Stuck p → q ≡ saidPlace l → stuck (drop q line) ≡ Due
+      no-list e g = beyond (ap (λ d. onward d (after-list w t)) (wrap-stuck w words line (from + 1) list (said-stays (list .read) e g)))
+
+      module _ {said : C.Said} {next : ℕ} (g : l ≡ S.To said next) where
+        pub no-end : next < length line → stuck (drop next line) ≡ Due
+        no-end k =
+            let c = wrap-went w words line (from + 1) list g in
+            beyond (ap (λ d. onward d (λ _ m. past (wraps (listed w (c .0)) t) m)) (ended-some line next k) ∙ ap (λ d. onward d (after-list w t)) (c .1))
+
+        pub wrap-line : (n : ℕ) {o : Operator} → length line ≤ next → o ≡ wrappedOf w (record { at = 32 * n; entries = said .first }) → LineTerm words n Due before after (Wrap o t) (said .fault)
+        unfolding wordsOfFault
+        wrap-line n k o =
+            let c = wrap-went w words line (from + 1) list g in
+            record {
+              line = wraps (listed w (c .0)) t;
+              says = beyond (ap (λ d. onward d (λ _ m. past (wraps (listed w (c .0)) t) m)) (ended-none line next k) ∙ ap (λ d. onward d (after-list w t)) (c .1));
+              term = ap (λ p. Wrap p t) (o ∙ ap (λ i. wrappedOf w (record { at = 32 * n; entries = i })) (ap (λ d. d .first) (c .2)) ∙ listed-operator w words n (c .0));
+              faults = ap (λ d. d .found) (c .2) ∙ listed-faults w words (c .0);
+              stored = λ z. c .3 ∙ ap (λ ws. over ws before) (listed-words w words (c .0) z);
+            }

@@ -9,7 +9,7 @@ ghost use mathlib.Core.Path.{_≡_};
 ghost use lib.Dec.{leb};
 ghost use Rattle.table.specs.Decoded.{nameOf};
 ghost use Rattle.table.specs.Encoded.{wordOf};
-ghost use Rattle.forms.specs.Text.{onward, literal, starts, sameText, isLower, isDigit, number, word};
+ghost use Rattle.forms.specs.Text.{onward, literal, byte, starts, sameText, isLower, isDigit, number, word};
 ghost use Rattle.forms.specs.Places.{digitOf, placeOf, Steps};
 use crate::Step;
 
@@ -139,29 +139,6 @@ pub fn read_word(line: &[u8], at: usize) -> Step
     Step::To(packed(&line[at..next]), next)
 }
 
-// A number after a sign, and a name after one.
-pub fn number_after(line: &[u8], at: usize, sign: &[u8]) -> Step
-    requires { ⌜ at ≤ length (now line) ⌝ }
-    ensures { λ r. ⌜ Steps (λ n next. n) (now (line .entry)) at r (onward (literal (now (sign .entry)) (drop at (now (line .entry)))) (λ _ s. number s)) ⌝ }
-{
-    let first = read_literal(line, at, sign);
-    let Step::To(_, from) = first else {
-        return first;
-    };
-    read_number(line, from)
-}
-
-pub fn word_after(line: &[u8], at: usize, sign: &[u8]) -> Step
-    requires { ⌜ at ≤ length (now line) ⌝ }
-    ensures { λ r. ⌜ Steps (λ w next. nameOf 8 w) (now (line .entry)) at r (onward (literal (now (sign .entry)) (drop at (now (line .entry)))) (λ _ s. word s)) ⌝ }
-{
-    let first = read_literal(line, at, sign);
-    let Step::To(_, from) = first else {
-        return first;
-    };
-    read_word(line, from)
-}
-
 pub fn sign_at(line: &[u8], at: usize, sign: u8) -> bool
     ensures { λ r. ⌜ r ≡ starts sign (drop at (now (line .entry))) ⌝ }
 {
@@ -169,6 +146,17 @@ pub fn sign_at(line: &[u8], at: usize, sign: u8) -> bool
         return false;
     }
     sign == line[at]
+}
+
+// A number after a sign.
+pub fn number_after(line: &[u8], at: usize, sign: u8) -> Step
+    requires { ⌜ at ≤ length (now line) ⌝ }
+    ensures { λ r. ⌜ Steps (λ n next. n) (now (line .entry)) at r (onward (byte sign (drop at (now (line .entry)))) (λ _ s. number s)) ⌝ }
+{
+    if !sign_at(line, at, sign) {
+        return Step::Stuck(at);
+    }
+    read_number(line, at + 1)
 }
 
 // Whether the rest of the line is this word.

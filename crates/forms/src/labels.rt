@@ -4,10 +4,11 @@ ghost use mathlib.Core.Path.{_≡_};
 ghost use mathlib.Core.List.{map};
 ghost use lib.ListN.{length, drop};
 ghost use Rattle.table.specs.Decoded.{nameOf};
+ghost use Rattle.forms.specs.Text.{word};
 ghost use Rattle.forms.specs.Forms.{part, label};
 ghost use Rattle.forms.specs.Places.{saidPlace, Says};
 ghost use Rattle.forms.specs.Tallies.{foundOf};
-ghost use Rattle.forms.specs.Entries.{seen, partSaid, labelEntry, unlessFaulty, Room};
+ghost use Rattle.forms.specs.Entries.{seen, nameEntry, partSaid, labelEntry, unlessFaulty, Room};
 use crate::Found;
 use crate::Step;
 use crate::bytes::number_after;
@@ -42,25 +43,42 @@ pub fn said_stuck_at(s: SaidStep) -> usize
     }
 }
 
+// A name: its number.
+pub fn read_name(line: &[u8], at: usize, names: &[u64]) -> SaidStep
+    requires { ⌜ at ≤ length (now line) ⌝ }
+    ensures { λ r. ⌜ Says (now (line .entry)) at r (seen (nameEntry (map (nameOf 8) (now (names .entry)))) word (drop at (now (line .entry)))) ⌝ }
+{
+    let name = read_word(line, at);
+    let Step::To(w, next) = name else {
+        return SaidStep::Stuck(stuck_at(name));
+    };
+    let n = find_name(names, w);
+    let said = Said {
+        fault: name_fault(n, names.len()),
+        first: n as u64,
+        second: 0,
+    };
+    SaidStep::To(said, next)
+}
+
 // A part: its name's number and its count.
 fn read_part(line: &[u8], at: usize, names: &[u64]) -> SaidStep
     requires { ⌜ at ≤ length (now line) ⌝ }
     ensures { λ r. ⌜ Says (now (line .entry)) at r (seen (partSaid (map (nameOf 8) (now (names .entry)))) part (drop at (now (line .entry)))) ⌝ }
 {
-    let name = read_word(line, at);
-    let Step::To(w, after) = name else {
-        return SaidStep::Stuck(stuck_at(name));
+    let name = read_name(line, at, names);
+    let SaidStep::To(n, after) = name else {
+        return name;
     };
-    let count = number_after(line, after, b":");
+    let count = number_after(line, after, b':');
     let Step::To(times, next) = count else {
         return SaidStep::Stuck(stuck_at(count));
     };
-    let n = find_name(names, w);
-    let known = name_fault(n, names.len());
+    let known = n.fault;
     let some = amount_unless(1 <= times);
     let said = Said {
         fault: worse_of(known, some),
-        first: n as u64,
+        first: n.first,
         second: times,
     };
     SaidStep::To(said, next)

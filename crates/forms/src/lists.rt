@@ -13,12 +13,8 @@ ghost use Rattle.forms.specs.Sides.{Enough, Sided};
 ghost use Rattle.forms.specs.Entries.{seen, nameEntry, pairEntry, ruleEntry};
 ghost use Rattle.forms.specs.Lists.{entryOf, wordCount, entryWord, weightFor, limitFor, entryStored, listOf, takesNone, wholeList, ListRead};
 use crate::Found;
-use crate::Step;
-use crate::bytes::read_word;
 use crate::bytes::rest_is;
 use crate::bytes::sign_at;
-use crate::bytes::stuck_at;
-use crate::bytes::word_after;
 use crate::faults::Tally;
 use crate::faults::amount_unless;
 use crate::faults::counted;
@@ -26,31 +22,13 @@ use crate::faults::worse_of;
 use crate::labels::Said;
 use crate::labels::SaidStep;
 use crate::labels::read_label;
-use crate::names::find_name;
-use crate::names::name_fault;
+use crate::labels::read_name;
 
 pub enum ListKind {
     Names,
     Pairs,
     Rules,
     Labels,
-}
-
-fn read_name(line: &[u8], at: usize, names: &[u64]) -> SaidStep
-    requires { ⌜ at ≤ length (now line) ⌝ }
-    ensures { λ r. ⌜ Says (now (line .entry)) at r (seen (nameEntry (map (nameOf 8) (now (names .entry)))) word (drop at (now (line .entry)))) ⌝ }
-{
-    let name = read_word(line, at);
-    let Step::To(w, next) = name else {
-        return SaidStep::Stuck(stuck_at(name));
-    };
-    let n = find_name(names, w);
-    let said = Said {
-        fault: name_fault(n, names.len()),
-        first: n as u64,
-        second: 0,
-    };
-    SaidStep::To(said, next)
 }
 
 // An entry whose left side was read: `>` and a name follow.
@@ -61,17 +39,19 @@ fn with_right(left: SaidStep, line: &[u8], names: &[u64]) -> SaidStep
     let SaidStep::To(l, after) = left else {
         return left;
     };
-    let right = word_after(line, after, b">");
-    let Step::To(w, next) = right else {
-        return SaidStep::Stuck(stuck_at(right));
+    if !sign_at(line, after, b'>') {
+        return SaidStep::Stuck(after);
+    }
+    let right = read_name(line, after + 1, names);
+    let SaidStep::To(n, next) = right else {
+        return right;
     };
-    let n = find_name(names, w);
-    let known = name_fault(n, names.len());
     let fault = l.fault;
+    let known = n.fault;
     let said = Said {
         fault: worse_of(fault, known),
         first: l.first,
-        second: n as u64,
+        second: n.first,
     };
     SaidStep::To(said, next)
 }

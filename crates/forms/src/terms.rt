@@ -20,8 +20,8 @@ use crate::Step;
 use crate::TermStep;
 use crate::bytes::number_after;
 use crate::bytes::read_literal;
+use crate::bytes::sign_at;
 use crate::bytes::stuck_at;
-use crate::bytes::word_after;
 use crate::faults::found_unless;
 use crate::faults::worse_of;
 use crate::kinds::KindStep;
@@ -29,11 +29,10 @@ use crate::kinds::find_kind;
 use crate::kinds::kind_stuck_at;
 use crate::kinds::most;
 use crate::labels::SaidStep;
+use crate::labels::read_name;
 use crate::labels::said_stuck_at;
 use crate::lists::ListKind;
 use crate::lists::read_whole;
-use crate::names::find_name;
-use crate::names::name_fault;
 use table::Operator;
 use table::Place;
 use table::Slot;
@@ -72,7 +71,7 @@ fn read_last(k: usize, t: usize, line: &[u8], at: usize) -> TermStep
     requires { ⌜ at ≤ length (now line) ⌝ }
     ensures { λ r. ⌜ PlainRead (now (line .entry)) (ofOne (madeOf k t) (drop at (now (line .entry)))) r ⌝ }
 {
-    let last = number_after(line, at, b" ");
+    let last = number_after(line, at, b' ');
     let Step::To(u, next) = last else {
         return TermStep::Stuck(stuck_at(last));
     };
@@ -83,7 +82,7 @@ fn read_two(k: usize, line: &[u8], at: usize) -> TermStep
     requires { ⌜ at ≤ length (now line) ⌝ }
     ensures { λ r. ⌜ PlainRead (now (line .entry)) (ofTwo (madeOf k) (drop at (now (line .entry)))) r ⌝ }
 {
-    let first = number_after(line, at, b" ");
+    let first = number_after(line, at, b' ');
     let Step::To(t, after) = first else {
         return TermStep::Stuck(stuck_at(first));
     };
@@ -94,15 +93,18 @@ fn read_act(line: &[u8], at: usize, names: &[u64], n: usize) -> TermStep
     requires { ⌜ at ≤ length (now line) ⌝ }
     ensures { λ r. ⌜ Storeless (map (nameOf 8) (now (names .entry))) n (now (line .entry)) (ofName (drop at (now (line .entry)))) r ⌝ }
 {
-    let name = word_after(line, at, b" ");
-    let Step::To(w, next) = name else {
-        return TermStep::Stuck(stuck_at(name));
+    if !sign_at(line, at, b' ') {
+        return TermStep::Stuck(at);
+    }
+    let name = read_name(line, at + 1, names);
+    let SaidStep::To(said, next) = name else {
+        return TermStep::Stuck(said_stuck_at(name));
     };
     if next < line.len() {
         return TermStep::Stuck(next);
     }
-    let a = find_name(names, w);
-    TermStep::To(Term::Act(a), name_fault(a, names.len()))
+    let fault = said.fault;
+    TermStep::To(Term::Act(said.first as usize), fault)
 }
 
 // The kinds with one operand and a list, by their places too.
@@ -141,16 +143,15 @@ fn read_wrap(
     requires { ⌜ (at ≤ length (now line)) × (length (now names) ≤ 12) × (length (now line) ≤ 8192) × (n < 96) ⌝ }
     ensures { λ r. ⌜ LineRead (map (nameOf 8) (now (names .entry))) n (now (line .entry)) (ofList (contents (wrapOf k)) (listed (wrapOf k)) (drop at (now (line .entry)))) (now (store .entry)) (now (store .exit)) r ⌝ }
 {
-    let operand = number_after(line, at, b" ");
+    let operand = number_after(line, at, b' ');
     let Step::To(t, after) = operand else {
         return TermStep::Stuck(stuck_at(operand));
     };
-    let space = read_literal(line, after, b" ");
-    let Step::To(_, from) = space else {
-        return TermStep::Stuck(stuck_at(space));
-    };
+    if !sign_at(line, after, b' ') {
+        return TermStep::Stuck(after);
+    }
     let kind = list_kind(k);
-    let list = read_whole(kind, line, from, names, store);
+    let list = read_whole(kind, line, after + 1, names, store);
     let SaidStep::To(said, next) = list else {
         return TermStep::Stuck(said_stuck_at(list));
     };

@@ -1,35 +1,29 @@
 -- `forms::bytes::number_after` meets its contract: one step after the other.
 -- Assumes nothing.
-use borrow.Author.Needs.{needs}
-use Rattle.forms.proofs.Steps.{went, halted, onwards}
+use mathlib.Core.Path.{sym, _∙_}
+use native.Mathlib.Omega.{arith}
+use borrow.Author.Tests.{not-true, not-false}
+use Rattle.forms.proofs.Rests.{sign-within}
+use Rattle.forms.proofs.Steps.{no-sign, past-sign}
 use Rattle.forms.proofs.bytes.number_after.Statement.{statement}
 use Rattle.forms.proofs.bytes.number_after.Tie as tie
 
-read-literal-requires : tie.Need-read-literal-requires
-read-literal-requires c κs = search needs
-
-enum-known-first : tie.Need-enum-known-first
-enum-known-first c = c .match .keys1
-
-enum-told : tie.Need-enum-told
-enum-told c = c .match .keys2
+sign-at-requires : tie.Need-sign-at-requires
+sign-at-requires c κs = tt
 
 returns : tie.Need-returns
-returns c = halted _ (c .before .before .read-literal .ensures) (c .enum-told .given .1)
+returns c = let a = c .before .before .before .args in record { stands = no-sign (a .sign) (a .line .now) (a .at) _ (sym (c .before .sign-at .ensures) ∙ not-true _ (c .if1 .taken)) (c .before .before .before .pre) }
+
+add-read-number : tie.Need-add-read-number
+add-read-number c = let a = c .before .before .before .args in let w = sign-within (a .sign) (a .line .now) (a .at) (sym (c .before .sign-at .ensures) ∙ not-false _ (c .if1 .left)) in omega arith
 
 read-number-requires : tie.Need-read-number-requires
-read-number-requires c κs = went (c .before .before .before .read-literal .ensures) (c .before .first .given .1) .within
+read-number-requires c κs = let a = c .before .before .before .args in let w = sign-within (a .sign) (a .line .now) (a .at) (sym (c .before .sign-at .ensures) ∙ not-false _ (c .if1 .left)) in omega arith
 
 returns-2 : tie.Need-returns-2
-returns-2 c = record { stands = onwards _ (c .before .before .before .before .read-literal .ensures) (c .before .before .first .given .1) (c .read-number .ensures .stands) }
+returns-2 c =
+    let a = c .before .before .before .before .args in
+    record { stands = past-sign (a .sign) (a .line .now) (a .at) _ (sym (c .before .before .sign-at .ensures) ∙ not-false _ (c .before .if1 .left)) (c .read-number .ensures .stands) }
 
 pub number-after-spec : {M : Type 1} → statement M
-number-after-spec =
-    tie.close
-    (tie.spec
-    read-literal-requires
-    enum-known-first
-    enum-told
-    returns
-    read-number-requires
-    returns-2)
+number-after-spec = tie.close (tie.spec sign-at-requires returns add-read-number read-number-requires returns-2)

@@ -9,11 +9,8 @@ use Rattle.forms.proofs.Operands.{alone-with, one-seen, plain-become}
 use Rattle.forms.proofs.terms.read_last.Statement.{statement}
 use Rattle.forms.proofs.terms.read_last.Tie as tie
 
-slice-aggregate-number-after : tie.Need-slice-aggregate-number-after
-slice-aggregate-number-after c = refl
-
 number-after-requires : tie.Need-number-after-requires
-number-after-requires c κs = c .before .before .pre
+number-after-requires c κs = c .before .pre
 
 enum-known-last : tie.Need-enum-known-last
 enum-known-last c = c .match .keys1
@@ -26,8 +23,8 @@ stuck-at-requires c κs = tt
 
 returns : tie.Need-returns
 returns c =
-    ap (λ d. onward d (λ t q. alone-with (madeOf (c .before .before .before .before .before .before .args .k) (c .before .before .before .before .before .before .args .t) t) q)) (stays (c .before .before .before .number-after .ensures) (c .before .enum-told .given .1) (c .stuck-at .ensures) .says)
-    ∙ one-seen (madeOf (c .before .before .before .before .before .before .args .k) (c .before .before .before .before .before .before .args .t)) (drop (c .before .before .before .before .before .before .args .at) (c .before .before .before .before .before .before .args .line .now))
+    ap (λ d. onward d (λ t q. alone-with (madeOf (c .before .before .before .before .before .args .k) (c .before .before .before .before .before .args .t) t) q)) (stays (c .before .before .before .number-after .ensures) (c .before .enum-told .given .1) (c .stuck-at .ensures) .says)
+    ∙ one-seen (madeOf (c .before .before .before .before .before .args .k) (c .before .before .before .before .before .args .t)) (drop (c .before .before .before .before .before .args .at) (c .before .before .before .before .before .args .line .now))
 
 made-of-requires : tie.Need-made-of-requires
 made-of-requires c κs = tt
@@ -37,17 +34,16 @@ finish-requires c κs = (went (c .before .before .before .before .number-after .
 
 returns-2 : tie.Need-returns-2
 returns-2 c =
-    plain-become (c .before .before .before .before .before .before .before .before .args .line .now) (c .finish .result)
-    (ap (λ x. alone-with x (drop (c .before .before .before .last .given .0 .1 .0) (c .before .before .before .before .before .before .before .before .args .line .now))) (c .before .made-of .ensures .0)
-    ∙ ap (λ d. onward d (λ t q. alone-with (madeOf (c .before .before .before .before .before .before .before .before .args .k) (c .before .before .before .before .before .before .before .before .args .t) t) q)) (went (c .before .before .before .before .before .number-after .ensures) (c .before .before .before .last .given .1) .says)
-    ∙ one-seen (madeOf (c .before .before .before .before .before .before .before .before .args .k) (c .before .before .before .before .before .before .before .before .args .t)) (drop (c .before .before .before .before .before .before .before .before .args .at) (c .before .before .before .before .before .before .before .before .args .line .now)))
+    plain-become (c .before .before .before .before .before .before .before .args .line .now) (c .finish .result)
+    (ap (λ x. alone-with x (drop (c .before .before .before .last .given .0 .1 .0) (c .before .before .before .before .before .before .before .args .line .now))) (c .before .made-of .ensures .0)
+    ∙ ap (λ d. onward d (λ t q. alone-with (madeOf (c .before .before .before .before .before .before .before .args .k) (c .before .before .before .before .before .before .before .args .t) t) q)) (went (c .before .before .before .before .before .number-after .ensures) (c .before .before .before .last .given .1) .says)
+    ∙ one-seen (madeOf (c .before .before .before .before .before .before .before .args .k) (c .before .before .before .before .before .before .before .args .t)) (drop (c .before .before .before .before .before .before .before .args .at) (c .before .before .before .before .before .before .before .args .line .now)))
     (c .finish .ensures)
 
 pub read-last-spec : {M : Type 1} → statement M
 read-last-spec =
     tie.close
     (tie.spec
-    slice-aggregate-number-after
     number-after-requires
     enum-known-last
     enum-told

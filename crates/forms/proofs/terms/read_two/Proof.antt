@@ -10,11 +10,8 @@ use Rattle.forms.proofs.Operands.{two-seen, plain-become}
 use Rattle.forms.proofs.terms.read_two.Statement.{statement}
 use Rattle.forms.proofs.terms.read_two.Tie as tie
 
-slice-aggregate-number-after : tie.Need-slice-aggregate-number-after
-slice-aggregate-number-after c = refl
-
 number-after-requires : tie.Need-number-after-requires
-number-after-requires c κs = c .before .before .pre
+number-after-requires c κs = c .before .pre
 
 enum-known-first : tie.Need-enum-known-first
 enum-known-first c = c .match .keys1
@@ -27,7 +24,7 @@ stuck-at-requires c κs = tt
 
 returns : tie.Need-returns
 returns c =
-    let a = c .before .before .before .before .before .before .args in
+    let a = c .before .before .before .before .before .args in
     ap (λ d. onward d (λ t q. ofOne (madeOf (a .k) t) q)) (stays (c .before .before .before .number-after .ensures) (c .before .enum-told .given .1) (c .stuck-at .ensures) .says)
     ∙ two-seen (madeOf (a .k)) (drop (a .at) (a .line .now))
 
@@ -36,7 +33,7 @@ read-last-requires c κs = went (c .before .before .before .number-after .ensure
 
 returns-2 : tie.Need-returns-2
 returns-2 c =
-    let a = c .before .before .before .before .before .before .before .args in
+    let a = c .before .before .before .before .before .before .args in
     plain-become (a .line .now) (c .read-last .result)
     (ap (λ d. onward d (λ t q. ofOne (madeOf (a .k) t) q)) (went (c .before .before .before .before .number-after .ensures) (c .before .before .first .given .1) .says)
     ∙ two-seen (madeOf (a .k)) (drop (a .at) (a .line .now)))
@@ -46,7 +43,6 @@ pub read-two-spec : {M : Type 1} → statement M
 read-two-spec =
     tie.close
     (tie.spec
-    slice-aggregate-number-after
     number-after-requires
     enum-known-first
     enum-told

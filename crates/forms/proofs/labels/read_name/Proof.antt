@@ -1,4 +1,4 @@
--- `forms::lists::read_name` meets its contract: a name and its number.
+-- `forms::labels::read_name` meets its contract: a name and its number.
 -- Assumes nothing.
 use borrow.Author.Needs.{needs}
 use mathlib.Core.Path.{_≡_, refl, sym, ap, ap₂, _∙_}
@@ -8,8 +8,8 @@ use Rattle.table.specs.Decoded.{nameOf}
 use Rattle.forms.specs.Faults.{worse}
 use Rattle.forms.proofs.Steps.{went, halts, onwards, arrived, otherwise}
 use Rattle.forms.proofs.Seen.{said-same, name-faulted}
-use Rattle.forms.proofs.lists.read_name.Statement.{statement}
-use Rattle.forms.proofs.lists.read_name.Tie as tie
+use Rattle.forms.proofs.labels.read_name.Statement.{statement}
+use Rattle.forms.proofs.labels.read_name.Tie as tie
 
 read-word-requires : tie.Need-read-word-requires
 read-word-requires c κs = search needs
