@@ -17,7 +17,7 @@ use Rattle.forms.specs.Text.{Past, past, stuck, literal}
 use Rattle.forms.specs.Forms.{Line, Kind, kinds, farther, ofKind, alone, ofName, ofOne, ofTwo, ofList}
 use Rattle.meaning.specs.Descriptions.{tau, delta}
 use Rattle.forms.specs.Terms.{either, madeOf, contents, listed}
-use Rattle.forms.specs.Kinds.{restOf, noKind, fartherFrom, wrapOf, kindPlace, KindFound, KindRead}
+use Rattle.forms.specs.Kinds.{restOf, noKind, fartherFrom, wrapOf, KindFound, KindRead}
 use Rattle.forms.specs.declared.kinds.KindStep.{KindStep}
 use Rattle.forms.specs.declared.kinds.KindStep.the-variants as K
 use Rattle.forms.specs.Places.{placeOf, Stands, Steps}
@@ -129,22 +129,21 @@ sought-none line at = record { few = omega arith; inside = omega arith; reached 
 
 module _ (line : Text) (at far k : ℕ) (s : Sought line at far k) where
   module _ {r : Step} (h : k < 17) (w : Steps (λ v next. tt) line at r (literal (nameOf 8 (getD packedKinds k 0)) (drop at line))) where
-    pub sought-found : {v next q : ℕ} → r ≡ To v next → q ≡ placeOf r → KindFound line (ofKind kinds (drop at line)) k q far
-    sought-found {next = next} e f =
+    pub sought-found : {v next : ℕ} → r ≡ To v next → KindFound line (ofKind kinds (drop at line)) k next far
+    sought-found e =
         let g = went w e in
-        rw (f ∙ ap placeOf e)
-        (record {
+        record {
           says =
               ap (fartherFrom far line) (kind-past kinds k (drop at line) (rw kind-count h) (g .says ∙ ap (λ t. literal t (drop at line)) (kind-word k h)))
               ∙ s .so-far;
           known = h;
           within = g .within;
           reached = s .inside;
-        })
+        }
 
     pub sought-more : {p q : ℕ} → 1 ≤ at → r ≡ Stuck p → q ≡ max far p → Sought line at q (k + 1)
     sought-more {p} i e f =
-        let g : Stands line at p (stuck (drop p line)) (literal (nameOf 8 (getD packedKinds k 0)) (drop at line)) = stays w e (ap placeOf (sym e)) in
+        let g : Stands line at p (stuck (drop p line)) (literal (nameOf 8 (getD packedKinds k 0)) (drop at line)) = stays w e in
         rw f
         (record {
           few = omega arith;
@@ -169,5 +168,5 @@ module _ (line : Text) (due : Past Line) (r : KindStep) (h : KindRead line due r
   pub kind-to : {k next far : ℕ} → r ≡ K.To k next far → KindFound line due k next far
   kind-to e = rw e at h
 
-  pub kind-stays : {p q : ℕ} → r ≡ K.Stuck p → q ≡ kindPlace r → stuck (drop q line) ≡ due
-  kind-stays e f = rw (f ∙ ap kindPlace e) (rw e at h)
+  pub kind-stays : {p : ℕ} → r ≡ K.Stuck p → stuck (drop p line) ≡ due
+  kind-stays e = rw e at h

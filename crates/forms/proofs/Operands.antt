@@ -13,7 +13,7 @@ use Rattle.forms.specs.declared.TermStep.{TermStep}
 use Rattle.forms.specs.Terms.{PlainRead, LineTerm, LineRead}
 use Rattle.forms.specs.Faults.{wordsOfFault}
 use Rattle.forms.specs.Tallies.{foundOf}
-use Rattle.forms.specs.Places.{saidPlace, saidOf, Says}
+use Rattle.forms.specs.Places.{saidOf, Says}
 use Rattle.forms.specs.Entries.{seen, nameEntry}
 use Rattle.forms.specs.Lists.{over}
 use Rattle.forms.specs.declared.TermStep.the-variants as T
@@ -112,9 +112,9 @@ module _ (words : List Text) (line : Text) (at : ℕ) where
     unfolding ofName literal
     beyond e = e ∙ ap (λ d. onward d (λ _ r. onward (word r) (λ w q. onward (ended q) (λ _ p. past (acts w) p)))) (literal-more space [] line at f)
 
-    pub act-no-name : {p q : ℕ} → r ≡ S.Stuck p → q ≡ saidPlace r → stuck (drop q line) ≡ ofName (drop at line)
-    act-no-name e g =
-        beyond (ap (λ d. onward d (λ w q. onward (ended q) (λ _ p. past (acts w) p))) (back-stuck (nameEntry words) (word (drop (at + 1) line)) (said-stays h e g .says)))
+    pub act-no-name : {p : ℕ} → r ≡ S.Stuck p → stuck (drop p line) ≡ ofName (drop at line)
+    act-no-name e =
+        beyond (ap (λ d. onward d (λ w q. onward (ended q) (λ _ p. past (acts w) p))) (back-stuck (nameEntry words) (word (drop (at + 1) line)) (said-stays h e .says)))
 
     module _ {e : C.Said} {next : ℕ} (g : r ≡ S.To e next) where
       name : (w : Text) × (past w (drop next line) ≡ word (drop (at + 1) line)) × (saidOf e ≡ nameEntry words w)

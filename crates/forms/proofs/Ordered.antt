@@ -31,8 +31,8 @@ after-labels ls q = onward (ended q) (λ _ p. past (only ls) p)
 -- The labels are those of allow.
 module _ (words : List Text) (line : Text) (at : ℕ) {before after : List ℕ} {r : SaidStep}
     (h : ListRead Labels line at (wholeList words Labels (drop at line)) before after r) where
-  pub labels-stuck : {p q : ℕ} → r ≡ S.Stuck p → q ≡ saidPlace r → stuck (drop q line) ≡ onlyThese (drop at line)
-  labels-stuck e f = ap (λ d. onward d after-labels) (wrap-stuck Allow words line at h (said-stays (h .read) e f))
+  pub labels-stuck : {p : ℕ} → r ≡ S.Stuck p → stuck (drop p line) ≡ onlyThese (drop at line)
+  labels-stuck e = ap (λ d. onward d after-labels) (wrap-stuck Allow words line at h (said-stays (h .read) e))
 
   pub labels-on : {e : C.Said} {next : ℕ} → r ≡ S.To e next → next < length line → stuck (drop next line) ≡ onlyThese (drop at line)
   labels-on {next = next} e k =

@@ -36,29 +36,21 @@ pub said-went : {line : Text} {at next : ℕ} {e : C.Said} {r : SaidStep} {due :
     → Stands line at next (past (saidOf e) (drop next line)) due
 said-went s e = rw e at (s .stands)
 
-stood : {A : Type 0} {line : Text} {at p q : ℕ} {due : Past A} → q ≡ p → Stands line at p (stuck (drop p line)) due → Stands line at q (stuck (drop q line)) due
-stood h s = rw h s
+pub stays : {A : Type 0} {f : ℕ → ℕ → A} {line : Text} {at p : ℕ} {r : Step} {due : Past A} → Steps f line at r due → r ≡ Stuck p → Stands line at p (stuck (drop p line)) due
+stays s e = rw e at (s .stands)
 
-pub stays : {A : Type 0} {f : ℕ → ℕ → A} {line : Text} {at p q : ℕ} {r : Step} {due : Past A} → Steps f line at r due → r ≡ Stuck p → q ≡ placeOf r
-    → Stands line at q (stuck (drop q line)) due
-stays s e h = stood (h ∙ ap placeOf e) (rw e at (s .stands))
-
-pub said-stays : {line : Text} {at p q : ℕ} {r : SaidStep} {due : Past Said} → Says line at r due → r ≡ S.Stuck p → q ≡ saidPlace r
-    → Stands line at q (stuck (drop q line)) due
-said-stays s e h = stood (h ∙ ap saidPlace e) (rw e at (s .stands))
+pub said-stays : {line : Text} {at p : ℕ} {r : SaidStep} {due : Past Said} → Says line at r due → r ≡ S.Stuck p → Stands line at p (stuck (drop p line)) due
+said-stays s e = rw e at (s .stands)
 
 module _ {A B : Type 0} {f : ℕ → ℕ → A} {line : Text} {at : ℕ} {r : Step} {due : Past A} (k : A → Text → Past B) (s : Steps f line at r due) where
-  pub halts : {p q : ℕ} → r ≡ Stuck p → q ≡ placeOf r → Stands line at q (stuck (drop q line)) (onward due k)
-  halts e h = stops k (stays s e h)
+  pub halts : {p : ℕ} → r ≡ Stuck p → Stands line at p (stuck (drop p line)) (onward due k)
+  halts e = stops k (stays s e)
 
   pub onwards : {v next place : ℕ} {answer : Past B} → r ≡ To v next
       → Stands line next place answer (k (f v next) (drop next line)) → Stands line at place answer (onward due k)
   onwards e t = goes k (went s e) t
 
 module _ {B : Type 0} {line : Text} {at : ℕ} {r : SaidStep} {due : Past Said} (k : Said → Text → Past B) (s : Says line at r due) where
-  pub said-halts : {p q : ℕ} → r ≡ S.Stuck p → q ≡ saidPlace r → Stands line at q (stuck (drop q line)) (onward due k)
-  said-halts e h = stops k (said-stays s e h)
-
   pub said-onwards : {e : C.Said} {next place : ℕ} {answer : Past B} → r ≡ S.To e next
       → Stands line next place answer (k (saidOf e) (drop next line)) → Stands line at place answer (onward due k)
   said-onwards e t = goes k (said-went s e) t

@@ -14,10 +14,6 @@ use Rattle.forms.specs.declared.TermStep.the-variants as T
 use Rattle.forms.specs.declared.kinds.KindStep.{KindStep}
 use Rattle.forms.specs.declared.kinds.KindStep.the-variants.{To, Stuck}
 
-abbrev pub kindPlace : KindStep → ℕ
-kindPlace (To k next far) = next
-kindPlace (Stuck p) = p
-
 -- past the kinds nothing is due
 abbrev pub noKind : Kind
 noKind = record { word = []; rest = λ s. stuck s }

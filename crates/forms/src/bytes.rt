@@ -10,17 +10,8 @@ ghost use lib.Dec.{leb};
 ghost use Rattle.table.specs.Decoded.{nameOf};
 ghost use Rattle.table.specs.Encoded.{wordOf};
 ghost use Rattle.forms.specs.Text.{onward, literal, byte, starts, sameText, isLower, isDigit, number, word};
-ghost use Rattle.forms.specs.Places.{digitOf, placeOf, Steps};
+ghost use Rattle.forms.specs.Places.{digitOf, Steps};
 use crate::Step;
-
-pub fn stuck_at(s: Step) -> usize
-    ensures { λ r. ⌜ r ≡ placeOf s ⌝ }
-{
-    match s {
-        Step::To(_, next) => next,
-        Step::Stuck(next) => next,
-    }
-}
 
 pub fn read_literal(line: &[u8], at: usize, due: &[u8]) -> Step
     requires { ⌜ at ≤ length (now line) ⌝ }

@@ -6,10 +6,9 @@ ghost use Rattle.table.specs.Decoded.{nameOf};
 ghost use Rattle.forms.specs.Text.{literal};
 ghost use Rattle.forms.specs.Forms.{ofKind, kinds};
 ghost use Rattle.forms.specs.Places.{Steps};
-ghost use Rattle.forms.specs.Kinds.{kindPlace, KindRead};
+ghost use Rattle.forms.specs.Kinds.{KindRead};
 use crate::Step;
 use crate::bytes::sign_at;
-use crate::bytes::stuck_at;
 
 // A packed word that must stand there as it is.
 fn read_packed(line: &[u8], at: usize, due: u64) -> Step
@@ -56,15 +55,6 @@ pub enum KindStep {
     Stuck(usize),
 }
 
-pub fn kind_stuck_at(s: KindStep) -> usize
-    ensures { λ r. ⌜ r ≡ kindPlace s ⌝ }
-{
-    match s {
-        KindStep::To(_, next, _) => next,
-        KindStep::Stuck(next) => next,
-    }
-}
-
 pub fn most(a: usize, b: usize) -> usize
     ensures { λ r. ⌜ r ≡ max a b ⌝ }
 {
@@ -79,10 +69,14 @@ pub fn find_kind(line: &[u8], at: usize) -> KindStep
     let mut k = 0;
     while k < 17 {
         let word = read_packed(line, at, KINDS[k]);
-        let Step::Stuck(p) = word else {
-            return KindStep::To(k, stuck_at(word), far);
-        };
-        far = most(far, p);
+        match word {
+            Step::To(_, next) => {
+                return KindStep::To(k, next, far);
+            }
+            Step::Stuck(p) => {
+                far = most(far, p);
+            }
+        }
         k += 1;
     }
     KindStep::Stuck(far)

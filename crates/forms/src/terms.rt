@@ -9,7 +9,7 @@ ghost use Rattle.meaning.specs.Legal.{isMultiAction};
 ghost use Rattle.forms.specs.Text.{past, onward, ended};
 ghost use Rattle.forms.specs.Forms.{plain, ofName, ofOne, ofTwo, ofList, termLine};
 ghost use Rattle.forms.specs.Faults.{bothBelow, inRange, worse, unless, operandsFit};
-ghost use Rattle.forms.specs.Terms.{PlainRead, madeOf, LineRead, Storeless, listKind, contents, listed, wrappedOf, bareSlot, TermAnswer};
+ghost use Rattle.forms.specs.Terms.{PlainRead, madeOf, LineRead, Storeless, listKind, contents, listed, afterOperand, wrappedOf, bareSlot, TermAnswer};
 ghost use Rattle.meaning.specs.Answers.{range, operand};
 ghost use Rattle.meaning.specs.Descriptions.{delta};
 ghost use Rattle.forms.specs.Tallies.{faultOf, foundOf};
@@ -21,16 +21,13 @@ use crate::TermStep;
 use crate::bytes::number_after;
 use crate::bytes::read_literal;
 use crate::bytes::sign_at;
-use crate::bytes::stuck_at;
 use crate::faults::found_unless;
 use crate::faults::worse_of;
 use crate::kinds::KindStep;
 use crate::kinds::find_kind;
-use crate::kinds::kind_stuck_at;
 use crate::kinds::most;
 use crate::labels::SaidStep;
 use crate::labels::read_name;
-use crate::labels::said_stuck_at;
 use crate::lists::ListKind;
 use crate::lists::read_whole;
 use table::Operator;
@@ -72,10 +69,10 @@ fn read_last(k: usize, t: usize, line: &[u8], at: usize) -> TermStep
     ensures { λ r. ⌜ PlainRead (now (line .entry)) (ofOne (madeOf k t) (drop at (now (line .entry)))) r ⌝ }
 {
     let last = number_after(line, at, b' ');
-    let Step::To(u, next) = last else {
-        return TermStep::Stuck(stuck_at(last));
-    };
-    finish(line, next, made_of(k, t, u as usize))
+    match last {
+        Step::To(u, next) => finish(line, next, made_of(k, t, u as usize)),
+        Step::Stuck(p) => TermStep::Stuck(p),
+    }
 }
 
 fn read_two(k: usize, line: &[u8], at: usize) -> TermStep
@@ -83,10 +80,10 @@ fn read_two(k: usize, line: &[u8], at: usize) -> TermStep
     ensures { λ r. ⌜ PlainRead (now (line .entry)) (ofTwo (madeOf k) (drop at (now (line .entry)))) r ⌝ }
 {
     let first = number_after(line, at, b' ');
-    let Step::To(t, after) = first else {
-        return TermStep::Stuck(stuck_at(first));
-    };
-    read_last(k, t as usize, line, after)
+    match first {
+        Step::To(t, after) => read_last(k, t as usize, line, after),
+        Step::Stuck(p) => TermStep::Stuck(p),
+    }
 }
 
 fn read_act(line: &[u8], at: usize, names: &[u64], n: usize) -> TermStep
@@ -97,14 +94,16 @@ fn read_act(line: &[u8], at: usize, names: &[u64], n: usize) -> TermStep
         return TermStep::Stuck(at);
     }
     let name = read_name(line, at + 1, names);
-    let SaidStep::To(said, next) = name else {
-        return TermStep::Stuck(said_stuck_at(name));
-    };
-    if next < line.len() {
-        return TermStep::Stuck(next);
+    match name {
+        SaidStep::Stuck(p) => TermStep::Stuck(p),
+        SaidStep::To(said, next) => {
+            if next < line.len() {
+                return TermStep::Stuck(next);
+            }
+            let fault = said.fault;
+            TermStep::To(Term::Act(said.first as usize), fault)
+        }
     }
-    let fault = said.fault;
-    TermStep::To(Term::Act(said.first as usize), fault)
 }
 
 // The kinds with one operand and a list, by their places too.
@@ -132,6 +131,42 @@ fn wrapped(k: usize, place: Place) -> Operator
     }
 }
 
+// The list after an operand.
+fn read_listed(
+    k: usize,
+    t: usize,
+    line: &[u8],
+    at: usize,
+    names: &[u64],
+    n: usize,
+    store: &mut [u64],
+) -> TermStep
+    requires { ⌜ (at ≤ length (now line)) × (length (now names) ≤ 12) × (length (now line) ≤ 8192) × (n < 96) ⌝ }
+    ensures { λ r. ⌜ LineRead (map (nameOf 8) (now (names .entry))) n (now (line .entry)) (afterOperand (wrapOf k) t (drop at (now (line .entry)))) (now (store .entry)) (now (store .exit)) r ⌝ }
+{
+    if !sign_at(line, at, b' ') {
+        return TermStep::Stuck(at);
+    }
+    let kind = list_kind(k);
+    let list = read_whole(kind, line, at + 1, names, store);
+    match list {
+        SaidStep::Stuck(p) => TermStep::Stuck(p),
+        SaidStep::To(said, next) => {
+            if next < line.len() {
+                return TermStep::Stuck(next);
+            }
+            let first = 32 * n;
+            let place = Place {
+                at: first,
+                entries: said.first as usize,
+            };
+            let fault = said.fault;
+            let operator = wrapped(k, place);
+            TermStep::To(Term::Wrap(operator, t), fault)
+        }
+    }
+}
+
 fn read_wrap(
     k: usize,
     line: &[u8],
@@ -144,28 +179,10 @@ fn read_wrap(
     ensures { λ r. ⌜ LineRead (map (nameOf 8) (now (names .entry))) n (now (line .entry)) (ofList (contents (wrapOf k)) (listed (wrapOf k)) (drop at (now (line .entry)))) (now (store .entry)) (now (store .exit)) r ⌝ }
 {
     let operand = number_after(line, at, b' ');
-    let Step::To(t, after) = operand else {
-        return TermStep::Stuck(stuck_at(operand));
-    };
-    if !sign_at(line, after, b' ') {
-        return TermStep::Stuck(after);
+    match operand {
+        Step::To(t, after) => read_listed(k, t as usize, line, after, names, n, store),
+        Step::Stuck(p) => TermStep::Stuck(p),
     }
-    let kind = list_kind(k);
-    let list = read_whole(kind, line, after + 1, names, store);
-    let SaidStep::To(said, next) = list else {
-        return TermStep::Stuck(said_stuck_at(list));
-    };
-    if next < line.len() {
-        return TermStep::Stuck(next);
-    }
-    let first = 32 * n;
-    let place = Place {
-        at: first,
-        entries: said.first as usize,
-    };
-    let fault = said.fault;
-    let operator = wrapped(k, place);
-    TermStep::To(Term::Wrap(operator, t as usize), fault)
 }
 
 fn both_below(t: usize, u: usize, n: usize) -> bool
@@ -246,14 +263,18 @@ fn read_line(line: &[u8], names: &[u64], n: usize, store: &mut [u64]) -> TermSte
     ensures { λ r. ⌜ LineRead (map (nameOf 8) (now (names .entry))) n (now (line .entry)) (termLine (now (line .entry))) (now (store .entry)) (now (store .exit)) r ⌝ }
 {
     let key = read_literal(line, 0, b"term=");
-    let Step::To(_, at) = key else {
-        return TermStep::Stuck(stuck_at(key));
-    };
-    let kind = find_kind(line, at);
-    let KindStep::To(k, next, far) = kind else {
-        return TermStep::Stuck(kind_stuck_at(kind));
-    };
-    farthest(read_kind(line, next, k, names, n, store), far)
+    match key {
+        Step::Stuck(p) => TermStep::Stuck(p),
+        Step::To(_, at) => {
+            let kind = find_kind(line, at);
+            match kind {
+                KindStep::Stuck(p) => TermStep::Stuck(p),
+                KindStep::To(k, next, far) => {
+                    farthest(read_kind(line, next, k, names, n, store), far)
+                }
+            }
+        }
+    }
 }
 
 // Whether the term at a number is a multi-action; past the slots there is none.

@@ -27,16 +27,13 @@ read-packed-requires c κs = c .before .before .before .pre .1
 enum-known-word : tie.Need-enum-known-word Inv-loop μ-loop
 enum-known-word c = c .match .keys1
 
-enum-told : tie.Need-enum-told Inv-loop μ-loop
-enum-told c = c .match .keys2
-
-stuck-at-requires : tie.Need-stuck-at-requires Inv-loop μ-loop
-stuck-at-requires c κs = tt
+enum-known-word-2 : tie.Need-enum-known-word-2 Inv-loop μ-loop
+enum-known-word-2 c = c .match .keys2
 
 returns : tie.Need-returns Inv-loop μ-loop
 returns c =
     sought-found _ _ _ _ (c .before .before .before .before .before .loop .inv) (c .before .before .before .before .loop-test .taken) (c .before .before .before .read-packed .ensures)
-    (c .before .enum-told .given .1) (c .stuck-at .ensures)
+    (c .before .word .given .1)
 
 most-requires : tie.Need-most-requires Inv-loop μ-loop
 most-requires c κs = tt
@@ -50,27 +47,10 @@ loop-less c = omega arith
 loop-again : tie.Need-loop-again Inv-loop μ-loop
 loop-again c =
     sought-more _ _ _ _ (c .before .before .before .before .before .before .loop .inv) (c .before .before .before .before .before .loop-test .taken) (c .before .before .before .before .read-packed .ensures)
-    (c .before .before .before .before .before .before .before .before .pre .0) (c .before .before .word .given .1) (c .most .ensures)
+    (c .before .before .before .before .before .before .before .before .pre .0) (c .before .before .word2 .given .1) (c .most .ensures)
 
 returns-2 : tie.Need-returns-2 Inv-loop μ-loop
 returns-2 c = sought-all _ _ _ _ (c .before .loop .inv) (c .loop-test .left)
 
 pub find-kind-spec : {M : Type 1} → statement M
-find-kind-spec =
-    tie.close
-    (tie.spec
-    Inv-loop
-    μ-loop
-    loop-holds
-    mul-read-packed
-    array-read-read-packed
-    read-packed-requires
-    enum-known-word
-    enum-told
-    stuck-at-requires
-    returns
-    most-requires
-    add-k
-    loop-less
-    loop-again
-    returns-2)
+find-kind-spec = tie.close (tie.spec Inv-loop μ-loop loop-holds mul-read-packed array-read-read-packed read-packed-requires enum-known-word returns enum-known-word-2 most-requires add-k loop-less loop-again returns-2)

@@ -17,14 +17,11 @@ read-word-requires c κs = search needs
 enum-known-name : tie.Need-enum-known-name
 enum-known-name c = c .match .keys1
 
-enum-told : tie.Need-enum-told
-enum-told c = c .match .keys2
-
-stuck-at-requires : tie.Need-stuck-at-requires
-stuck-at-requires c κs = tt
+enum-known-name-2 : tie.Need-enum-known-name-2
+enum-known-name-2 c = c .match .keys2
 
 returns : tie.Need-returns
-returns c = record { stands = halts _ (c .before .before .before .read-word .ensures) (c .before .enum-told .given .1) (c .stuck-at .ensures) }
+returns c = record { stands = halts _ (c .before .before .before .read-word .ensures) (c .before .name .given .1) }
 
 find-name-requires : tie.Need-find-name-requires
 find-name-requires c κs = tt
@@ -36,20 +33,10 @@ returns-2 : tie.Need-returns-2
 returns-2 c =
     record {
       stands =
-          onwards _ (c .before .before .before .before .before .read-word .ensures) (c .before .before .before .name .given .1)
-          (otherwise (arrived _ (went (c .before .before .before .before .before .read-word .ensures) (c .before .before .before .name .given .1) .within))
+          onwards _ (c .before .before .before .before .before .read-word .ensures) (c .before .before .before .name2 .given .1)
+          (otherwise (arrived _ (went (c .before .before .before .before .before .read-word .ensures) (c .before .before .before .name2 .given .1) .within))
           (said-same (name-faulted (c .before .before .before .before .before .before .before .before .args .names .now) _ (c .name-fault .ensures) (c .before .find-name .ensures)) (c .before .find-name .ensures) refl));
     }
 
 pub read-name-spec : {M : Type 1} → statement M
-read-name-spec =
-    tie.close
-    (tie.spec
-    read-word-requires
-    enum-known-name
-    enum-told
-    stuck-at-requires
-    returns
-    find-name-requires
-    name-fault-requires
-    returns-2)
+read-name-spec = tie.close (tie.spec read-word-requires enum-known-name enum-known-name-2 find-name-requires name-fault-requires returns returns-2)

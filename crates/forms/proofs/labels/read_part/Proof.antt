@@ -27,14 +27,11 @@ number-after-requires c κs = said-went (c .before .before .before .read-name .e
 enum-known-count : tie.Need-enum-known-count
 enum-known-count c = c .match2 .keys1
 
-enum-told-2 : tie.Need-enum-told-2
-enum-told-2 c = c .match2 .keys2
-
-stuck-at-requires : tie.Need-stuck-at-requires
-stuck-at-requires c κs = tt
+enum-known-count-2 : tie.Need-enum-known-count-2
+enum-known-count-2 c = c .match2 .keys2
 
 returns-2 : tie.Need-returns-2
-returns-2 c = record { stands = become (part-seen _ _) (said-onwards _ (c .before .before .before .before .before .before .before .read-name .ensures) (c .before .before .before .before .before .name .given .1) (halts _ (c .before .before .before .number-after .ensures) (c .before .enum-told2 .given .1) (c .stuck-at .ensures))) }
+returns-2 c = record { stands = become (part-seen _ _) (said-onwards _ (c .before .before .before .before .before .before .before .read-name .ensures) (c .before .before .before .before .before .name .given .1) (halts _ (c .before .before .before .number-after .ensures) (c .before .count .given .1))) }
 
 amount-unless-requires : tie.Need-amount-unless-requires
 amount-unless-requires c κs = tt
@@ -47,10 +44,10 @@ returns-3 c =
     record {
       stands = become (part-seen _ _) (
           said-onwards _ (c .before .before .before .before .before .before .before .before .before .read-name .ensures) (c .before .before .before .before .before .before .before .name .given .1)
-          (onwards _ (c .before .before .before .before .before .number-after .ensures) (c .before .before .before .count .given .1)
-          (otherwise (arrived _ (went (c .before .before .before .before .before .number-after .ensures) (c .before .before .before .count .given .1) .within))
+          (onwards _ (c .before .before .before .before .before .number-after .ensures) (c .before .before .before .count2 .given .1)
+          (otherwise (arrived _ (went (c .before .before .before .before .before .number-after .ensures) (c .before .before .before .count2 .given .1) .within))
           (said-same (c .worse-of .ensures ∙ ap (worse (foundOf (c .before .before .before .before .before .before .before .name .given .0 .0 .fault))) (c .before .amount-unless .ensures)) refl refl))));
     }
 
 pub read-part-spec : {M : Type 1} → statement M
-read-part-spec = tie.close (tie.spec read-name-requires enum-known-name enum-told returns number-after-requires enum-known-count enum-told-2 stuck-at-requires returns-2 amount-unless-requires worse-of-requires returns-3)
+read-part-spec = tie.close (tie.spec read-name-requires enum-known-name enum-told returns number-after-requires enum-known-count enum-known-count-2 amount-unless-requires worse-of-requires returns-2 returns-3)

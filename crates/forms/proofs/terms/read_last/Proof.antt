@@ -15,15 +15,12 @@ number-after-requires c κs = c .before .pre
 enum-known-last : tie.Need-enum-known-last
 enum-known-last c = c .match .keys1
 
-enum-told : tie.Need-enum-told
-enum-told c = c .match .keys2
+enum-known-last-2 : tie.Need-enum-known-last-2
+enum-known-last-2 c = c .match .keys2
 
-stuck-at-requires : tie.Need-stuck-at-requires
-stuck-at-requires c κs = tt
-
-returns : tie.Need-returns
-returns c =
-    ap (λ d. onward d (λ t q. alone-with (madeOf (c .before .before .before .before .before .args .k) (c .before .before .before .before .before .args .t) t) q)) (stays (c .before .before .before .number-after .ensures) (c .before .enum-told .given .1) (c .stuck-at .ensures) .says)
+returns-2 : tie.Need-returns-2
+returns-2 c =
+    ap (λ d. onward d (λ t q. alone-with (madeOf (c .before .before .before .before .before .args .k) (c .before .before .before .before .before .args .t) t) q)) (stays (c .before .before .before .number-after .ensures) (c .before .last2 .given .1) .says)
     ∙ one-seen (madeOf (c .before .before .before .before .before .args .k) (c .before .before .before .before .before .args .t)) (drop (c .before .before .before .before .before .args .at) (c .before .before .before .before .before .args .line .now))
 
 made-of-requires : tie.Need-made-of-requires
@@ -32,8 +29,8 @@ made-of-requires c κs = tt
 finish-requires : tie.Need-finish-requires
 finish-requires c κs = (went (c .before .before .before .before .number-after .ensures) (c .before .before .last .given .1) .within, c .made-of .ensures .1)
 
-returns-2 : tie.Need-returns-2
-returns-2 c =
+returns : tie.Need-returns
+returns c =
     plain-become (c .before .before .before .before .before .before .before .args .line .now) (c .finish .result)
     (ap (λ x. alone-with x (drop (c .before .before .before .last .given .0 .1 .0) (c .before .before .before .before .before .before .before .args .line .now))) (c .before .made-of .ensures .0)
     ∙ ap (λ d. onward d (λ t q. alone-with (madeOf (c .before .before .before .before .before .before .before .args .k) (c .before .before .before .before .before .before .before .args .t) t) q)) (went (c .before .before .before .before .before .number-after .ensures) (c .before .before .before .last .given .1) .says)
@@ -41,14 +38,4 @@ returns-2 c =
     (c .finish .ensures)
 
 pub read-last-spec : {M : Type 1} → statement M
-read-last-spec =
-    tie.close
-    (tie.spec
-    number-after-requires
-    enum-known-last
-    enum-told
-    stuck-at-requires
-    returns
-    made-of-requires
-    finish-requires
-    returns-2)
+read-last-spec = tie.close (tie.spec number-after-requires enum-known-last made-of-requires finish-requires enum-known-last-2 returns returns-2)

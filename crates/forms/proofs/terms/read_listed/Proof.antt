@@ -1,0 +1,63 @@
+-- `forms::terms::read_listed` meets its contract: a space, a list, and the end of the line.
+-- Assumes nothing.
+use borrow.Author.Needs.{needs}
+use mathlib.Core.Path.{sym, _∙_}
+use mathlib.Core.List.{map}
+use Prim.Native.Nat.{_<_}
+use native.Mathlib.Omega.{arith}
+use borrow.Author.Tests.{not-true, not-false}
+use Rattle.table.specs.Decoded.{nameOf}
+use Rattle.forms.specs.Forms.{space}
+use Rattle.forms.specs.Kinds.{wrapOf}
+use Rattle.forms.proofs.Rests.{sign-within}
+use Rattle.forms.proofs.Wraps.{no-space, no-list, no-end, wrap-line}
+use Rattle.forms.proofs.terms.read_listed.Statement.{statement}
+use Rattle.forms.proofs.terms.read_listed.Tie as tie
+
+sign-at-requires : tie.Need-sign-at-requires
+sign-at-requires c κs = tt
+
+returns : tie.Need-returns
+returns c = let a = c .before .before .before .before .before .args in no-space (wrapOf (a .k)) (map (nameOf 8) (a .names .now)) (a .line .now) (a .t) (a .at) (sym (c .before .sign-at .ensures) ∙ not-true _ (c .if1 .taken))
+
+list-kind-requires : tie.Need-list-kind-requires
+list-kind-requires c κs = tt
+
+add-read-whole : tie.Need-add-read-whole
+add-read-whole c = let w = sign-within space (c .before .before .before .before .before .before .args .line .now) (c .before .before .before .before .before .before .args .at) (sym (c .before .before .sign-at .ensures) ∙ not-false _ (c .before .if1 .left)) in omega arith
+
+read-whole-requires : tie.Need-read-whole-requires
+read-whole-requires c κs = let w = sign-within space (c .before .before .before .before .before .before .before .args .line .now) (c .before .before .before .before .before .before .before .args .at) (sym (c .before .before .before .sign-at .ensures) ∙ not-false _ (c .before .before .if1 .left)) in (omega arith, c .before .before .before .before .before .before .before .pre .1, c .before .before .before .before .before .before .before .pre .2)
+
+enum-known-list : tie.Need-enum-known-list
+enum-known-list c = c .match .keys1
+
+enum-known-list-2 : tie.Need-enum-known-list-2
+enum-known-list-2 c = c .match .keys2
+
+same-length : tie.Need-same-length
+same-length c = search needs
+
+returns-3 : tie.Need-returns-3
+returns-3 c = let a = c .before .before .before .before .before .before .before .before .before .before .before .before .before .args in no-list (wrapOf (a .k)) (map (nameOf 8) (a .names .now)) (a .line .now) (a .t) (a .at) (sym (c .before .before .before .before .before .before .before .before .before .sign-at .ensures) ∙ not-false _ (c .before .before .before .before .before .before .before .before .if1 .left)) (c .before .before .before .before .before .before .before .list-kind .ensures) (c .before .before .before .before .before .read-whole .ensures) (c .before .list .given .1)
+
+same-length-2 : tie.Need-same-length-2
+same-length-2 c = search needs
+
+returns-2 : tie.Need-returns-2
+returns-2 c = let a = c .before .before .before .before .before .before .before .before .before .before .before .before .before .before .args in no-end (wrapOf (a .k)) (map (nameOf 8) (a .names .now)) (a .line .now) (a .t) (a .at) (sym (c .before .before .before .before .before .before .before .before .before .before .sign-at .ensures) ∙ not-false _ (c .before .before .before .before .before .before .before .before .before .if1 .left)) (c .before .before .before .before .before .before .before .before .list-kind .ensures) (c .before .before .before .before .before .before .read-whole .ensures) (c .before .before .list2 .given .1) (c .if2 .taken)
+
+mul-first : tie.Need-mul-first
+mul-first c = omega (arith, c .before .before .before .before .before .before .before .before .before .before .before .before .before .before .pre .3)
+
+wrapped-requires : tie.Need-wrapped-requires
+wrapped-requires c κs = tt
+
+same-length-3 : tie.Need-same-length-3
+same-length-3 c = search needs
+
+returns-4 : tie.Need-returns-4
+returns-4 c = let a = c .before .before .before .before .before .before .before .before .before .before .before .before .before .before .before .args in wrap-line (wrapOf (a .k)) (map (nameOf 8) (a .names .now)) (a .line .now) (a .t) (a .at) (sym (c .before .before .before .before .before .before .before .before .before .before .before .sign-at .ensures) ∙ not-false _ (c .before .before .before .before .before .before .before .before .before .before .if1 .left)) (c .before .before .before .before .before .before .before .before .before .list-kind .ensures) (c .before .before .before .before .before .before .before .read-whole .ensures) (c .before .before .before .list2 .given .1) (a .n) (c .before .if2 .left) (c .wrapped .ensures)
+
+pub read-listed-spec : {M : Type 1} → statement M
+read-listed-spec = tie.close (tie.spec sign-at-requires returns list-kind-requires add-read-whole read-whole-requires enum-known-list enum-known-list-2 same-length returns-2 mul-first wrapped-requires same-length-2 returns-3 same-length-3 returns-4)
