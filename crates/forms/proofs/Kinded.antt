@@ -16,7 +16,7 @@ use Rattle.table.specs.Decoded.{nameOf}
 use Rattle.forms.specs.Text.{Past, past, stuck, literal}
 use Rattle.forms.specs.Forms.{Line, Kind, kinds, farther, ofKind, alone, ofName, ofOne, ofTwo, ofList}
 use Rattle.meaning.specs.Descriptions.{tau, delta}
-use Rattle.forms.specs.Terms.{either, madeOf, contents, listed}
+use Rattle.forms.specs.Terms.{either, madeOf, WrapKind, Allow, contents, listed}
 use Rattle.forms.specs.Kinds.{restOf, noKind, fartherFrom, wrapOf, KindFound, KindRead}
 use Rattle.forms.specs.declared.kinds.KindStep.{KindStep}
 use Rattle.forms.specs.declared.kinds.KindStep.the-variants as K
@@ -37,6 +37,10 @@ pub packed-all : {left : ℕ} (k : ℕ) → left ≡ 0 → nameOf k left ≡ []
 unfolding nameOf
 packed-all zero e = refl
 packed-all (suc k) e = rw e
+
+-- every other place is that of allow
+pub wrap-rest : {A : Type 0} (f : WrapKind → A) (k : ℕ) → (((Unit {0} × (k ≡ 12 → ⊥)) × (k ≡ 13 → ⊥)) × (k ≡ 14 → ⊥)) × (k ≡ 15 → ⊥) → f Allow ≡ f (wrapOf k)
+wrap-rest f k r = rw (ne-eqb k 12 (r .0 .0 .0 .1), ne-eqb k 13 (r .0 .0 .1), ne-eqb k 14 (r .0 .1), ne-eqb k 15 (r .1))
 
 -- One kind after the other.
 module _ (ks : List Kind) (k : ℕ) (s : Text) where

@@ -16,13 +16,12 @@ use Rattle.forms.specs.Tallies.{Said}
 use Rattle.forms.specs.Places.{Stands, Steps, saidOf}
 use Rattle.forms.specs.Entries.{nameEntry, pairEntry, ruleEntry, labelEntry}
 use Rattle.forms.specs.Lists.{listFaults, listEntry, listWords, listOf, unlessNone, wholeList, over, ListRead}
-use Rattle.forms.specs.Terms.{WrapKind, Block, Hide, Rename, Comm, Allow, listKind, ContentsOf, contents, listed, afterList, afterSpace, afterOperand, wrappedOf, LineTerm, LineRead}
+use Rattle.forms.specs.Terms.{WrapKind, Block, Hide, Rename, Comm, Allow, listKind, ContentsOf, contents, listed, wrappedOf, LineTerm}
 use Rattle.forms.specs.declared.labels.Said as C
 use Rattle.forms.specs.declared.labels.SaidStep.{SaidStep}
 use Rattle.forms.specs.declared.labels.SaidStep.the-variants as S
 use Rattle.forms.specs.declared.lists.ListKind.{ListKind}
 use Rattle.forms.specs.declared.lists.ListKind.the-variants.{Labels}
-use Rattle.forms.specs.declared.TermStep.{TermStep}
 use Rattle.forms.specs.declared.Step.{Step}
 use Rattle.forms.specs.declared.Step.the-variants.{To, Stuck}
 use Rattle.forms.proofs.Rests.{literal-other, literal-more}
@@ -30,7 +29,7 @@ use Rattle.forms.proofs.Steps.{regrouped, went, stays, said-went, said-
 use Rattle.forms.proofs.Seen.{carried}
 use Rattle.forms.proofs.Gathered.{all-too}
 use Rattle.forms.proofs.Parts.{worse-none}
-use Rattle.forms.proofs.Operands.{ended-none, ended-some, operand, line-become}
+use Rattle.forms.proofs.Operands.{ended-none, ended-some, operand}
 use Rattle.forms.proofs.Contents.{names-faults, pairs-faults, rules-faults, labels-faults, names-words, pairs-words, rules-words, labels-words}
 
 abbrev pub entries : (w : WrapKind) → List Text → ContentsOf w → List Said
@@ -107,53 +106,62 @@ module _ (w : WrapKind) (words : List Text) (line : Text) (from : ℕ) {before a
       let b = back-past (λ c. listEntry (listKind w) (entries w words c)) (contents w (drop from line)) (s .says ∙ flat) in
       (b .0, b .1, b .2, h .stored (entries w words (b .0)) _ (ap (λ d. onward d (λ c o. past (entries w words c) o)) (b .1) ∙ sym (listed-entries w words (drop from line))))
 
-pub wrap-seen : (w : WrapKind) (s : Text) → onward (operand s) (afterOperand w) ≡ ofList (contents w) (listed w) s
-unfolding ofList
-wrap-seen w s = regrouped (literal (space ∷ []) s) (λ _ q. Rattle.forms.specs.Text.number q) (afterOperand w)
+-- What follows the word.
+module _ (w : WrapKind) where
+  abbrev pub after-list : ℕ → ContentsOf w → Text → Past Line
+  after-list t l o = onward (ended o) (λ _ m. past (wraps (listed w l) t) m)
 
--- A line of a kind with a list: by its operand,
-module _ (w : WrapKind) (words : List Text) (line : Text) (at : ℕ) {r : Step} (s : Steps (λ n next. n) line at r (operand (drop at line))) where
-  pub no-operand : {p : ℕ} → r ≡ Stuck p → stuck (drop p line) ≡ ofList (contents w) (listed w) (drop at line)
-  no-operand e = ap (λ d. onward d (afterOperand w)) (stays s e .says) ∙ wrap-seen w (drop at line)
+  abbrev pub after-space : ℕ → Unit {0} → Text → Past Line
+  after-space t u p = onward (contents w p) (after-list t)
 
-  pub past-operand : {t from : ℕ} → r ≡ To t from → (n : ℕ) (before after : List ℕ) (x : TermStep) → LineRead words n line (afterOperand w t (drop from line)) before after x
-      → LineRead words n line (ofList (contents w) (listed w) (drop at line)) before after x
-  past-operand e n before after x h = line-become words n line before after x (ap (λ d. onward d (afterOperand w)) (went s e .says) ∙ wrap-seen w (drop at line)) h
+  abbrev pub after-operand : ℕ → Text → Past Line
+  after-operand t q = onward (literal (space ∷ []) q) (after-space t)
 
--- and what follows it: by the space, by its list, and by the end.
-module _ (w : WrapKind) (words : List Text) (line : Text) (t at : ℕ) where
+  pub wrap-seen : (s : Text) → onward (operand s) after-operand ≡ ofList (contents w) (listed w) s
+  unfolding ofList
+  wrap-seen s = regrouped (literal (space ∷ []) s) (λ _ q. Rattle.forms.specs.Text.number q) after-operand
+
+-- The answers on a line of a kind with a list: by its operand, by the space after it, by its list, and by the end.
+module _ (w : WrapKind) (words : List Text) (line : Text) (at : ℕ) where
   abbrev Due : Past Line
-  Due = afterOperand w t (drop at line)
+  Due = ofList (contents w) (listed w) (drop at line)
 
-  pub no-space : starts space (drop at line) ≡ false → stuck (drop at line) ≡ Due
-  no-space f = ap (λ d. onward d (afterSpace w t)) (literal-other space [] (drop at line) f)
+  pub no-operand : {p : ℕ} {r : Step} → Steps (λ n next. n) line at r (operand (drop at line)) → r ≡ Stuck p → stuck (drop p line) ≡ Due
+  no-operand s e = ap (λ d. onward d (after-operand w)) (stays s e .says) ∙ wrap-seen w (drop at line)
 
-  module _ (f : starts space (drop at line) ≡ true) {kind : ListKind} (j : kind ≡ listKind w) {before after : List ℕ} {l : SaidStep}
-      (h : ListRead kind line (at + 1) (wholeList words kind (drop (at + 1) line)) before after l) where
-    list : ListRead (listKind w) line (at + 1) (wholeList words (listKind w) (drop (at + 1) line)) before after l
-    list = rw j at h
+  module _ {t from : ℕ} {r : Step} (s : Steps (λ n next. n) line at r (operand (drop at line))) (e : r ≡ To t from) where
+    reach : {x : Past Line} → x ≡ after-operand w t (drop from line) → x ≡ Due
+    reach h = h ∙ ap (λ d. onward d (after-operand w)) (went s e .says) ∙ wrap-seen w (drop at line)
 
-    beyond : {x : Past Line} → x ≡ onward (contents w (drop (at + 1) line)) (afterList w t) → x ≡ Due
-    unfolding literal
-    beyond e = (e ∙ ap (λ d. onward d (afterSpace w t)) (literal-more space [] line at f))
+    pub no-space : starts space (drop from line) ≡ false → stuck (drop from line) ≡ Due
+    no-space f = reach (ap (λ d. onward d (after-space w t)) (literal-other space [] (drop from line) f))
 
-    pub no-list : {p : ℕ} → l ≡ S.Stuck p → stuck (drop p line) ≡ Due
-    no-list e = beyond (ap (λ d. onward d (afterList w t)) (wrap-stuck w words line (at + 1) list (said-stays (list .read) e)))
+    module _ (f : starts space (drop from line) ≡ true) {kind : ListKind} (j : kind ≡ listKind w) {before after : List ℕ} {l : SaidStep}
+        (h : ListRead kind line (from + 1) (wholeList words kind (drop (from + 1) line)) before after l) where
+      list : ListRead (listKind w) line (from + 1) (wholeList words (listKind w) (drop (from + 1) line)) before after l
+      list = rw j at h
 
-    module _ {said : C.Said} {next : ℕ} (g : l ≡ S.To said next) where
-      pub no-end : next < length line → stuck (drop next line) ≡ Due
-      no-end k =
-          let c = wrap-went w words line (at + 1) list g in
-          beyond (ap (λ d. onward d (λ _ m. past (wraps (listed w (c .0)) t) m)) (ended-some line next k) ∙ ap (λ d. onward d (afterList w t)) (c .1))
+      beyond : {x : Past Line} → x ≡ onward (contents w (drop (from + 1) line)) (after-list w t) → x ≡ Due
+      unfolding literal
+      beyond e = reach (e ∙ ap (λ d. onward d (after-space w t)) (literal-more space [] line from f))
 
-      pub wrap-line : (n : ℕ) {o : Operator} → length line ≤ next → o ≡ wrappedOf w (record { at = 32 * n; entries = said .first }) → LineTerm words n Due before after (Wrap o t) (said .fault)
-      unfolding wordsOfFault
-      wrap-line n k o =
-          let c = wrap-went w words line (at + 1) list g in
-          record {
-            line = wraps (listed w (c .0)) t;
-            says = beyond (ap (λ d. onward d (λ _ m. past (wraps (listed w (c .0)) t) m)) (ended-none line next k) ∙ ap (λ d. onward d (afterList w t)) (c .1));
-            term = ap (λ p. Wrap p t) (o ∙ ap (λ i. wrappedOf w (record { at = 32 * n; entries = i })) (ap (λ d. d .first) (c .2)) ∙ listed-operator w words n (c .0));
-            faults = ap (λ d. d .found) (c .2) ∙ listed-faults w words (c .0);
-            stored = λ z. c .3 ∙ ap (λ ws. over ws before) (listed-words w words (c .0) z);
-          }
+      pub no-list : {p : ℕ} → l ≡ S.Stuck p → stuck (drop p line) ≡ Due
+      no-list e = beyond (ap (λ d. onward d (after-list w t)) (wrap-stuck w words line (from + 1) list (said-stays (list .read) e)))
+
+      module _ {said : C.Said} {next : ℕ} (g : l ≡ S.To said next) where
+        pub no-end : next < length line → stuck (drop next line) ≡ Due
+        no-end k =
+            let c = wrap-went w words line (from + 1) list g in
+            beyond (ap (λ d. onward d (λ _ m. past (wraps (listed w (c .0)) t) m)) (ended-some line next k) ∙ ap (λ d. onward d (after-list w t)) (c .1))
+
+        pub wrap-line : (n : ℕ) {o : Operator} → length line ≤ next → o ≡ wrappedOf w (record { at = 32 * n; entries = said .first }) → LineTerm words n Due before after (Wrap o t) (said .fault)
+        unfolding wordsOfFault
+        wrap-line n k o =
+            let c = wrap-went w words line (from + 1) list g in
+            record {
+              line = wraps (listed w (c .0)) t;
+              says = beyond (ap (λ d. onward d (λ _ m. past (wraps (listed w (c .0)) t) m)) (ended-none line next k) ∙ ap (λ d. onward d (after-list w t)) (c .1));
+              term = ap (λ p. Wrap p t) (o ∙ ap (λ i. wrappedOf w (record { at = 32 * n; entries = i })) (ap (λ d. d .first) (c .2)) ∙ listed-operator w words n (c .0));
+              faults = ap (λ d. d .found) (c .2) ∙ listed-faults w words (c .0);
+              stored = λ z. c .3 ∙ ap (λ ws. over ws before) (listed-words w words (c .0) z);
+            }

@@ -10,9 +10,9 @@ use Rattle.meaning.specs.Bytes.{Text}
 use Rattle.meaning.specs.Descriptions as D
 use Rattle.table.specs.Terms.{IsPlain, bareTerm}
 use Rattle.table.specs.declared.Term.{Term}
-use Rattle.forms.specs.Text.{Past, past, stuck, onward, byte, ended, separated}
+use Rattle.forms.specs.Text.{Past, past, stuck, separated}
 use Rattle.forms.specs.Forms as F
-use Rattle.forms.specs.Forms.{Line, plain, wraps, space, Listed, Parts, WordPair, WordRule, comma, wordList, pair, rule, labelList, termLine}
+use Rattle.forms.specs.Forms.{Line, plain, Listed, Parts, WordPair, WordRule, comma, wordList, pair, rule, labelList, termLine}
 use Rattle.table.specs.declared.Place.{Place}
 use Rattle.table.specs.declared.Operator.{Operator}
 use Rattle.table.specs.declared.Operator.the-variants as O
@@ -99,16 +99,6 @@ listed Hide ws = F.hide ws
 listed Rename ps = F.rename ps
 listed Comm rs = F.comm rs
 listed Allow ls = F.allow ls
-
--- what follows the operand: a space, the list and the end
-abbrev pub afterList : (w : WrapKind) → ℕ → ContentsOf w → Text → Past Line
-afterList w t l o = onward (ended o) (λ _ m. past (wraps (listed w l) t) m)
-
-abbrev pub afterSpace : (w : WrapKind) → ℕ → Unit {0} → Text → Past Line
-afterSpace w t u p = onward (contents w p) (afterList w t)
-
-abbrev pub afterOperand : (w : WrapKind) → ℕ → Text → Past Line
-afterOperand w t q = onward (byte space q) (afterSpace w t)
 
 abbrev pub wrappedOf : WrapKind → Place → Operator
 wrappedOf Block p = O.Block p

@@ -9,7 +9,7 @@ ghost use Rattle.meaning.specs.Legal.{isMultiAction};
 ghost use Rattle.forms.specs.Text.{past, onward, ended};
 ghost use Rattle.forms.specs.Forms.{plain, ofName, ofOne, ofTwo, ofList, termLine};
 ghost use Rattle.forms.specs.Faults.{bothBelow, inRange, worse, unless, operandsFit};
-ghost use Rattle.forms.specs.Terms.{PlainRead, madeOf, LineRead, Storeless, listKind, contents, listed, afterOperand, wrappedOf, bareSlot, TermAnswer};
+ghost use Rattle.forms.specs.Terms.{PlainRead, madeOf, LineRead, Storeless, listKind, contents, listed, wrappedOf, bareSlot, TermAnswer};
 ghost use Rattle.meaning.specs.Answers.{range, operand};
 ghost use Rattle.meaning.specs.Descriptions.{delta};
 ghost use Rattle.forms.specs.Tallies.{faultOf, foundOf};
@@ -131,42 +131,6 @@ fn wrapped(k: usize, place: Place) -> Operator
     }
 }
 
-// The list after an operand.
-fn read_listed(
-    k: usize,
-    t: usize,
-    line: &[u8],
-    at: usize,
-    names: &[u64],
-    n: usize,
-    store: &mut [u64],
-) -> TermStep
-    requires { ⌜ (at ≤ length (now line)) × (length (now names) ≤ 12) × (length (now line) ≤ 8192) × (n < 96) ⌝ }
-    ensures { λ r. ⌜ LineRead (map (nameOf 8) (now (names .entry))) n (now (line .entry)) (afterOperand (wrapOf k) t (drop at (now (line .entry)))) (now (store .entry)) (now (store .exit)) r ⌝ }
-{
-    if !sign_at(line, at, b' ') {
-        return TermStep::Stuck(at);
-    }
-    let kind = list_kind(k);
-    let list = read_whole(kind, line, at + 1, names, store);
-    match list {
-        SaidStep::Stuck(p) => TermStep::Stuck(p),
-        SaidStep::To(said, next) => {
-            if next < line.len() {
-                return TermStep::Stuck(next);
-            }
-            let first = 32 * n;
-            let place = Place {
-                at: first,
-                entries: said.first as usize,
-            };
-            let fault = said.fault;
-            let operator = wrapped(k, place);
-            TermStep::To(Term::Wrap(operator, t), fault)
-        }
-    }
-}
-
 fn read_wrap(
     k: usize,
     line: &[u8],
@@ -180,8 +144,30 @@ fn read_wrap(
 {
     let operand = number_after(line, at, b' ');
     match operand {
-        Step::To(t, after) => read_listed(k, t as usize, line, after, names, n, store),
         Step::Stuck(p) => TermStep::Stuck(p),
+        Step::To(t, after) => {
+            if !sign_at(line, after, b' ') {
+                return TermStep::Stuck(after);
+            }
+            let kind = list_kind(k);
+            let list = read_whole(kind, line, after + 1, names, store);
+            match list {
+                SaidStep::Stuck(p) => TermStep::Stuck(p),
+                SaidStep::To(said, next) => {
+                    if next < line.len() {
+                        return TermStep::Stuck(next);
+                    }
+                    let first = 32 * n;
+                    let place = Place {
+                        at: first,
+                        entries: said.first as usize,
+                    };
+                    let fault = said.fault;
+                    let operator = wrapped(k, place);
+                    TermStep::To(Term::Wrap(operator, t as usize), fault)
+                }
+            }
+        }
     }
 }
 

@@ -1,6 +1,7 @@
 -- `forms::terms::list_kind` meets its contract: each place has its list.
 -- Assumes nothing.
-use borrow.Author.Tests.{ne-eqb}
+use Rattle.forms.specs.Terms.{listKind}
+use Rattle.forms.proofs.Kinded.{wrap-rest}
 use Rattle.forms.proofs.terms.list_kind.Statement.{statement}
 use Rattle.forms.proofs.terms.list_kind.Tie as tie
 
@@ -17,10 +18,7 @@ returns-4 : tie.Need-returns-4
 returns-4 c = rw (c .match .keys4)
 
 returns-5 : tie.Need-returns-5
-returns-5 c =
-    let k = c .before .args .k in
-    let r = c .match .rest in
-    rw (ne-eqb k 12 (r .0 .0 .0 .1), ne-eqb k 13 (r .0 .0 .1), ne-eqb k 14 (r .0 .1), ne-eqb k 15 (r .1))
+returns-5 c = wrap-rest listKind (c .before .args .k) (c .match .rest)
 
 pub list-kind-spec : {M : Type 1} → statement M
 list-kind-spec = tie.close (tie.spec returns returns-2 returns-3 returns-4 returns-5)

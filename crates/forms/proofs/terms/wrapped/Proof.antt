@@ -1,6 +1,7 @@
 -- `forms::terms::wrapped` meets its contract: each place has its operator.
 -- Assumes nothing.
-use borrow.Author.Tests.{ne-eqb}
+use Rattle.forms.specs.Terms.{wrappedOf}
+use Rattle.forms.proofs.Kinded.{wrap-rest}
 use Rattle.forms.proofs.terms.wrapped.Statement.{statement}
 use Rattle.forms.proofs.terms.wrapped.Tie as tie
 
@@ -17,10 +18,7 @@ returns-4 : tie.Need-returns-4
 returns-4 c = rw (c .match .keys4)
 
 returns-5 : tie.Need-returns-5
-returns-5 c =
-    let k = c .before .args .k in
-    let r = c .match .rest in
-    rw (ne-eqb k 12 (r .0 .0 .0 .1), ne-eqb k 13 (r .0 .0 .1), ne-eqb k 14 (r .0 .1), ne-eqb k 15 (r .1))
+returns-5 c = wrap-rest (λ w. wrappedOf w (c .before .args .place)) (c .before .args .k) (c .match .rest)
 
 pub wrapped-spec : {M : Type 1} → statement M
 wrapped-spec = tie.close (tie.spec returns returns-2 returns-3 returns-4 returns-5)
