@@ -2,23 +2,22 @@
 -- Assumes nothing.
 use mathlib.Core.Path.{_≡_, refl, sym, ap, ap₂, _∙_}
 use mathlib.Core.Bool.{Bool, true, false}
-use mathlib.Core.List.{List, [], _∷_, _++_, map}
-use Prim.Native.Nat.{ℕ, suc, _+_, _*_, _≤_, min}
+use mathlib.Core.List.{List, [], _∷_, map}
+use Prim.Native.Nat.{ℕ, _+_, _*_}
 use native.Mathlib.Omega.{arith}
 use lib.Dec.{leb, ltb}
-use lib.ListN.{length, length-map}
+use lib.ListN.{length}
 use Rattle.meaning.specs.Bytes.{Text}
 use Rattle.meaning.specs.Labels as L
-use Rattle.meaning.specs.Answers.{Fault, name, amount, faultNumber}
-use Rattle.meaning.specs.Legal.{Each}
+use Rattle.meaning.specs.Answers.{name, amount}
 use Rattle.table.specs.Encoded.{pairWord, ruleWords}
-use Rattle.forms.specs.Forms.{Part, Parts, WordPair, WordRule}
-use Rattle.forms.specs.Faults.{Found, fine, fault, worse, unless, worst, rising, nameNumber, nameFault, partFault, labelFault, ruleFault, pairFault, wordsFault, pairsFault, rulesFault, labelsFault, actions, numberSaid, labelSaid, pairSaid, ruleSaid}
+use Rattle.forms.specs.Forms.{Parts, WordPair, WordRule}
+use Rattle.forms.specs.Faults.{Found, fine, fault, worse, unless, worst, rising, nameNumber, nameFault, partFault, labelFault, ruleFault, wordsFault, pairsFault, rulesFault, labelsFault, actions, numberSaid, labelSaid, pairSaid, ruleSaid}
 use Rattle.forms.specs.Tallies.{Said, weightOf, allFaults}
 use Rattle.forms.specs.Entries.{nameEntry, pairEntry, ruleEntry, labelEntry, unlessFaulty}
 use Rattle.forms.specs.Lists.{listFaults, listWords}
 use Rattle.forms.specs.declared.lists.ListKind.the-variants.{Names, Pairs, Rules, Labels}
-use Rattle.forms.proofs.Ranks.{rank, by-rank, rank-worse, worse-fine}
+use Rattle.forms.proofs.Ranks.{by-rank, rank-worse, worse-fine}
 use Rattle.forms.proofs.Parts.{worst-map, map-twice, worse-none}
 
 -- The weight of a list whose entries all weigh the same.

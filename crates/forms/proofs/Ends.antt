@@ -1,25 +1,17 @@
 -- The end of a line.
 -- Assumes nothing.
-use mathlib.Core.Path.{_≡_, refl, sym, ap, ap₂, _∙_}
+use mathlib.Core.Path.{_≡_, refl, ap, _∙_}
 use mathlib.Core.Bool.{Bool, true, false}
-use mathlib.Core.List.{List, [], _∷_, _++_, append-nil}
-use Prim.Native.Nat.{ℕ, _+_, _-_, _≤_, _<_}
-use native.Mathlib.Nat.{le-refl}
-use native.Mathlib.Omega.{arith}
-use lib.Dec.{eqb, ltb}
-use lib.ListN.{length, getD, take, drop, drop-of-length-le}
-use lib.Seq.{append-snoc}
-use borrow.Author.Tests.{lt-ltb, le-ltb, ltb-true, ltb-false, eq-eqb, ne-eqb}
+use Prim.Native.Nat.{ℕ}
+use lib.Dec.{ltb}
+use lib.ListN.{length, drop, drop-of-length-le}
+use borrow.Author.Tests.{ltb-true, ltb-false}
 use Rattle.meaning.specs.Bytes.{Text}
-use Rattle.forms.specs.Text.{Past, past, stuck, onward, ended, literal, number, word}
-use Rattle.forms.specs.Forms.{countLine, nameLine}
-use Rattle.forms.specs.Places.{Stands, Steps}
+use Rattle.forms.specs.Text.{Past, past, onward, ended, literal}
+use Rattle.forms.specs.Places.{Steps}
 use Rattle.forms.specs.Lines.{pastEnd, endedStep}
 use Rattle.forms.specs.declared.Step.{Step}
 use Rattle.forms.specs.declared.Step.the-variants.{To, Stuck}
-use Rattle.meaning.specs.Bytes.{ascii}
-use Rattle.forms.proofs.Rests.{rest-cons}
-use Rattle.forms.proofs.Words.{take-snoc}
 use Rattle.forms.proofs.Steps.{halted, onwards}
 use Rattle.forms.proofs.Operands.{ended-none, ended-some}
 

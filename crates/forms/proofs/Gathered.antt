@@ -1,22 +1,19 @@
 -- Entries with a sign between them, one after the other: what was read, and what is to come, are the whole list.
 -- Assumes nothing.
 use mathlib.Core.Path.{_≡_, refl, sym, ap, _∙_}
-use mathlib.Core.Bool.{Bool, true, false, false≢true}
-use mathlib.Core.List.{List, [], _∷_, _++_, map, append-assoc}
+use mathlib.Core.Bool.{Bool, true, false}
+use mathlib.Core.List.{List, [], _∷_, _++_, map}
 use Prim.Native.Nat.{ℕ, zero, suc, _+_, _≤_, _<_}
-use native.Mathlib.Numerals.{add-one}
 use native.Mathlib.Nat.{le-trans}
 use native.Mathlib.Omega.{arith}
-use lib.Dec.{eqb, leb}
-use lib.ListN.{length, getD, drop, length-drop, drop-of-length-le}
+use lib.ListN.{length, drop, length-drop}
 use lib.Seq.{append-snoc}
-use borrow.Author.Tests.{eq-eqb, eqb-true, leb-true, leb-false}
 use Rattle.meaning.specs.Bytes.{Text}
 use Rattle.forms.specs.Text.{Past, past, stuck, onward, literal, byte, starts, separatedOn, separated}
 use Rattle.forms.specs.Tallies.{Said}
 use Rattle.forms.specs.Places.{Stands}
 use Rattle.forms.specs.Entries.{seen}
-use Rattle.forms.proofs.Rests.{rest-cons, sign-within, literal-more}
+use Rattle.forms.proofs.Rests.{sign-within, literal-more}
 
 -- One entry, and what follows it.
 abbrev with-first : {A : Type 0} → A → Past (List A) → Past (List A)

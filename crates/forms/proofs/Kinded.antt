@@ -10,7 +10,7 @@ use native.Mathlib.Numerals.{add-one}
 use lib.Dec.{eqb, ltb, lit<}
 use lib.Seq.{drop-cons}
 use lib.ListN.{length, getD, drop, drop-of-length-le}
-use borrow.Author.Tests.{lt-ltb, le-ltb, eqb-true, eqb-false, eq-eqb, ne-eqb}
+use borrow.Author.Tests.{lt-ltb, le-ltb, eqb-true, eqb-false, ne-eqb}
 use Rattle.meaning.specs.Bytes.{Text}
 use Rattle.table.specs.Decoded.{nameOf}
 use Rattle.forms.specs.Text.{Past, past, stuck, literal}
@@ -20,10 +20,9 @@ use Rattle.forms.specs.Terms.{either, madeOf, WrapKind, Allow, contents,
 use Rattle.forms.specs.Kinds.{restOf, noKind, fartherFrom, wrapOf, KindFound, KindRead}
 use Rattle.forms.specs.declared.kinds.KindStep.{KindStep}
 use Rattle.forms.specs.declared.kinds.KindStep.the-variants as K
-use Rattle.forms.specs.Places.{placeOf, Stands, Steps}
+use Rattle.forms.specs.Places.{Stands, Steps}
 use Rattle.forms.specs.declared.Step.{Step}
 use Rattle.forms.specs.declared.Step.the-variants.{To, Stuck}
-use Rattle.forms.proofs.Rests.{rest-cons}
 use Rattle.forms.proofs.Steps.{went, stays}
 use Rattle.forms.proofs.Farthest.{join-stuck, join-more}
 

@@ -1,19 +1,18 @@
 -- The lists, entry by entry, with their words over the start of a store.
 -- Assumes nothing.
 use mathlib.Core.Path.{_≡_, refl, sym, ap, ap₂, subst, _∙_}
-use mathlib.Core.List.{List, [], _∷_, _++_, map, append-assoc, append-nil}
-use Prim.Native.Nat.{ℕ, zero, suc, _+_, _*_, _≤_, _<_, _^_}
-use native.Mathlib.Numerals.{add-one}
+use mathlib.Core.List.{List, [], _∷_, _++_, append-assoc, append-nil}
+use Prim.Native.Nat.{ℕ, suc, _+_, _*_, _≤_, _<_, _^_}
 use native.Mathlib.Omega.{arith}
 use native.Mathlib.Nat.{le-refl}
-use lib.ListN.{length, drop, set, length-append, drop-of-length-le}
+use lib.ListN.{length, set, length-append, drop-of-length-le}
 use Rattle.meaning.specs.Bytes.{Text}
 use Rattle.forms.specs.Text.{Past, past, stuck, onward, word}
 use Rattle.forms.specs.Forms.{label, pair, rule}
 use borrow.Author.Tests.{le-leb}
-use Rattle.forms.specs.Faults.{fine, worst, rising, nameNumber}
+use Rattle.forms.specs.Faults.{fine, worst, rising}
 use Rattle.forms.specs.Tallies.{Said, weightOf, allFaults}
-use Rattle.forms.specs.Entries.{seen, nameEntry, pairEntry, ruleEntry, labelEntry}
+use Rattle.forms.specs.Entries.{nameEntry, pairEntry, ruleEntry, labelEntry}
 use Rattle.forms.specs.Lists.{entryOf, listFaults, weightFor, limitFor, wordCount, entryWord, entryWords, listWords, entryStored, over, ListRead}
 use Rattle.forms.specs.declared.labels.SaidStep.the-variants as S
 use Rattle.forms.specs.declared.Found.the-variants.{Fine}

@@ -3,15 +3,14 @@
 use mathlib.Core.Path.{_≡_, refl, sym, ap, ap₂, _∙_}
 use mathlib.Core.Bool.{Bool, true, false, _&&_, false≢true}
 use mathlib.Core.List.{List, [], _∷_, map}
-use Prim.Native.Nat.{ℕ, zero, suc, _+_, _*_, _/_, _%_, _^_, _≤_, _<_}
-use native.Mathlib.Numerals.{add-one}
+use Prim.Native.Nat.{ℕ, zero, suc, _+_, _/_, _^_, _≤_, _<_}
 use native.Mathlib.Nat.{pow-suc, div-lt-iff-lt-mul, not-suc-le-zero, le-of-suc-le-suc}
 use native.Mathlib.Omega.{arith}
-use lib.Dec.{T, eqb, eqb→eq, eqb-refl, lit<, eqb·zero-suc, eqb·suc-suc}
+use lib.Dec.{T, eqb, eqb→eq, lit<, eqb·zero-suc, eqb·suc-suc}
 use lib.ListN.{length, getD, drop, drop-of-length-le}
 use borrow.Author.Tests.{eqb-true, eqb-false, eq-eqb, ne-eqb}
 use Rattle.meaning.specs.Bytes.{Text}
-use Rattle.meaning.proofs.Tests.{and-left, and-right, and-both}
+use Rattle.meaning.proofs.Tests.{and-left, and-right}
 use Rattle.table.specs.Decoded.{nameOf}
 use Rattle.table.specs.Encoded.{wordOf}
 use Rattle.forms.specs.Text.{Past, past, stuck, sameText, literal}

@@ -10,7 +10,6 @@ use Rattle.table.specs.declared.Order.the-variants.{All, Only}
 use Rattle.forms.specs.Text.{Past, past, stuck, onward, sameText, literal, ended}
 use Rattle.forms.specs.Forms.{OrderLine, all, only, Parts, orderLine}
 use Rattle.forms.specs.Faults.{orderFault, labelSaid}
-use Rattle.forms.specs.Places.{saidPlace}
 use Rattle.forms.specs.Entries.{labelEntry}
 use Rattle.forms.specs.Lists.{wholeList, over, ListRead}
 use Rattle.forms.specs.Terms.{Allow}

@@ -4,11 +4,11 @@ use mathlib.Core.Path.{_≡_, refl, sym, ap, ap₂, subst, _∙_}
 use mathlib.Core.Bool.{Bool, true, false}
 use mathlib.Core.List.{List, [], _∷_, _++_, map}
 use Prim.Native.Nat.{ℕ, zero, suc, _+_, _*_, _-_, _^_, _≤_, _<_, min, zero-le}
-use native.Mathlib.Nat.{pow-suc, mul-assoc, mul-comm, mul-le-mul-left, pow-le-pow-right, le-trans, not-suc-le-zero, le-of-suc-le-suc, add-mul}
+use native.Mathlib.Nat.{pow-suc, mul-assoc, mul-le-mul-left, pow-le-pow-right, not-suc-le-zero, le-of-suc-le-suc}
 use native.Mathlib.Omega.{arith}
 use lib.Dec.{leb, ltb, eqb, lit<, leb→le}
 use lib.ListN.{length}
-use borrow.Author.Tests.{leb-true, ltb-true, ltb-false}
+use borrow.Author.Tests.{leb-true, ltb-true}
 use Rattle.meaning.specs.Bytes.{Text}
 use Rattle.meaning.specs.Labels as L
 use Rattle.meaning.specs.Labels.{several, empty}
@@ -19,7 +19,7 @@ use Rattle.meaning.proofs.Bags.{number-plus}
 use Rattle.forms.specs.Text.{Past, past, stuck, onward, sameText, byte, isDigit, secondDigit, number, word, separated}
 use Rattle.forms.specs.Forms.{Part, Parts, part, label, colon, dot}
 use Rattle.forms.specs.Faults.{Found, fine, fault, worse, smaller, unless, worst, rising, nameNumber, nameFault, labelSaid, actions, partFault, labelFault, numberSaid}
-use Rattle.forms.specs.Tallies.{foundOf, Said, weightOf, allFaults}
+use Rattle.forms.specs.Tallies.{Said, weightOf, allFaults}
 use Rattle.forms.specs.Entries.{seen, partSaid, unlessFaulty, labelEntry, Room}
 use Rattle.forms.proofs.Tallied.{all-snoc}
 use Rattle.forms.proofs.Seen.{said-same}

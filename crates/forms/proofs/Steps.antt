@@ -15,7 +15,7 @@ use Rattle.forms.specs.declared.labels.Said as C
 use Rattle.forms.specs.declared.labels.SaidStep.{SaidStep}
 use Rattle.forms.specs.declared.labels.SaidStep.the-variants as S
 use Rattle.forms.specs.Tallies.{Said}
-use Rattle.forms.specs.Places.{placeOf, stepOf, Stands, Steps, saidPlace, saidOf, saidStep, Says}
+use Rattle.forms.specs.Places.{Stands, Steps, saidOf, Says}
 use Rattle.forms.proofs.Rests.{literal-other, literal-more}
 
 -- Said of any answer.

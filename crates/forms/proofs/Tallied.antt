@@ -1,16 +1,16 @@
 -- A tally, entry by entry, against the faults of the whole list.
 -- Assumes nothing.
-use mathlib.Core.Path.{_≡_, refl, sym, ap, ap₂, _∙_}
+use mathlib.Core.Path.{_≡_, refl, sym, ap, _∙_}
 use mathlib.Core.Bool.{Bool, true, false, _&&_}
 use mathlib.Core.List.{List, [], _∷_, _++_, map}
-use Prim.Native.Nat.{ℕ, zero, suc, _+_, _≤_, _<_, min}
+use Prim.Native.Nat.{ℕ, _+_, _≤_, min}
 use native.Mathlib.Numerals.{add-one}
 use native.Mathlib.Omega.{arith}
 use lib.Dec.{leb, ltb}
 use borrow.Author.Tests.{le-leb, lt-leb, leb-true, leb-false}
 use Rattle.meaning.specs.Answers.{amount}
-use Rattle.forms.specs.Faults.{Found, fine, fault, worse, unless, worst, above, rising}
-use Rattle.forms.specs.declared.Found.the-variants.{Fine, Faulty}
+use Rattle.forms.specs.Faults.{Found, fault, worse, unless, worst, rising}
+use Rattle.forms.specs.declared.Found.the-variants.{Fine}
 use Rattle.forms.specs.declared.faults.Tally.{Tally}
 use Rattle.forms.specs.Tallies.{foundOf, Said, floorOf, weightOf, allFaults, Counted}
 use Rattle.forms.proofs.Ranks.{rank, by-rank, rank-worse, rank-and, rank-within, worst-snoc}

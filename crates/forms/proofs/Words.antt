@@ -1,13 +1,12 @@
 -- Names packed in a word: which text a word stands for, and how the name from a place on is read.
 -- Assumes nothing.
-use mathlib.Core.Path.{_≡_, refl, sym, ap, ap₂, _∙_}
+use mathlib.Core.Path.{_≡_, refl, ap, _∙_}
 use mathlib.Core.Bool.{Bool, true, false, _&&_, _||_}
-use mathlib.Core.List.{List, [], _∷_, _++_, append-nil}
+use mathlib.Core.List.{[], _∷_, _++_, append-nil}
 use Prim.Native.Nat.{ℕ, zero, suc, _+_, _*_, _-_, _/_, _%_, _^_, _≤_, _<_}
-use native.Mathlib.Numerals.{add-one}
 use native.Mathlib.Nat.{pow-succ', one-le-pow, not-suc-le-zero, le-refl}
 use native.Mathlib.Omega.{arith}
-use lib.Dec.{T, leb, eqb, leb→le}
+use lib.Dec.{T, leb, leb→le}
 use borrow.Author.Tests.{ne-eqb}
 use Rattle.meaning.proofs.Tests.{and-left, and-right}
 use Rattle.meaning.specs.Legal.{Each}

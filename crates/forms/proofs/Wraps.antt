@@ -1,6 +1,6 @@
 -- The kinds with a list: what follows their word, and what the list says.
 -- Assumes nothing.
-use mathlib.Core.Path.{_≡_, refl, sym, ap, subst, _∙_}
+use mathlib.Core.Path.{_≡_, refl, sym, ap, _∙_}
 use mathlib.Core.Bool.{Bool, true, false}
 use mathlib.Core.List.{List, [], _∷_, map}
 use Prim.Native.Nat.{ℕ, suc, _+_, _*_, _≤_, _<_}
@@ -9,9 +9,9 @@ use Rattle.meaning.specs.Bytes.{Text, ascii}
 use Rattle.table.specs.declared.Operator.{Operator}
 use Rattle.table.specs.declared.Term.the-variants.{Wrap}
 use Rattle.table.specs.Encoded.{operatorWords, operatorFor}
-use Rattle.forms.specs.Text.{Past, past, stuck, onward, sameText, ended, starts, literal, word, separated}
+use Rattle.forms.specs.Text.{Past, past, stuck, onward, sameText, ended, starts, literal, word}
 use Rattle.forms.specs.Forms.{Line, wraps, Parts, comma, space, pair, rule, label, labelList, ofList}
-use Rattle.forms.specs.Faults.{fine, wordsOfFault, worse, unless, worst, rising, labelFault, ruleFault, rulesFault, labelsFault, listFault, operatorSaid, nameNumber, pairSaid, ruleSaid, labelSaid}
+use Rattle.forms.specs.Faults.{fine, wordsOfFault, worst, labelFault, ruleFault, rulesFault, labelsFault, listFault, operatorSaid, nameNumber, pairSaid, ruleSaid, labelSaid}
 use Rattle.forms.specs.Tallies.{Said}
 use Rattle.forms.specs.Places.{Stands, Steps, saidOf}
 use Rattle.forms.specs.Entries.{nameEntry, pairEntry, ruleEntry, labelEntry}

@@ -1,6 +1,6 @@
 -- What each kind of entry says, with its names looked up.
 -- Assumes nothing.
-use mathlib.Core.List.{List, [], _∷_, map}
+use mathlib.Core.List.{List}
 use Prim.Native.Nat.{ℕ, _+_, _*_, _^_, _<_, min}
 use Rattle.meaning.specs.Bytes.{Text}
 use Rattle.forms.specs.Text.{Past, past, onward}

@@ -2,12 +2,12 @@
 -- Assumes nothing.
 use mathlib.Core.Bool.{Bool, true, false, _&&_}
 use mathlib.Core.List.{List, [], _∷_, map}
-use Prim.Native.Nat.{ℕ, zero, suc, _+_}
+use Prim.Native.Nat.{ℕ, suc, _+_}
 use lib.Dec.{leb, ltb}
 use lib.ListN.{length, getD}
 use Rattle.meaning.specs.Bytes.{Text}
 use Rattle.meaning.specs.Labels as L
-use Rattle.meaning.specs.Labels.{Label, empty, several, plus, size}
+use Rattle.meaning.specs.Labels.{Label, empty, several, plus}
 use Rattle.meaning.specs.Descriptions as D
 use Rattle.meaning.specs.Descriptions.{Term, act, tau, delta, ref, sum, cond, choice, ifelse, seq, merge, lmerge, sync, wrap, Operator, Order}
 use Rattle.meaning.specs.Legal.{isMultiAction}

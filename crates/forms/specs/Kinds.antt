@@ -1,7 +1,7 @@
 -- The kind's word as the code finds it.
 -- Assumes nothing.
 use mathlib.Core.Path.{_≡_}
-use mathlib.Core.List.{List, []}
+use mathlib.Core.List.{[]}
 use Prim.Native.Nat.{ℕ, zero, suc, _≤_, _<_, max}
 use lib.ListN.{length, getD, drop}
 use lib.Dec.{eqb}

@@ -1,11 +1,11 @@
 -- The lists as the code reads them: one kind of entry after the other, and the words that each puts into the store.
 -- Assumes nothing.
-use mathlib.Core.List.{List, [], _∷_, _++_, map}
+use mathlib.Core.List.{List, [], _∷_, _++_}
 use mathlib.Core.Bool.{Bool, true, false, _&&_}
 use mathlib.Core.Path.{_≡_}
 use Prim.Native.Nat.{ℕ, _+_, _*_}
 use lib.Dec.{eqb}
-use lib.ListN.{length, drop, set}
+use lib.ListN.{length, set}
 use Rattle.meaning.specs.Bytes.{Text, ascii}
 use Rattle.forms.specs.Text.{Past, past, onward, sameText, word, separated}
 use Rattle.forms.specs.Forms.{comma, label, pair, rule}

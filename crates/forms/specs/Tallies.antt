@@ -1,9 +1,8 @@
 -- What the entries of a list or the parts of a label say, one by one and together.
 -- Assumes nothing.
 use mathlib.Core.Path.{_≡_}
-use mathlib.Core.Bool.{Bool, true, false, _&&_}
 use mathlib.Core.List.{List, [], _∷_, map}
-use Prim.Native.Nat.{ℕ, zero, suc, _+_, _≤_, _<_, _^_, min}
+use Prim.Native.Nat.{ℕ, suc, _+_, _≤_, _<_, _^_, min}
 use lib.Dec.{leb}
 use Rattle.meaning.specs.Answers.{Fault, form, name, range, amount, operand}
 use Rattle.forms.specs.Faults.{Found, fine, fault, worse, unless, worst, rising}

@@ -1,7 +1,6 @@
 // The lines that hold a number or a name after their key.
-ghost use Prim.Native.Nat.{_≤_};
 ghost use mathlib.Core.Path.{_≡_};
-ghost use lib.ListN.{length, drop};
+ghost use lib.ListN.{length};
 ghost use Rattle.table.specs.Decoded.{nameOf};
 ghost use Rattle.forms.specs.Forms.{countLine, nameLine};
 ghost use Rattle.forms.specs.Places.{Steps};

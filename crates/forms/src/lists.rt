@@ -10,7 +10,7 @@ ghost use Rattle.forms.specs.Text.{sameText, word};
 ghost use Rattle.forms.specs.Forms.{pair, rule};
 ghost use Rattle.forms.specs.Places.{saidPlace, Says};
 ghost use Rattle.forms.specs.Sides.{Enough, Sided};
-ghost use Rattle.forms.specs.Entries.{seen, nameEntry, pairEntry, ruleEntry};
+ghost use Rattle.forms.specs.Entries.{seen, pairEntry, ruleEntry};
 ghost use Rattle.forms.specs.Lists.{entryOf, wordCount, entryWord, weightFor, limitFor, entryStored, listOf, takesNone, wholeList, ListRead};
 use crate::Found;
 use crate::bytes::rest_is;

@@ -12,7 +12,7 @@ ghost use Rattle.forms.specs.Faults.{bothBelow, inRange, worse, unless, 
 ghost use Rattle.forms.specs.Terms.{PlainRead, madeOf, LineRead, Storeless, listKind, contents, listed, wrappedOf, bareSlot, TermAnswer};
 ghost use Rattle.meaning.specs.Answers.{range, operand};
 ghost use Rattle.meaning.specs.Descriptions.{delta};
-ghost use Rattle.forms.specs.Tallies.{faultOf, foundOf};
+ghost use Rattle.forms.specs.Tallies.{foundOf};
 ghost use Rattle.forms.specs.Kinds.{restOf, wrapOf, fartherStep};
 use crate::Fault;
 use crate::Found;

@@ -10,11 +10,10 @@ use native.Mathlib.Decide.{ℕ-discrete}
 use lib.ListN.{length, length-map}
 use Rattle.meaning.specs.Bytes.{Text, ascii}
 use Rattle.meaning.specs.Labels.{Label, number, labelOf}
-use Rattle.meaning.specs.Descriptions.{Description}
 use Rattle.meaning.specs.Legal.{Each}
 use Rattle.meaning.proofs.Digits.{Small}
 use Rattle.table.specs.Decoded.{nameOf}
-use Rattle.table.specs.Encoded.{filled, wordOf, tableOf}
+use Rattle.table.specs.Encoded.{filled, wordOf}
 use Rattle.printing.specs.Printed.{joint, partText, partsText, labelText, orTau, labelLines, line, answerText}
 use Rattle.printing.specs.Areas.{wordsOf, countsOf}
 use Rattle.printing.proofs.Names.{first-byte}
@@ -75,9 +74,3 @@ module _ (ws : List Text) (few : length ws ≤ 12) (words : Each Bytes ws) where
       answerText (wordsOf (filled 12 0 (map wordOf ws))) rounds (map countsOf (map number labels)) ≡ answerText ws rounds labels
   unfolding answerText
   same-answer rounds labels f = rw (length-map, length-map, same-lines labels f)
-
--- The same of a description and its table.
-pub table-answer : (d : Description) → length (d .words) ≤ 12 → Each Bytes (d .words) → (rounds : ℕ) (labels : List Label) → Each (Fits (d .words)) labels →
-    answerText (wordsOf (tableOf d .names)) rounds (map countsOf (map number labels)) ≡ answerText (d .words) rounds labels
-unfolding tableOf
-table-answer d few words rounds labels f = same-answer (d .words) few words rounds labels f

@@ -1,15 +1,14 @@
 -- How long a text can be: what a lent area must have to hold every one.
 -- Assumes nothing.
-use mathlib.Core.Path.{_≡_, refl, sym, ap, _∙_}
+use mathlib.Core.Path.{_≡_, refl}
 use mathlib.Core.Bool.{Bool, true, false}
 use mathlib.Core.List.{List, [], _∷_, _++_, map}
 use lib.Dec.{leb}
 use borrow.Author.Tests.{leb-true}
-use Prim.Native.Nat.{ℕ, suc, _+_, _*_, _≤_}
+use Prim.Native.Nat.{ℕ, _+_, _*_, _≤_}
 use native.Mathlib.Omega.{arith}
-use lib.ListN.{length, length-append, length-map}
+use lib.ListN.{length, length-append}
 use Rattle.meaning.specs.Bytes.{Text, ascii}
-use Rattle.meaning.specs.Labels.{Label}
 use Rattle.printing.specs.Printed.{decimal, line, labelText, labelLines, answerText, refusedText}
 use Rattle.printing.specs.Areas.{wordsOf, countsOf, Printed}
 use Rattle.printing.proofs.Decimal.{length-decimal}

@@ -1,6 +1,6 @@
 -- The whole text: written where it fits, and nothing where it does not; any two results that meet the promise are equal.
 -- Assumes nothing.
-use mathlib.Core.Path.{_≡_, sym, ap, _∙_}
+use mathlib.Core.Path.{_≡_, ap}
 use mathlib.Core.List.{List, [], _∷_, _++_, append-assoc, map}
 use Prim.Native.Nat.{ℕ, _+_, _≤_, _<_}
 use native.Mathlib.Omega.{arith}
@@ -8,7 +8,7 @@ use native.Mathlib.Decide.{decLt}
 use borrow.Author.Tests.{le-leb, lt-leb}
 use lib.ListN.{length, length-append, length-map}
 use Rattle.meaning.specs.Bytes.{Text, ascii}
-use Rattle.printing.specs.Printed.{decimal, line, answerText, refusedText}
+use Rattle.printing.specs.Printed.{decimal, line, answerText}
 use Rattle.printing.specs.Areas.{Written, Printed, areaWith, sizeIn, wordsOf, countsOf}
 use Rattle.printing.specs.Steps.{headText}
 use Rattle.printing.proofs.LabelLines.{linesFrom}
@@ -58,16 +58,3 @@ module _ (names : List ℕ) (rounds : ℕ) (labels : List ℕ) where
 
   pub length-answer : length packedAnswer ≡ length (answerHead rounds (length labels)) + length (linesFrom names labels 0)
   length-answer = rw (← answer-joined) (length-append (answerHead rounds (length labels)) (linesFrom names labels 0))
-
--- The promise settles the area and the answer: of each public function, any two results that meet it are equal.
-pub settled : {s before after after′ : Text} {r r′ : ℕ} → Printed s before after r → Printed s before after′ r′ → (after ≡ after′) × (r ≡ r′)
-settled p q = (p .area ∙ sym (q .area), p .size ∙ sym (q .size))
-
-module _ {before after after′ : Text} {r r′ : ℕ} where
-  pub one-answer : (names : List ℕ) (rounds : ℕ) (labels : List ℕ) →
-      Printed (packedAnswer names rounds labels) before after r → Printed (packedAnswer names rounds labels) before after′ r′ → (after ≡ after′) × (r ≡ r′)
-  one-answer names rounds labels = settled
-
-  pub one-refusal : (reason line : ℕ) →
-      Printed (refusedText reason line) before after r → Printed (refusedText reason line) before after′ r′ → (after ≡ after′) × (r ≡ r′)
-  one-refusal reason line = settled

@@ -7,7 +7,7 @@ use lib.Dec.{ltb, eqb}
 use lib.ListN.{length, drop}
 use Rattle.meaning.specs.Bytes.{Text, ascii}
 use Rattle.meaning.specs.Labels.{Label}
-use Rattle.meaning.specs.Answers.{Outcome, tooLarge, listed, Refusal, large, reasonOf, lineOf}
+use Rattle.meaning.specs.Answers.{Refusal, reasonOf, lineOf}
 
 -- A number in decimal; twenty digits hold every word.
 unfoldable pub digits : ℕ → ℕ → Text
@@ -56,10 +56,6 @@ refusedText reason at =
 
 abbrev pub refusalText : Refusal → Text
 refusalText r = refusedText (reasonOf r) (lineOf r)
-
-abbrev pub outcomeText : List Text → Outcome → Text
-outcomeText words tooLarge = refusalText large
-outcomeText words (listed rounds labels) = answerText words rounds labels
 
 -- A text is put at the start of an area, whose further bytes stay.
 abbrev pub put : Text → Text → Text

@@ -1,12 +1,12 @@
 -- What a line gives, by its form and its values.
 -- Assumes nothing.
 use mathlib.Core.Path.{_≡_, refl, sym, ap, _∙_}
-use mathlib.Core.Bool.{Bool, true, false, _&&_}
+use mathlib.Core.Bool.{Bool, true, false}
 use mathlib.Core.List.{List, [], _∷_, _++_, map, map-append}
 use Prim.Native.Nat.{ℕ, zero, suc, _+_, _≤_, _<_}
 use native.Mathlib.Numerals.{add-one}
 use native.Mathlib.Omega.{arith}
-use lib.Dec.{leb, ltb}
+use lib.Dec.{ltb}
 use lib.ListN.{length, getD, take, set}
 use lib.Seq.{take-suc-set}
 use borrow.Author.Tests.{lt-ltb, le-ltb, le-leb, lt-leb}
@@ -14,7 +14,7 @@ use Rattle.meaning.specs.Bytes.{Text, ascii}
 use Rattle.meaning.specs.Answers.{Fault, form, name, range, Refusal}
 use Rattle.forms.specs.Text.{Past, past, stuck}
 use Rattle.forms.specs.Forms.{countLine, nameLine}
-use Rattle.reading.specs.Reading.{Taken, taken, faulty, takenIf, formed, takeNumber, isFree, takeName, takeBody, Cut, cut, noLine, firstLine, Walk, reached, halted, walk, afterLine, lineWalk, oneLine}
+use Rattle.reading.specs.Reading.{taken, faulty, takenIf, formed, takeNumber, isFree, takeName, takeBody, Cut, cut, noLine, firstLine, reached, halted, walk, afterLine, lineWalk, oneLine}
 use Rattle.reading.specs.Walks.{between}
 
 -- A number.

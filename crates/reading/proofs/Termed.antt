@@ -1,8 +1,8 @@
 -- Lines of terms and the order's line: what their readers' answers make of what was read before.
 -- Assumes nothing.
-use mathlib.Core.Path.{_≡_, refl, sym, ap, _∙_}
+use mathlib.Core.Path.{_≡_, refl, ap}
 use mathlib.Core.List.{List, [], _∷_, _++_}
-use Prim.Native.Nat.{ℕ, zero, suc, _+_, _*_, _-_, _≤_, _<_, min}
+use Prim.Native.Nat.{ℕ, zero, suc, _+_, _*_, _-_, _≤_, _<_}
 use native.Mathlib.Omega.{arith}
 use lib.ListN.{length, take, drop, set, length-take, length-drop, length-append}
 use Rattle.meaning.specs.Bytes.{Text}
@@ -15,7 +15,7 @@ use Rattle.table.specs.declared.Order.{Order}
 use Rattle.table.specs.Encoded.{filled, termWords, termsWords, termFor, slotsFrom}
 use Rattle.table.proofs.Filled.{slots-more, part-free, part-more}
 use Rattle.forms.specs.Lists.{over}
-use Rattle.forms.specs.Text.{Past, past, stuck}
+use Rattle.forms.specs.Text.{Past, stuck}
 use Rattle.forms.specs.Forms.{Line, termLine, OrderLine, orderLine}
 use Rattle.forms.specs.Faults.{Found, fine, fault, termSaid, termFault, orderSaid, orderFault}
 use Rattle.forms.specs.Tallies.{faultOf, foundOf}

@@ -1,7 +1,7 @@
 -- The whole text: sections one after the other, and what is left when they are read.
 -- Assumes nothing.
 use mathlib.Core.Path.{_≡_, refl, sym, ap, ap₂, _∙_}
-use mathlib.Core.Bool.{Bool, true, false, _&&_}
+use mathlib.Core.Bool.{Bool, true, false}
 use mathlib.Core.List.{List, [], _∷_, _++_, map, append-nil}
 use Prim.Native.Nat.{ℕ, suc, _+_, _-_, _^_, _≤_, _<_}
 use native.Mathlib.Omega.{arith}
@@ -9,10 +9,10 @@ use lib.Dec.{leb, ltb}
 use lib.ListN.{length, getD, take, drop, length-append, length-map, drop-of-length-le}
 use lib.Seq.{take-at, drop-at, take-all, length-take-le}
 use borrow.Author.Tests.{lt-ltb, le-ltb, le-leb, leb-true, leb-false}
-use Rattle.meaning.specs.Bytes.{Text, ascii}
+use Rattle.meaning.specs.Bytes.{Text}
 use Rattle.meaning.specs.Descriptions as D
 use Rattle.meaning.specs.Answers as A
-use Rattle.meaning.specs.Answers.{form, range, Refusal, inLine}
+use Rattle.meaning.specs.Answers.{form, inLine}
 use Rattle.table.specs.declared.Order.{Order}
 use Rattle.table.specs.declared.Table.{Table}
 use Rattle.table.specs.declared.Term.the-variants.{Delta}
@@ -28,13 +28,13 @@ use Rattle.forms.specs.declared.Fault.{Fault}
 use Rattle.forms.specs.declared.Fault.the-variants.{Form, Name, Range, Amount, Operand}
 use Rattle.forms.proofs.Rests.{rest-cons}
 use Rattle.forms.proofs.Looked.{word-name}
-use Rattle.reading.specs.Reading.{Taken, takenIf, formed, takeNumber, nameCount, equationCount, termCount, Cut, cut, noLine, firstLine, Walk, reached, halted, walk, afterLine, lineWalk, oneLine, Reading, read, refused, Whole, described}
+use Rattle.reading.specs.Reading.{takenIf, formed, takeNumber, nameCount, equationCount, termCount, Cut, cut, noLine, firstLine, Walk, reached, halted, walk, afterLine, lineWalk, oneLine, read, refused, Whole, described}
 use Rattle.reading.specs.Walks.{between}
 use Rattle.reading.specs.Stored.{faultFor, readFor, Ended, refusalOf, Padded}
 use Rattle.reading.specs.declared.Answer.the-variants as N
 use Rattle.reading.specs.declared.Read.{Read}
 use Rattle.reading.specs.declared.Progress.{Progress}
-use Rattle.reading.specs.declared.Progress.the-variants.{To, Bad}
+use Rattle.reading.specs.declared.Progress.the-variants.{Bad}
 use Rattle.reading.proofs.Termed.{over-free}
 
 pub fault-back : (f : Fault) → faultFor (faultOf f) ≡ f

@@ -22,7 +22,6 @@ use Rattle.reading.specs.declared.Progress.{Progress}
 use Rattle.reading.specs.declared.Progress.the-variants.{To, Bad}
 use Rattle.reading.specs.declared.terms.TermProgress.{TermProgress}
 use Rattle.reading.specs.declared.terms.TermProgress.the-variants as T
-use Rattle.reading.specs.declared.terms.Terms.{Terms}
 use Rattle.reading.specs.declared.orders.OrderProgress.{OrderProgress}
 use Rattle.reading.specs.declared.orders.OrderProgress.the-variants as O
 

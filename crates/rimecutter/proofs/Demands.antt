@@ -3,8 +3,8 @@
 use mathlib.Core.Path.{_≡_, refl, sym, ap, ap₂, subst, _∙_}
 use mathlib.Core.Bool.{Bool, true, false}
 use mathlib.Core.Logic.{_⊎_, inl, inr, _↔_}
-use mathlib.Core.List.{List, [], _∷_, _++_, map}
-use Prim.Native.Nat.{ℕ, _≤_, _<_}
+use mathlib.Core.List.{List, _++_, map}
+use Prim.Native.Nat.{ℕ, _≤_}
 use native.Mathlib.Omega.{arith}
 use lib.Dec.{T, leb, le→leb}
 use lib.ListN.{length, getD, take, drop}
@@ -19,13 +19,13 @@ use Rattle.meaning.specs.Answers.{Allows, Outcome, tooLarge, listed, Lists, Ans
 use Rattle.meaning.specs.Widening.{Widens}
 use Rattle.meaning.proofs.Answers.{answer-right, answer-only}
 use Rattle.meaning.proofs.Widening as W
-use Rattle.meaning.proofs.Widening.{Tightened, tightening}
+use Rattle.meaning.proofs.Widening.{tightening}
 use Rattle.reading.specs.Reading.{Reading, read, refused, readText}
 use Rattle.reading.proofs.Acceptance.{accepted→}
 use Rattle.printing.specs.Printed.{line, answerText, refusedText, put}
 use Rattle.printing.specs.Areas.{Printed}
 use Rattle.rimecutter.specs.declared.Answer.{Answer}
-use Rattle.rimecutter.specs.Calls.{Call, refusing, answering, tooShort, ofOutcome, ofReading, unlessShort, call, verdictOf, answerAfter, workAfter, cleared, textOf}
+use Rattle.rimecutter.specs.Calls.{Call, refusing, answering, tooShort, ofOutcome, ofReading, unlessShort, call, verdictOf, workAfter, cleared, textOf}
 use Rattle.rimecutter.specs.Answers.{verdictFor, Settled}
 use Rattle.rimecutter.proofs.Texts.{refusals-numbered, faults-below}
 use Rattle.rimecutter.proofs.Refusals.{of-text}

@@ -1,14 +1,14 @@
 -- Reading refuses a text as too long or for one of its lines, and for nothing else.
 -- Assumes nothing.
-use mathlib.Core.Path.{_≡_, refl, subst}
+use mathlib.Core.Path.{_≡_, subst}
 use mathlib.Core.Bool.{Bool, true, false}
-use mathlib.Core.List.{List, [], _∷_}
+use mathlib.Core.List.{[], _∷_}
 use Prim.Native.Nat.{ℕ, zero, suc}
 use lib.Dec.{ltb}
 use lib.ListN.{length}
 use Rattle.meaning.specs.Bytes.{Text}
 use Rattle.meaning.specs.Answers.{Refusal, tooLong, inLine, large, noRoom}
-use Rattle.reading.specs.Reading.{Taken, taken, faulty, Cut, cut, noLine, firstLine, Walk, reached, halted, walk, afterLine, lineWalk, oneLine, lines, Reading, read, refused, Whole, allRead, wholeText, readText}
+use Rattle.reading.specs.Reading.{Taken, taken, faulty, Cut, cut, noLine, firstLine, Walk, reached, halted, walk, afterLine, lineWalk, oneLine, lines, Reading, read, refused, allRead, wholeText, readText}
 
 abbrev pub OfText : Refusal → Type 0
 OfText tooLong = Unit {0}

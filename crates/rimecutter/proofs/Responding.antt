@@ -4,23 +4,20 @@ use mathlib.Core.Path.{_≡_, refl, sym, ap, ap₂, subst, _∙_}
 use mathlib.Core.Bool.{Bool, true, false, _||_, true≢false}
 use lib.Dec.{ltb}
 use borrow.Author.Tests.{ltb-false, le-leb}
-use mathlib.Core.List.{List, [], _∷_, _++_, map, append-nil}
+use mathlib.Core.List.{List, _++_, map, append-nil}
 use Prim.Native.Nat.{ℕ, _≤_}
 use native.Mathlib.Omega.{arith}
 use lib.ListN.{length, drop, length-map, drop-of-length-le}
 use Rattle.meaning.specs.Bytes.{Text}
-use Rattle.meaning.specs.Labels.{Label, number}
+use Rattle.meaning.specs.Labels.{number}
 use Rattle.meaning.specs.Descriptions as D
-use Rattle.meaning.specs.Legal.{Legal}
 use Rattle.meaning.specs.Answers as A
-use Rattle.meaning.specs.Answers.{Outcome, tooLarge, listed, Refusal, tooLong, inLine, large, noRoom}
+use Rattle.meaning.specs.Answers.{Outcome, tooLarge, listed, tooLong, inLine, large, noRoom}
 use Rattle.reading.specs.Reading.{Reading, read, refused, readText}
 use Rattle.reading.proofs.Acceptance.{accepted→}
-use Rattle.table.specs.Encoded.{tableOf, storeOf, orderFor, filled, wordOf}
+use Rattle.table.specs.Encoded.{tableOf, storeOf}
 use Rattle.table.specs.Areas.{zeroed}
 use Rattle.table.proofs.Zeroed.{zeroed-front}
-use Rattle.table.specs.declared.Table.{Table}
-use Rattle.table.specs.declared.Order.{Order}
 use Rattle.forms.specs.Tallies.{faultOf}
 use Rattle.forms.specs.declared.Fault as F
 use Rattle.rimecutter.specs.declared.Answer.{Answer}
@@ -34,9 +31,9 @@ use Rattle.rounds.specs.Alphabets as Q
 use Rattle.rounds.specs.Alphabets.{alphabetOf, Answered}
 use Rattle.reading.specs.Stored.{faultFor, readFor, storeFor, withRoom, readWith, Stored}
 use Rattle.rimecutter.proofs.Refusals.{of-text}
-use Rattle.rimecutter.specs.Calls.{Call, refusing, answering, tooShort, ofOutcome, ofReading, unlessShort, call, cleared, workWords, answerWords}
+use Rattle.rimecutter.specs.Calls.{Call, refusing, tooShort, ofOutcome, ofReading, unlessShort, call, cleared, answerWords}
 use Rattle.rimecutter.specs.Responses.{answerFor}
-use Rattle.rimecutter.specs.Answers.{verdictFor, Settled, Responded, NamesFor}
+use Rattle.rimecutter.specs.Answers.{verdictFor, Responded}
 
 or-false : (a b : Bool) → (a || b) ≡ false → (a ≡ false) × (b ≡ false)
 or-false true b e = absurd (true≢false e)

@@ -4,7 +4,7 @@ use mathlib.Core.Path.{_≡_, refl, sym, ap, ap₂, subst, _∙_}
 use mathlib.Core.Bool.{Bool, true, false}
 use mathlib.Core.Logic.{inl, inr}
 use mathlib.Core.List.{List, [], _∷_, _++_, map}
-use Prim.Native.Nat.{ℕ, suc, _≤_, _<_}
+use Prim.Native.Nat.{ℕ, _≤_, _<_}
 use native.Mathlib.Omega.{arith}
 use lib.Dec.{T, leb, leb→le}
 use Rattle.meaning.proofs.Tests.{and-left, and-right, or-cases}
@@ -15,14 +15,14 @@ use Rattle.meaning.specs.Bytes.{Text}
 use Rattle.meaning.specs.Labels.{Label, size, number}
 use Rattle.meaning.specs.Sets.{_∈_}
 use Rattle.meaning.specs.Descriptions.{Description, Order, names}
-use Rattle.meaning.specs.Legal.{Legal, Each}
+use Rattle.meaning.specs.Legal.{Each}
 use Rattle.meaning.specs.Answers as A
 use Rattle.meaning.specs.Answers.{Outcome, tooLarge, listed, Lists, Answers, Refusal, tooLong, inLine, large, noRoom, Fault, form, name, range, amount, operand, faultNumber, reasonOf, lineOf, Verdict}
 use Rattle.meaning.proofs.Digits.{small}
 use Rattle.meaning.proofs.Answers.{answer-right}
 use Rattle.meaning.proofs.Listings.{listed-held, listed-few}
 use Rattle.reading.specs.Reading.{Reading, read, refused, readText}
-use Rattle.reading.specs.Writing.{inName, NameForm, LegalWords}
+use Rattle.reading.specs.Writing.{inName, NameForm}
 use Rattle.reading.proofs.Acceptance.{accepted→}
 use Rattle.table.specs.Encoded.{filled, wordOf}
 use Rattle.forms.specs.Text.{isLower, isDigit}

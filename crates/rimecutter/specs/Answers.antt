@@ -3,8 +3,6 @@
 use mathlib.Core.Path.{_≡_}
 use mathlib.Core.List.{List, map}
 use Prim.Native.Nat.{ℕ}
-use lib.ListN.{length}
-use Rattle.meaning.specs.Bytes.{Text}
 use Rattle.meaning.specs.Answers as A
 use Rattle.meaning.specs.Answers.{tooLong, inLine, large, Verdict}
 use Rattle.forms.specs.Tallies.{faultOf}
@@ -12,7 +10,7 @@ use Rattle.table.specs.Encoded.{filled, wordOf}
 use Rattle.rimecutter.specs.declared.Answer.{Answer}
 use Rattle.rimecutter.specs.declared.Answer.the-variants.{Listed, TooLong, Bad, TooLarge}
 use Rattle.rimecutter.specs.declared.calls.Response.{Response}
-use Rattle.rimecutter.specs.Calls.{Call, refusing, answering, call, verdictOf, answerAfter, workAfter}
+use Rattle.rimecutter.specs.Calls.{Call, refusing, answering, verdictOf, answerAfter, workAfter}
 
 -- Document 01's number and values for each case: number 0 for an answer, its rounds and its number of labels.
 abbrev pub verdictFor : Answer → Verdict

@@ -1,16 +1,13 @@
 -- What stands where in the table and the list store of a description.
 -- Assumes nothing.
-use mathlib.Core.Path.{_≡_, refl, sym, ap, ap₂, subst, _∙_}
-use mathlib.Core.List.{List, [], _∷_, _++_, map}
-use Prim.Native.Nat.{ℕ, zero, suc, _+_, _-_, _*_, _≤_, _<_, zero-le}
+use mathlib.Core.Path.{_≡_, refl, sym, ap, _∙_}
+use mathlib.Core.List.{List, [], _∷_, _++_}
+use Prim.Native.Nat.{ℕ, zero, suc, _+_, _-_, _*_, _≤_, _<_}
 use native.Mathlib.Nat.{sub-zero, zero-sub, suc-sub-suc}
 use native.Mathlib.Omega.{arith}
 use lib.ListN.{length, getD, take, drop, length-append, length-drop}
-use lib.Seq.{drop-cons, drop-nil, take-append-le, drop-append-le, drop-append-add, drop-at, drop-drop}
-use Rattle.table.specs.declared.Place.{Place}
-use Rattle.table.specs.declared.Slot.{Slot}
+use lib.Seq.{drop-cons, drop-nil, take-append-le, drop-append-le, drop-append-add, drop-at}
 use Rattle.table.specs.declared.Term.the-variants.{Delta}
-use Rattle.table.specs.Decoded.{wordsAt}
 use Rattle.table.specs.Encoded.{filled, termWords, orderWords, termsWords, storeOf, termFor, slotsFrom, tableOf}
 use Rattle.meaning.specs.Descriptions as D
 

@@ -1,8 +1,8 @@
 -- Which description a table and its list store stand for.
 -- Assumes nothing.
 use mathlib.Core.List.{List, [], _∷_, map}
-use mathlib.Core.Bool.{Bool, true, false}
-use Prim.Native.Nat.{ℕ, zero, suc, _+_, _*_, _/_, _%_}
+use mathlib.Core.Bool.{true, false}
+use Prim.Native.Nat.{ℕ, zero, suc, _*_, _/_, _%_}
 use lib.Dec.{eqb}
 use lib.ListN.{take, drop}
 use Rattle.table.specs.declared.Place.{Place}
@@ -10,9 +10,6 @@ use Rattle.table.specs.declared.Operator.{Operator}
 use Rattle.table.specs.declared.Operator.the-variants.{Block, Hide, Rename, Comm, Allow}
 use Rattle.table.specs.declared.Term.{Term}
 use Rattle.table.specs.declared.Term.the-variants.{Delta, Tau, Act, Ref, Sum, Cond, Choice, IfElse, Seq, Merge, LMerge, Sync, Wrap}
-use Rattle.table.specs.declared.Order.{Order}
-use Rattle.table.specs.declared.Order.the-variants.{All, Only}
-use Rattle.table.specs.declared.Table.{Table}
 use Rattle.meaning.specs.Bytes.{Text}
 use Rattle.meaning.specs.Labels.{labelOf}
 use Rattle.meaning.specs.Descriptions as D
@@ -56,16 +53,3 @@ termOf names store (Merge t u) = D.merge t u
 termOf names store (LMerge t u) = D.lmerge t u
 termOf names store (Sync t u) = D.sync t u
 termOf names store (Wrap o t) = D.wrap (operatorOf names store o) t
-
-abbrev pub orderOf : ℕ → List ℕ → Order → D.Order
-orderOf names store All = D.all
-orderOf names store (Only p) = D.only (map (labelOf names) (wordsAt store p 1))
-
-unfoldable pub descriptionOf : Table → List ℕ → D.Description
-descriptionOf t store =
-    record {
-      words = map (nameOf 8) (take (t .named) (t .names));
-      terms = map (λ s. termOf (t .named) store (s .term)) (take (t .terms) (t .slots));
-      bodies = take (t .equations) (t .bodies);
-      root = t .root;
-    }

@@ -3,7 +3,7 @@
 -- Assumes nothing.
 use mathlib.Core.List.{List, [], _∷_, _++_, map}
 use Prim.Native.Nat.{ℕ, zero, suc, _+_, _*_}
-use lib.ListN.{length, take, replicate}
+use lib.ListN.{length}
 use Rattle.table.specs.declared.Place.{Place}
 use Rattle.table.specs.declared.Operator.{Operator}
 use Rattle.table.specs.declared.Operator.the-variants.{Block, Hide, Rename, Comm, Allow}

@@ -8,12 +8,6 @@ use lib.ListN.{length-take}
 use Rattle.printing.proofs.Lengths.{printed-within}
 use Rattle.alphabet.proofs.main.Statement.{statement}
 use Rattle.alphabet.proofs.main.Tie as tie
-use Rattle.alphabet.proofs.main.Reads as reads
-use Rattle.alphabet.proofs.main.Lts as lts
-use Rattle.alphabet.proofs.drop_rest.Reads as drop-rest-reads
-use Rattle.io.proofs.read_full.Reads as read-full-reads
-use Rattle.io.proofs.write_all.Reads as write-all-reads
-use Rattle.rimecutter.proofs.alphabet_text.Reads as alphabet-text-reads
 
 -- src/main.rt:25:44
 slice-aggregate-read-full : tie.Need-slice-aggregate-read-full

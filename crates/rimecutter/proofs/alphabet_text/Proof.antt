@@ -1,22 +1,16 @@
 use borrow.Author.Needs.{needs}
-use mathlib.Core.Path.{_≡_, refl, sym, ap, _∙_}
+use mathlib.Core.Path.{sym, ap, _∙_}
 use native.Mathlib.Nat.{min-eq-left}
 use native.Mathlib.Omega.{arith}
-use lib.ListN.{length, take, length-take}
+use lib.ListN.{length-take}
 use Prim.Native.Nat.{ℕ}
 use Rattle.printing.specs.Printed.{refusedText}
 use Rattle.forms.specs.Tallies.{faultOf}
 use Rattle.rimecutter.specs.Calls.{call, textOf}
-use Rattle.rimecutter.specs.declared.Answer.the-variants.{Listed, TooLong, Bad, TooLarge}
+use Rattle.rimecutter.specs.declared.Answer.the-variants.{TooLong, Bad, TooLarge}
 use Rattle.rimecutter.proofs.Texts.{listing, refusal, printed, faults-numbered}
 use Rattle.rimecutter.proofs.alphabet_text.Statement.{statement}
 use Rattle.rimecutter.proofs.alphabet_text.Tie as tie
-use Rattle.rimecutter.proofs.alphabet_text.Reads as reads
-use Rattle.rimecutter.proofs.alphabet_text.Lts as lts
-use Rattle.forms.proofs.number_of.Reads as number-of-reads
-use Rattle.printing.proofs.write_answer.Reads as write-answer-reads
-use Rattle.printing.proofs.write_refusal.Reads as write-refusal-reads
-use Rattle.rimecutter.proofs.calls.respond.Reads as respond-reads
 
 -- src/lib.rt:42:41
 slice-aggregate-respond : tie.Need-slice-aggregate-respond

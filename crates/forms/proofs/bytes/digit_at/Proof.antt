@@ -1,7 +1,6 @@
 -- `forms::bytes::digit_at` meets its contract: past the end, and at any other byte, there is no digit.
 -- Assumes nothing.
 use mathlib.Core.Path.{sym, _∙_}
-use Prim.Native.Nat.{_≤_, _<_}
 use native.Mathlib.Omega.{arith}
 use borrow.Author.Tests.{not-true, not-false}
 use Rattle.forms.proofs.Rests.{digit-none, digit-other, digit-here, digit-low}

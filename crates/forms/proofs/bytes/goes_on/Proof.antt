@@ -1,11 +1,9 @@
 -- `forms::bytes::goes_on` meets its contract: the second test is asked only where the first fails.
 -- Assumes nothing.
-use mathlib.Core.Path.{_≡_, refl, sym, _∙_}
+use mathlib.Core.Path.{sym, _∙_}
 use Rattle.forms.specs.Text.{isLower, isDigit}
 use Rattle.forms.proofs.bytes.goes_on.Statement.{statement}
 use Rattle.forms.proofs.bytes.goes_on.Tie as tie
-use Rattle.forms.proofs.bytes.goes_on.Lts as lts
-use Rattle.forms.proofs.bytes.goes_on.Reads as reads
 
 between-requires : tie.Need-between-requires
 between-requires c κs = tt

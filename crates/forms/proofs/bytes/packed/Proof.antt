@@ -1,14 +1,12 @@
-use mathlib.Core.Path.{_≡_, refl, sym, _∙_}
-use Prim.Native.Nat.{_≤_, _<_, _-_, _+_, _*_, _^_}
+use mathlib.Core.Path.{_≡_}
+use Prim.Native.Nat.{_≤_, _<_, _-_, _+_, _^_}
 use native.Mathlib.Omega.{arith}
-use lib.ListN.{length, drop, getD, length-drop}
+use lib.ListN.{length, drop, length-drop}
 use lib.Seq.{getD-drop}
 use Rattle.table.specs.Encoded.{wordOf}
 use Rattle.forms.proofs.Words.{word-small, packed-none, packed-more, packed-all}
 use Rattle.forms.proofs.bytes.packed.Statement.{statement}
 use Rattle.forms.proofs.bytes.packed.Tie as tie
-use Rattle.forms.proofs.bytes.packed.Reads as reads
-use Rattle.forms.proofs.bytes.packed.Lts as lts
 
 abbrev Inv-loop : tie.InvT-loop
 Inv-loop text w₀ i₀ w i = (i ≤ length text) × (w ≡ wordOf (drop i text))

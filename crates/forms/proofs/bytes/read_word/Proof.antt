@@ -1,10 +1,7 @@
 -- `forms::bytes::read_word` meets its contract: the bytes up to the name's end, packed.
 -- Assumes nothing.
 use borrow.Author.Needs.{needs}
-use mathlib.Core.Path.{_≡_, refl, sym, ap, _∙_}
-use Prim.Native.Nat.{_≤_, _<_, _-_, _+_}
-use native.Mathlib.Omega.{arith}
-use lib.ListN.{length, take, drop, getD}
+use mathlib.Core.Path.{ap, _∙_}
 use Rattle.table.specs.Decoded.{nameOf}
 use Rattle.forms.proofs.Words.{named, name-back}
 use Rattle.forms.proofs.Steps.{went, stuck-still, otherwise}

@@ -1,7 +1,7 @@
 -- `forms::bytes::rest_is` meets its contract: the word is passed, and nothing follows it.
 -- Assumes nothing.
 use borrow.Author.Needs.{needs}
-use mathlib.Core.Path.{_≡_, refl, sym, ap, _∙_}
+use mathlib.Core.Path.{sym, ap, _∙_}
 use lib.ListN.{drop}
 use Rattle.forms.proofs.Steps.{went, says-stuck}
 use Rattle.forms.proofs.Looked.{reachesEnd, same-literal, end-reached}

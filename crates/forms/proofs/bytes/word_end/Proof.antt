@@ -1,16 +1,12 @@
-use mathlib.Core.Path.{_≡_, refl, sym, _∙_}
-use Prim.Native.Nat.{_≤_, _<_, _-_, _+_}
+use mathlib.Core.Path.{_≡_, sym, _∙_}
+use Prim.Native.Nat.{_≤_, _<_, _-_}
 use native.Mathlib.Omega.{arith}
 use borrow.Author.Tests.{not-true, not-false}
-use lib.ListN.{length, take, drop, getD}
+use lib.ListN.{length, take, drop}
 use Rattle.forms.specs.Text.{onward, wordOn, word}
 use Rattle.forms.proofs.Words.{prefixed, take-snoc, word-none, word-other, word-start, on-full, on-none, on-other, on-more}
 use Rattle.forms.proofs.bytes.word_end.Statement.{statement}
 use Rattle.forms.proofs.bytes.word_end.Tie as tie
-use Rattle.forms.proofs.bytes.word_end.Reads as reads
-use Rattle.forms.proofs.bytes.word_end.Lts as lts
-use Rattle.forms.proofs.bytes.between.Reads as between-reads
-use Rattle.forms.proofs.bytes.goes_on.Reads as goes-on-reads
 
 abbrev Inv-loop : tie.InvT-loop
 Inv-loop line at next₀ room₀ next room =

@@ -1,12 +1,7 @@
 use borrow.Author.Needs.{needs}
-use mathlib.Core.Path.{_≡_, refl, sym, _∙_}
+use mathlib.Core.Path.{refl, _∙_}
 use Rattle.forms.proofs.faults.counted.Statement.{statement}
 use Rattle.forms.proofs.faults.counted.Tie as tie
-use Rattle.forms.proofs.faults.counted.Reads as reads
-use Rattle.forms.proofs.faults.counted.Lts as lts
-use Rattle.forms.proofs.faults.amount_unless.Reads as amount-unless-reads
-use Rattle.forms.proofs.faults.least.Reads as least-reads
-use Rattle.forms.proofs.faults.worse_of.Reads as worse-of-reads
 
 -- src/faults.rt:77:17
 add-total : tie.Need-add-total

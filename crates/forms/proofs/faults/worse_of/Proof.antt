@@ -1,14 +1,10 @@
 use borrow.Author.Needs.{needs}
-use mathlib.Core.Path.{_≡_, refl, sym, _∙_}
 use native.Mathlib.Omega.{arith}
 use borrow.Author.Tests.{le-leb, lt-leb}
 use Rattle.meaning.specs.Answers.{faultNumber}
 use Rattle.forms.specs.Tallies.{faultOf}
 use Rattle.forms.proofs.faults.worse_of.Statement.{statement}
 use Rattle.forms.proofs.faults.worse_of.Tie as tie
-use Rattle.forms.proofs.faults.worse_of.Reads as reads
-use Rattle.forms.proofs.faults.worse_of.Lts as lts
-use Rattle.forms.proofs.number_of.Reads as number-of-reads
 
 -- src/faults.rt:36:23
 enum-known-a : tie.Need-enum-known-a

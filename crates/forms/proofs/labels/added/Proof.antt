@@ -6,8 +6,6 @@ use Prim.Native.Nat.{ℕ, zero, suc, _*_, _+_, _^_, _<_}
 use native.Mathlib.Nat.{mul-one, mul-assoc, mul-comm, pow-suc, le-of-suc-le-suc, not-suc-le-zero}
 use native.Mathlib.Omega.{arith}
 use lib.ListN.{length, getD}
-use Rattle.forms.specs.Entries.{Room, unlessFaulty}
-use Rattle.forms.specs.Tallies.{foundOf}
 use Rattle.forms.proofs.labels.added.Statement.{statement}
 use Rattle.forms.proofs.labels.added.Tie as tie
 

@@ -1,8 +1,8 @@
 -- `forms::labels::read_label` meets its contract: part after part, what was read and what is to come are the label.
 -- Assumes nothing.
-use mathlib.Core.Path.{_≡_, refl, sym, ap, ap₂, _∙_}
+use mathlib.Core.Path.{_≡_, sym, _∙_}
 use mathlib.Core.List.{List, [], _∷_, _++_, map}
-use Prim.Native.Nat.{ℕ, _+_, _-_, _≤_, _<_}
+use Prim.Native.Nat.{_+_, _-_}
 use native.Mathlib.Omega.{arith}
 use borrow.Author.Tests.{not-true, not-false}
 use lib.ListN.{length, drop, length-map}
@@ -12,7 +12,7 @@ use Rattle.forms.specs.Forms.{part, dot}
 use Rattle.forms.specs.Tallies.{Said}
 use Rattle.forms.specs.Places.{saidOf}
 use Rattle.forms.specs.Entries.{seen, partSaid}
-use Rattle.forms.proofs.Steps.{said-stays, said-went, otherwise}
+use Rattle.forms.proofs.Steps.{said-went, otherwise}
 use Rattle.forms.proofs.Seen.{become, said-same}
 use Rattle.forms.proofs.Tallied.{Tallied, tallied-none, tallied-more}
 use Rattle.forms.proofs.Gathered.{Progress, begun, list-stuck, list-ends, list-goes-on, ended-with, stuck-with, sign-passed}

@@ -1,11 +1,7 @@
 -- `forms::labels::read_name` meets its contract: a name and its number.
 -- Assumes nothing.
 use borrow.Author.Needs.{needs}
-use mathlib.Core.Path.{_≡_, refl, sym, ap, ap₂, _∙_}
-use mathlib.Core.List.{map}
-use lib.ListN.{drop}
-use Rattle.table.specs.Decoded.{nameOf}
-use Rattle.forms.specs.Faults.{worse}
+use mathlib.Core.Path.{refl}
 use Rattle.forms.proofs.Steps.{went, halts, onwards, arrived, otherwise}
 use Rattle.forms.proofs.Seen.{said-same, name-faulted}
 use Rattle.forms.proofs.labels.read_name.Statement.{statement}

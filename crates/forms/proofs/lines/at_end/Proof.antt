@@ -1,6 +1,5 @@
 -- `forms::lines::at_end` meets its contract: a step that goes on must have reached the end.
 -- Assumes nothing.
-use mathlib.Core.Path.{_≡_, refl, sym, ap, _∙_}
 use borrow.Author.Tests.{lt-ltb, le-ltb}
 use Rattle.forms.proofs.lines.at_end.Statement.{statement}
 use Rattle.forms.proofs.lines.at_end.Tie as tie

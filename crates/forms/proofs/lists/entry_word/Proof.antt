@@ -1,7 +1,7 @@
 -- `forms::lists::entry_word` meets its contract: only a pair has its second number in the word.
 -- Assumes nothing.
 use mathlib.Core.Path.{_≡_, refl}
-use mathlib.Core.List.{List, [], _∷_}
+use mathlib.Core.List.{[], _∷_}
 use Prim.Native.Nat.{ℕ, _+_, _*_, _^_, _<_}
 use native.Mathlib.Omega.{arith}
 use types.Run.{OneOf, miss}

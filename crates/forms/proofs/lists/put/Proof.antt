@@ -1,7 +1,7 @@
 -- `forms::lists::put` meets its contract: past the end a store changes nothing.
 -- Assumes nothing.
 use borrow.Author.Needs.{needs}
-use mathlib.Core.Path.{_≡_, refl, sym}
+use mathlib.Core.Path.{sym}
 use lib.Seq.{set-out}
 use Rattle.forms.proofs.lists.put.Statement.{statement}
 use Rattle.forms.proofs.lists.put.Tie as tie

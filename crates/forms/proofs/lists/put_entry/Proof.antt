@@ -1,7 +1,7 @@
 -- `forms::lists::put_entry` meets its contract: one word, or two.
 -- Assumes nothing.
 use borrow.Author.Needs.{needs}
-use mathlib.Core.Path.{_≡_, refl, sym, ap, _∙_}
+use mathlib.Core.Path.{ap, _∙_}
 use Prim.Native.Nat.{_+_}
 use lib.ListN.{set}
 use borrow.Author.Tests.{eq-eqb, ne-eqb}

@@ -1,17 +1,17 @@
 -- `forms::lists::read_list` meets its contract: entry after entry, what was read and what is to come are the list.
 -- Assumes nothing.
-use mathlib.Core.Path.{_≡_, refl, sym, ap, ap₂, _∙_}
+use mathlib.Core.Path.{_≡_, refl, sym, ap, _∙_}
 use mathlib.Core.List.{List, [], _∷_, _++_, map}
-use Prim.Native.Nat.{ℕ, _+_, _-_, _≤_, _<_, _^_}
+use Prim.Native.Nat.{_+_, _-_, _≤_, _<_, _^_}
 use native.Mathlib.Omega.{arith}
 use borrow.Author.Tests.{not-true, not-false}
-use lib.ListN.{length, drop, length-map}
+use lib.ListN.{length, length-map}
 use Rattle.table.specs.Decoded.{nameOf}
 use Rattle.forms.specs.Forms.{comma}
 use Rattle.forms.specs.Tallies.{Said}
 use Rattle.forms.specs.Places.{saidOf}
 use Rattle.forms.specs.Lists.{entryOf, weightFor, limitFor, wordCount, entryWord, entryStored, listEntry, listWords, over}
-use Rattle.forms.proofs.Steps.{said-stays, said-went, otherwise}
+use Rattle.forms.proofs.Steps.{said-went, otherwise}
 use Rattle.forms.proofs.Seen.{said-same}
 use Rattle.forms.proofs.Tallied.{Tallied, tallied-none, tallied-more}
 use Rattle.forms.proofs.Gathered.{Progress, begun, list-stuck, list-ends, list-goes-on, ended-with, stuck-with, sign-passed}

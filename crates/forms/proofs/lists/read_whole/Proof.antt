@@ -1,7 +1,7 @@
 -- `forms::lists::read_whole` meets its contract: `none`, or the entries.
 -- Assumes nothing.
 use borrow.Author.Needs.{needs}
-use mathlib.Core.Path.{_≡_, refl, sym, ap, _∙_}
+use mathlib.Core.Path.{sym, _∙_}
 use Rattle.forms.proofs.Listed.{none-read}
 use Rattle.forms.proofs.lists.read_whole.Statement.{statement}
 use Rattle.forms.proofs.lists.read_whole.Tie as tie

@@ -1,10 +1,10 @@
 -- `forms::names::find_name` meets its contract: what was passed and what is left come to the number that is asked for.
 -- Assumes nothing.
-use mathlib.Core.Path.{_≡_, refl, sym, _∙_}
+use mathlib.Core.Path.{_≡_, _∙_}
 use mathlib.Core.List.{map}
-use Prim.Native.Nat.{_≤_, _<_, _-_, _+_}
+use Prim.Native.Nat.{_≤_, _-_, _+_}
 use native.Mathlib.Omega.{arith}
-use lib.ListN.{length, drop, getD}
+use lib.ListN.{length, drop}
 use Rattle.table.specs.Decoded.{nameOf}
 use Rattle.forms.specs.Faults.{nameNumber}
 use Rattle.forms.proofs.Looked.{number-here, number-later, number-none}

@@ -1,8 +1,6 @@
 use borrow.Author.Tests.{lt-ltb, le-ltb}
 use Rattle.forms.proofs.names.name_fault.Statement.{statement}
 use Rattle.forms.proofs.names.name_fault.Tie as tie
-use Rattle.forms.proofs.names.name_fault.Reads as reads
-use Rattle.forms.proofs.names.name_fault.Lts as lts
 
 -- src/names.rt:30:9
 returns : tie.Need-returns

@@ -1,6 +1,6 @@
 -- `forms::terms::finish` meets its contract: the line ends there, or it is stuck there.
 -- Assumes nothing.
-use mathlib.Core.Path.{_≡_, refl, ap}
+use mathlib.Core.Path.{refl, ap}
 use Rattle.table.specs.Terms.{bareTerm}
 use Rattle.forms.specs.Text.{onward, past}
 use Rattle.forms.specs.Forms.{plain}

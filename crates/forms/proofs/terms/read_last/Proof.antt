@@ -1,6 +1,6 @@
 -- `forms::terms::read_last` meets its contract: the last number, and the end of the line.
 -- Assumes nothing.
-use mathlib.Core.Path.{_≡_, refl, sym, ap, _∙_}
+use mathlib.Core.Path.{ap, _∙_}
 use lib.ListN.{drop}
 use Rattle.forms.specs.Text.{onward}
 use Rattle.forms.specs.Terms.{madeOf}

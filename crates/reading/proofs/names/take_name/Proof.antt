@@ -1,7 +1,7 @@
 -- `reading::names::take_name` meets its contract: the line, its name, and whether it is free.
 -- Assumes nothing.
 use borrow.Author.Needs.{needs}
-use mathlib.Core.Path.{_≡_, sym, _∙_}
+use mathlib.Core.Path.{sym, _∙_}
 use mathlib.Core.List.{map}
 use native.Mathlib.Omega.{arith}
 use borrow.Author.Tests.{not-true, not-false}

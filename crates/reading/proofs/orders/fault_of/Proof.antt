@@ -1,12 +1,10 @@
 -- `reading::orders::fault_of` meets its contract.
 -- Assumes nothing.
 use borrow.Author.Needs.{needs}
-use mathlib.Core.Path.{_≡_, refl, sym, ap}
+use mathlib.Core.Path.{sym, ap}
 use Rattle.reading.specs.Walks.{orderProgress}
 use Rattle.reading.proofs.orders.fault_of.Statement.{statement}
 use Rattle.reading.proofs.orders.fault_of.Tie as tie
-use Rattle.reading.proofs.orders.fault_of.Reads as reads
-use Rattle.reading.proofs.orders.fault_of.Lts as lts
 
 -- src/terms.rt:107:29
 enum-known-step : tie.Need-enum-known-step

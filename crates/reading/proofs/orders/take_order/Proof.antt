@@ -1,14 +1,13 @@
 -- `reading::orders::take_order` meets its contract: the line, its order, and its fault.
 -- Assumes nothing.
 use borrow.Author.Needs.{needs}
-use mathlib.Core.Path.{_≡_, refl, sym, ap, _∙_}
+use mathlib.Core.Path.{sym}
 use mathlib.Core.List.{map}
 use Prim.Native.Nat.{_-_}
 use native.Mathlib.Omega.{arith}
 use lib.ListN.{drop, take}
 use Rattle.table.specs.Decoded.{nameOf}
 use Rattle.forms.specs.Faults.{orderSaid}
-use Rattle.reading.specs.Reading.{takeOrder}
 use Rattle.forms.specs.Orders.{OrderRead}
 use Rattle.reading.proofs.Walking.{line-lacks, line-there, line-taken, next-spot}
 use Rattle.reading.proofs.Termed.{part-short, found-fine, order-stuck, order-fine, order-faulty}

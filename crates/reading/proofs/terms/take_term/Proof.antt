@@ -1,7 +1,7 @@
 -- `reading::terms::take_term` meets its contract: the line, its term, and its fault.
 -- Assumes nothing.
 use borrow.Author.Needs.{needs}
-use mathlib.Core.Path.{_≡_, refl, sym, ap, _∙_}
+use mathlib.Core.Path.{sym}
 use mathlib.Core.List.{List, map}
 use Prim.Native.Nat.{_-_}
 use native.Mathlib.Omega.{arith}
@@ -9,7 +9,6 @@ use lib.ListN.{drop, take}
 use Rattle.meaning.specs.Descriptions as D
 use Rattle.table.specs.Decoded.{nameOf}
 use Rattle.forms.specs.Faults.{termSaid}
-use Rattle.reading.specs.Reading.{takeTerm}
 use Rattle.reading.specs.Walks.{TermsBefore}
 use Rattle.forms.specs.Terms.{TermRead}
 use Rattle.reading.proofs.Walking.{line-lacks, line-there, line-taken, next-spot}

@@ -10,7 +10,7 @@ use Rattle.table.specs.Decoded.{nameOf}
 use Rattle.table.specs.Encoded.{filled, slotsFrom, termsWords}
 use Rattle.table.proofs.Filled.{filled-length}
 use Rattle.reading.specs.Reading.{takeTerm, oneLine, lines}
-use Rattle.reading.specs.Walks.{TermsBefore, TermTo, Termed}
+use Rattle.reading.specs.Walks.{TermTo, Termed}
 use Rattle.reading.proofs.Walking.{Onto, lines-begin, lines-more, lines-halt, lines-done}
 use Rattle.reading.proofs.Termed.{store-more, slot-more, one-more}
 use Rattle.reading.proofs.terms.take_terms.Statement.{statement}

@@ -1,20 +1,17 @@
 -- `reading::whole::read_lines` meets its contract: the names and the counts, and the lines after them.
 -- Assumes nothing.
 use borrow.Author.Needs.{needs}
-use mathlib.Core.Path.{_≡_, refl, sym, ap, subst, _∙_}
-use mathlib.Core.List.{List, [], _++_, map}
+use mathlib.Core.Path.{_≡_, refl, sym, subst, _∙_}
+use mathlib.Core.List.{[]}
 use Prim.Native.Nat.{ℕ, _≤_}
 use native.Mathlib.Omega.{arith}
-use lib.ListN.{length, take, drop, replicate}
+use lib.ListN.{length, drop, replicate}
 use lib.Seq.{length-take-le}
 use Rattle.meaning.specs.Bytes.{ascii}
 use Rattle.meaning.specs.Answers.{form}
-use Rattle.table.specs.Decoded.{nameOf}
-use Rattle.table.specs.Encoded.{filled}
 use Rattle.table.proofs.Filled.{filled-replicate}
 use Rattle.reading.specs.Reading.{nameCount, equationCount, termCount, takeNumber, takeName, reached, oneLine, lines, wholeText}
-use Rattle.reading.specs.Walks.{between, Spot, NamesTo}
-use Rattle.reading.specs.Stored.{Padded}
+use Rattle.reading.specs.Walks.{between, NamesTo}
 use Rattle.reading.proofs.Walking.{gone-to, gone-spot, gone-bad, gone-below}
 use Rattle.reading.proofs.Wholes.{other-test, names-test, equations-test, terms-test, ends-bad, ends-on, names-front, names-padded}
 use Rattle.reading.proofs.whole.read_lines.Statement.{statement}

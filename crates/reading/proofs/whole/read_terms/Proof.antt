@@ -10,7 +10,7 @@ use lib.Seq.{length-take-le}
 use Rattle.table.specs.Decoded.{nameOf}
 use Rattle.table.specs.Encoded.{filled, termsWords}
 use Rattle.table.proofs.Filled.{filled-length, filled-replicate}
-use Rattle.reading.specs.Reading.{takeTerm, takeBody, reached, lines}
+use Rattle.reading.specs.Reading.{takeTerm, takeBody, lines}
 use Rattle.reading.specs.Walks.{Walks, TermsTo}
 use Rattle.reading.specs.Stored.{Held}
 use Rattle.reading.proofs.Walking.{gone-to, gone-spot, gone-bad}

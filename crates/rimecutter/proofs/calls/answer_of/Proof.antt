@@ -1,8 +1,6 @@
 use borrow.Author.Needs.{needs}
 use Rattle.rimecutter.proofs.calls.answer_of.Statement.{statement}
 use Rattle.rimecutter.proofs.calls.answer_of.Tie as tie
-use Rattle.rimecutter.proofs.calls.answer_of.Reads as reads
-use Rattle.rimecutter.proofs.calls.answer_of.Lts as lts
 
 -- src/calls.rt:64:31
 enum-told : tie.Need-enum-told

@@ -1,16 +1,9 @@
 use borrow.Author.Needs.{needs}
 use mathlib.Core.List.{[], _∷_}
-use mathlib.Core.Path.{_≡_, refl, sym, _∙_}
+use mathlib.Core.Path.{refl, sym, _∙_}
 use Rattle.rimecutter.proofs.Responding.{short-responded, long-responded, bad-responded, worked-responded}
 use Rattle.rimecutter.proofs.calls.respond.Statement.{statement}
 use Rattle.rimecutter.proofs.calls.respond.Tie as tie
-use Rattle.rimecutter.proofs.calls.respond.Reads as reads
-use Rattle.rimecutter.proofs.calls.respond.Lts as lts
-use Rattle.rimecutter.proofs.calls.answer_of.Reads as answer-of-reads
-use Rattle.rimecutter.proofs.calls.too_short.Reads as too-short-reads
-use Rattle.rounds.proofs.alphabet.Reads as alphabet-reads
-use Rattle.reading.proofs.read_description.Reads as read-description-reads
-use Rattle.table.proofs.areas.clear.Reads as clear-reads
 
 -- src/calls.rt:39:8
 too-short-requires : tie.Need-too-short-requires

@@ -1,8 +1,6 @@
 use borrow.Author.Tests.{lt-ltb, le-ltb}
 use Rattle.rimecutter.proofs.calls.too_short.Statement.{statement}
 use Rattle.rimecutter.proofs.calls.too_short.Tie as tie
-use Rattle.rimecutter.proofs.calls.too_short.Reads as reads
-use Rattle.rimecutter.proofs.calls.too_short.Lts as lts
 
 -- src/calls.rt:21:1
 returns : tie.Need-returns

@@ -1,12 +1,12 @@
 -- `table::areas::clear` meets its contract: words are set to 0 one after the other.
 -- Assumes nothing.
 use mathlib.Core.Path.{_≡_, refl, sym, ap, _∙_}
-use Prim.Native.Nat.{ℕ, zero, suc, _+_, _-_, _≤_, _<_}
+use Prim.Native.Nat.{ℕ, _-_, _≤_}
 use native.Mathlib.Numerals.{add-one}
 use native.Mathlib.Omega.{arith}
-use lib.ListN.{length, set, length-set}
+use lib.ListN.{length, length-set}
 use Rattle.table.specs.Areas.{zeroed}
-use Rattle.table.proofs.Zeroed.{zeroed-set, zeroed-length, zeroed-all}
+use Rattle.table.proofs.Zeroed.{zeroed-set, zeroed-all}
 use Rattle.table.proofs.areas.clear.Statement.{statement}
 use Rattle.table.proofs.areas.clear.Tie as tie
 
