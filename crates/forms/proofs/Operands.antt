@@ -55,35 +55,20 @@ pub plain-become : (line : Text) {due other : Past Line} (r : TermStep) → due 
 plain-become line r e h = subst (λ d. PlainRead line d r) e h
 
 -- A term of numbers alone, as a line: it is the term at any number, and it puts nothing into the store.
-plain-term : (n : ℕ) (x : Term) → IsPlain x → x ≡ termFor n (bareTerm x)
-plain-term n Delta p = refl
-plain-term n Tau p = refl
-plain-term n (Act a) p = refl
-plain-term n (Ref e) p = refl
-plain-term n (Sum t) p = refl
-plain-term n (Cond t) p = refl
-plain-term n (Choice t u) p = refl
-plain-term n (IfElse t u) p = refl
-plain-term n (Seq t u) p = refl
-plain-term n (Merge t u) p = refl
-plain-term n (LMerge t u) p = refl
-plain-term n (Sync t u) p = refl
-plain-term n (Wrap o t) p = absurd p
-
-plain-words : (x : Term) → IsPlain x → termWords (bareTerm x) ≡ []
-plain-words Delta p = refl
-plain-words Tau p = refl
-plain-words (Act a) p = refl
-plain-words (Ref e) p = refl
-plain-words (Sum t) p = refl
-plain-words (Cond t) p = refl
-plain-words (Choice t u) p = refl
-plain-words (IfElse t u) p = refl
-plain-words (Seq t u) p = refl
-plain-words (Merge t u) p = refl
-plain-words (LMerge t u) p = refl
-plain-words (Sync t u) p = refl
-plain-words (Wrap o t) p = absurd p
+plain-bare : (n : ℕ) (x : Term) → IsPlain x → (x ≡ termFor n (bareTerm x)) × (termWords (bareTerm x) ≡ [])
+plain-bare n Delta p = (refl, refl)
+plain-bare n Tau p = (refl, refl)
+plain-bare n (Act a) p = (refl, refl)
+plain-bare n (Ref e) p = (refl, refl)
+plain-bare n (Sum t) p = (refl, refl)
+plain-bare n (Cond t) p = (refl, refl)
+plain-bare n (Choice t u) p = (refl, refl)
+plain-bare n (IfElse t u) p = (refl, refl)
+plain-bare n (Seq t u) p = (refl, refl)
+plain-bare n (Merge t u) p = (refl, refl)
+plain-bare n (LMerge t u) p = (refl, refl)
+plain-bare n (Sync t u) p = (refl, refl)
+plain-bare n (Wrap o t) p = absurd p
 
 pub over-nothing : (store : List ℕ) → store ≡ over [] store
 unfolding over
@@ -95,9 +80,9 @@ plain-line words n line due store (T.To x f) h =
     record {
       line = plain (bareTerm x);
       says = h .says;
-      term = plain-term n x (h .plainly);
+      term = plain-bare n x (h .plainly) .0;
       faults = ap foundOf (h .fault-free);
-      stored = λ _. rw (plain-words x (h .plainly)) (over-nothing store);
+      stored = λ _. rw (plain-bare n x (h .plainly) .1) (over-nothing store);
     }
 plain-line words n line due store (T.Stuck p) h = h
 

@@ -25,43 +25,26 @@ length-lines-all names (w ∷ labels) =
     let text = labelText (wordsOf names) (countsOf w) in
     omega (arith, length-append (line (ascii "label=") text) (labelLines (wordsOf names) (map countsOf labels)), length-line (ascii "label=") text)
 
+-- a number's line has at most 21 bytes besides its key
+numbered : (key : Text) (n : ℕ) → length (line key (decimal n)) ≤ 21 + length key
+numbered key n = omega (arith, length-line key (decimal n), length-decimal n)
+
+headed : (outcome key : Text) (n : ℕ) (rest : Text) → length (line (ascii "answer=") outcome ++ (line key (decimal n) ++ rest)) ≤ 29 + length outcome + length key + length rest
+headed outcome key n rest =
+    let first = line (ascii "answer=") outcome in
+    let second = line key (decimal n) in
+    omega (arith, length-append first (second ++ rest), length-append second rest, length-line (ascii "answer=") outcome, numbered key n)
+
 pub length-answer : (names : List ℕ) (rounds : ℕ) (labels : List ℕ) → length (answerText (wordsOf names) rounds (map countsOf labels)) ≤ 80 + 151 * length labels
 unfolding answerText
 length-answer names rounds labels =
-    let n = length (map countsOf labels) in
     let lines = labelLines (wordsOf names) (map countsOf labels) in
-    let first = line (ascii "answer=") (ascii "ok") in
-    let second = line (ascii "rounds=") (decimal rounds) in
-    let third = line (ascii "labels=") (decimal n) in
-    omega (
-      arith,
-      length-lines-all names labels,
-      length-append first (second ++ (third ++ lines)),
-      length-append second (third ++ lines),
-      length-append third lines,
-      length-line (ascii "answer=") (ascii "ok"),
-      length-line (ascii "rounds=") (decimal rounds),
-      length-line (ascii "labels=") (decimal n),
-      length-decimal rounds,
-      length-decimal n,
-    )
+    let third = line (ascii "labels=") (decimal (length (map countsOf labels))) in
+    omega (arith, length-lines-all names labels, headed (ascii "ok") (ascii "rounds=") rounds (third ++ lines), length-append third lines, numbered (ascii "labels=") (length (map countsOf labels)))
 
 pub length-refusal : (reason at : ℕ) → length (refusedText reason at) ≤ 80
 unfolding refusedText
-length-refusal reason at =
-    let first = line (ascii "answer=") (ascii "refused") in
-    let second = line (ascii "reason=") (decimal reason) in
-    let third = line (ascii "line=") (decimal at) in
-    omega (
-      arith,
-      length-append first (second ++ third),
-      length-append second third,
-      length-line (ascii "answer=") (ascii "refused"),
-      length-line (ascii "reason=") (decimal reason),
-      length-line (ascii "line=") (decimal at),
-      length-decimal reason,
-      length-decimal at,
-    )
+length-refusal reason at = omega (arith, headed (ascii "refused") (ascii "reason=") reason (line (ascii "line=") (decimal at)), numbered (ascii "line=") at)
 
 -- What is answered lies within the area.
 pub printed-within : (s before after : Text) (n : ℕ) → Printed s before after n → n ≤ length before

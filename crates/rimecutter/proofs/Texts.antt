@@ -1,7 +1,7 @@
 -- From what a call comes to, to the text that is printed of it.
 -- Assumes nothing.
 use mathlib.Core.Path.{_≡_, refl, sym, ap, ap₂, subst, _∙_}
-use mathlib.Core.Bool.{Bool, true, false}
+use mathlib.Core.Bool.{Bool, true, false, _&&_}
 use mathlib.Core.Logic.{inl, inr}
 use mathlib.Core.List.{List, [], _∷_, _++_, map}
 use Prim.Native.Nat.{ℕ, _≤_, _<_}
@@ -116,30 +116,25 @@ module _ (text : Text) (words : List Text) (rounds : ℕ) (labels : List Label) 
   origin w a e = from-call (tooShort w a) e
 
 -- The names of a description that was read, byte by byte.
-lower-byte : (b : ℕ) → T (isLower b) → (1 ≤ b) × (b < 256)
-unfolding isLower
-lower-byte b t =
-    let low = leb→le 97 b (and-left (leb 97 b) (leb b 122) t) in
-    let high = leb→le b 122 (and-right (leb 97 b) (leb b 122) t) in
-    (omega arith, omega arith)
-
-digit-byte : (b : ℕ) → T (isDigit b) → (1 ≤ b) × (b < 256)
-unfolding isDigit
-digit-byte b t =
-    let low = leb→le 48 b (and-left (leb 48 b) (leb b 57) t) in
-    let high = leb→le b 57 (and-right (leb 48 b) (leb b 57) t) in
+within-byte : (low high b : ℕ) → 1 ≤ low → high < 256 → T (leb low b && leb b high) → (1 ≤ b) × (b < 256)
+within-byte low high b g h t =
+    let l = leb→le low b (and-left (leb low b) (leb b high) t) in
+    let m = leb→le b high (and-right (leb low b) (leb b high) t) in
     (omega arith, omega arith)
 
 name-byte : (b : ℕ) → T (inName b) → (1 ≤ b) × (b < 256)
-name-byte b t = elim (or-cases (isLower b) (isDigit b) t) [ inl h ↦ lower-byte b h | inr h ↦ digit-byte b h ]
+unfolding isLower isDigit
+name-byte b t =
+    elim (or-cases (isLower b) (isDigit b) t) [ inl h ↦ within-byte 97 122 b (omega arith) (omega arith) h | inr h ↦ within-byte 48 57 b (omega arith) (omega arith) h ]
 
 each-map : {A : Type 0} {P Q : A → Type 0} → ((a : A) → P a → Q a) → (xs : List A) → Each P xs → Each Q xs
 each-map f [] h = tt
 each-map f (x ∷ xs) h = (f x (h .0), each-map f xs (h .1))
 
 name-bytes : (w : Text) → NameForm w → Bytes w
+unfolding isLower
 name-bytes [] h = absurd h
-name-bytes (b ∷ w) h = (omega (arith, h .1), (lower-byte b (h .0), each-map {P = λ c. T (inName c)} {Q = λ c. (1 ≤ c) × (c < 256)} name-byte w (h .2)))
+name-bytes (b ∷ w) h = (omega (arith, h .1), (within-byte 97 122 b (omega arith) (omega arith) (h .0), each-map {P = λ c. T (inName c)} {Q = λ c. (1 ≤ c) × (c < 256)} name-byte w (h .2)))
 
 each-in : (P : Label → Type 0) (s : List Label) → ((a : Label) → a ∈ s → P a) → Each P s
 each-in P [] h = tt

@@ -56,15 +56,5 @@ returns c = search needs
 pub main-spec : {M : Type 1} → statement M
 main-spec =
     tie.close
-    (tie.spec
-    slice-aggregate-read-full
-    read-full-requires
-    drop-rest-requires
-    array-share-prefix-description
-    slice-aggregate-alphabet-text
-    slice-aggregate-alphabet-text-2
-    alphabet-text-requires
-    array-share-prefix-text
-    slice-aggregate-write-all
-    write-all-requires
-    returns)
+    (tie.spec slice-aggregate-read-full read-full-requires drop-rest-requires array-share-prefix-description slice-aggregate-alphabet-text
+    slice-aggregate-alphabet-text-2 alphabet-text-requires array-share-prefix-text slice-aggregate-write-all write-all-requires returns)

@@ -110,5 +110,5 @@ returns-3 c = none (too-long c)
 pub write-answer-spec : {M : Type 1} → statement M
 write-answer-spec =
     tie.close
-    (tie.spec head-length-requires returns sub-room label-lines-fit-requires write-head-requires sub-write-label-lines
-    part-write-label-lines-start part-write-label-lines-end write-label-lines-requires add-result same-length returns-2 returns-3)
+    (tie.spec head-length-requires returns sub-room label-lines-fit-requires write-head-requires sub-write-label-lines part-write-label-lines-start
+    part-write-label-lines-end write-label-lines-requires add-result same-length returns-2 returns-3)

@@ -27,6 +27,4 @@ returns-2 c =
     whole (omega (arith, t .if1 .left, t .before .head-length .ensures)) (c .before .before .write-head .ensures)
 
 pub write-refusal-spec : {M : Type 1} → statement M
-write-refusal-spec =
-    tie.close
-    (tie.spec head-length-requires returns write-head-requires same-length returns-2)
+write-refusal-spec = tie.close (tie.spec head-length-requires returns write-head-requires same-length returns-2)

@@ -97,22 +97,6 @@ returns-4 c =
 pub read-description-spec : {M : Type 1} → statement M
 read-description-spec =
     tie.close
-    (tie.spec
-    refused-requires
-    returns
-    refused-requires-2
-    returns-2
-    slice-relend-prefix-clear
-    slice-aggregate-clear
-    clear-requires
-    slice-relend-prefix-read-lines
-    slice-aggregate-read-lines
-    read-lines-requires
-    enum-told
-    slice-relend-prefix-clear-2
-    slice-aggregate-clear-2
-    clear-requires-2
-    same-length
-    returns-3
-    same-length-2
-    returns-4)
+    (tie.spec refused-requires returns refused-requires-2 returns-2 slice-relend-prefix-clear slice-aggregate-clear clear-requires
+    slice-relend-prefix-read-lines slice-aggregate-read-lines read-lines-requires enum-told slice-relend-prefix-clear-2 slice-aggregate-clear-2
+    clear-requires-2 same-length returns-3 same-length-2 returns-4)

@@ -107,26 +107,7 @@ returns-4 c =
 pub alphabet-text-spec : {M : Type 1} → statement M
 alphabet-text-spec =
     tie.close
-    (tie.spec
-    slice-aggregate-respond
-    slice-aggregate-respond-2
-    respond-requires
-    enum-known-said
-    array-share-prefix-answer
-    slice-aggregate-write-answer
-    write-answer-requires
-    enum-told
-    write-refusal-requires
-    enum-known-said-2
-    number-of-requires
-    write-refusal-requires-2
-    enum-told-2
-    write-refusal-requires-3
-    same-length
-    returns
-    same-length-2
-    returns-2
-    same-length-3
-    returns-3
-    same-length-4
+    (tie.spec slice-aggregate-respond slice-aggregate-respond-2 respond-requires enum-known-said array-share-prefix-answer
+    slice-aggregate-write-answer write-answer-requires enum-told write-refusal-requires enum-known-said-2 number-of-requires
+    write-refusal-requires-2 enum-told-2 write-refusal-requires-3 same-length returns same-length-2 returns-2 same-length-3 returns-3 same-length-4
     returns-4)

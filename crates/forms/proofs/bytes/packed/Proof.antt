@@ -51,6 +51,4 @@ returns : tie.Need-returns Inv-loop μ-loop
 returns c = packed-all _ _ _ (c .loop-test .left) (c .before .loop .inv .1)
 
 pub packed-spec : {M : Type 1} → statement M
-packed-spec =
-    tie.close
-    (tie.spec Inv-loop μ-loop loop-holds sub-i shared-slice-read-b cast-b mul-w add-w loop-less loop-again returns)
+packed-spec = tie.close (tie.spec Inv-loop μ-loop loop-holds sub-i shared-slice-read-b cast-b mul-w add-w loop-less loop-again returns)

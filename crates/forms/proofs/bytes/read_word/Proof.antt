@@ -40,13 +40,4 @@ returns-2 c =
 pub read-word-spec : {M : Type 1} → statement M
 read-word-spec =
     tie.close
-    (tie.spec
-    word-end-requires
-    enum-known-end
-    enum-told
-    returns
-    sub-packed
-    part-packed-start
-    part-packed-end
-    packed-requires
-    returns-2)
+    (tie.spec word-end-requires enum-known-end enum-told returns sub-packed part-packed-start part-packed-end packed-requires returns-2)

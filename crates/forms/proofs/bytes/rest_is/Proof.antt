@@ -26,11 +26,4 @@ returns-2 c =
     end-reached (c .before .before .before .before .before .before .args .line .now) _ (s .within) ∙ ap reachesEnd (s .says) ∙ sym (same-literal (c .before .before .before .before .before .before .args .due .now) (drop (c .before .before .before .before .before .before .args .at) (c .before .before .before .before .before .before .args .line .now)))
 
 pub rest-is-spec : {M : Type 1} → statement M
-rest-is-spec =
-    tie.close
-    (tie.spec
-    read-literal-requires
-    enum-known-p
-    enum-told
-    returns
-    returns-2)
+rest-is-spec = tie.close (tie.spec read-literal-requires enum-known-p enum-told returns returns-2)

@@ -16,9 +16,4 @@ returns-2 : tie.Need-returns-2
 returns-2 c = rw (rest-cons (c .before .before .args .line .now) (c .before .before .args .at) (c .before .if1 .left))
 
 pub sign-at-spec : {M : Type 1} → statement M
-sign-at-spec =
-    tie.close
-    (tie.spec
-    returns
-    shared-slice-read-result
-    returns-2)
+sign-at-spec = tie.close (tie.spec returns shared-slice-read-result returns-2)

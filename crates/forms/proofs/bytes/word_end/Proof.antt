@@ -85,21 +85,5 @@ returns-5 c = record { stands = record { says = on-full (c .before .before .befo
 pub word-end-spec : {M : Type 1} → statement M
 word-end-spec =
     tie.close
-    (tie.spec
-    Inv-loop
-    μ-loop
-    returns
-    shared-slice-read-between
-    between-requires
-    returns-2
-    add-next
-    loop-holds
-    returns-3
-    shared-slice-read-goes-on
-    goes-on-requires
-    returns-4
-    add-next-2
-    sub-room
-    loop-less
-    loop-again
-    returns-5)
+    (tie.spec Inv-loop μ-loop returns shared-slice-read-between between-requires returns-2 add-next loop-holds returns-3 shared-slice-read-goes-on
+    goes-on-requires returns-4 add-next-2 sub-room loop-less loop-again returns-5)

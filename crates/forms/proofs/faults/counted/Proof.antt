@@ -51,14 +51,5 @@ returns c =
 pub counted-spec : {M : Type 1} → statement M
 counted-spec =
     tie.close
-    (tie.spec
-    add-total
-    worse-of-requires
-    amount-unless-requires
-    amount-unless-requires-2
-    worse-of-requires-2
-    worse-of-requires-3
-    add-t14
-    add-least
-    least-requires
-    returns)
+    (tie.spec add-total worse-of-requires amount-unless-requires amount-unless-requires-2 worse-of-requires-2 worse-of-requires-3 add-t14 add-least
+    least-requires returns)

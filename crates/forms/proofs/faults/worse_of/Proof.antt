@@ -55,14 +55,4 @@ returns-4 c =
 pub worse-of-spec : {M : Type 1} → statement M
 worse-of-spec =
     tie.close
-    (tie.spec
-    enum-known-a
-    enum-told
-    returns
-    enum-known-b
-    enum-told-2
-    returns-2
-    number-of-requires
-    number-of-requires-2
-    returns-3
-    returns-4)
+    (tie.spec enum-known-a enum-told returns enum-known-b enum-told-2 returns-2 number-of-requires number-of-requires-2 returns-3 returns-4)

@@ -53,4 +53,7 @@ returns-2 : tie.Need-returns-2 Inv-loop μ-loop
 returns-2 c = sought-all _ _ _ _ (c .before .loop .inv) (c .loop-test .left)
 
 pub find-kind-spec : {M : Type 1} → statement M
-find-kind-spec = tie.close (tie.spec Inv-loop μ-loop loop-holds mul-read-packed array-read-read-packed read-packed-requires enum-known-word returns enum-known-word-2 most-requires add-k loop-less loop-again returns-2)
+find-kind-spec =
+    tie.close
+    (tie.spec Inv-loop μ-loop loop-holds mul-read-packed array-read-read-packed read-packed-requires enum-known-word returns enum-known-word-2
+    most-requires add-k loop-less loop-again returns-2)

@@ -48,6 +48,4 @@ returns-2 : tie.Need-returns-2 Inv-loop μ-loop
 returns-2 c = let i = c .before .loop .inv in spelled-all (i .2) (packed-all (i .0) (omega arith))
 
 pub read-packed-spec : {M : Type 1} → statement M
-read-packed-spec =
-    tie.close
-    (tie.spec Inv-loop μ-loop loop-holds cast-b sign-at-requires returns add-next loop-less loop-again returns-2)
+read-packed-spec = tie.close (tie.spec Inv-loop μ-loop loop-holds cast-b sign-at-requires returns add-next loop-less loop-again returns-2)

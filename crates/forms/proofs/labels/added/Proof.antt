@@ -58,14 +58,4 @@ returns-2 : tie.Need-returns-2
 returns-2 c = rw (power (c .before .before .args .name) (room c .0), c .enum-told .given .1)
 
 pub added-spec : {M : Type 1} → statement M
-added-spec =
-    tie.close
-    (tie.spec
-    enum-told
-    enum-told-2
-    returns
-    mul-result
-    array-read-result
-    mul-result-2
-    add-result
-    returns-2)
+added-spec = tie.close (tie.spec enum-told enum-told-2 returns mul-result array-read-result mul-result-2 add-result returns-2)

@@ -101,18 +101,5 @@ loop-again c = (
 pub read-label-spec : {M : Type 1} → statement M
 read-label-spec =
     tie.close
-    (tie.spec
-    Inv-loop
-    μ-loop
-    loop-holds
-    read-part-requires
-    enum-known-part
-    enum-told
-    returns
-    counted-requires
-    added-requires
-    sign-at-requires
-    returns-2
-    add-from
-    loop-less
-    loop-again)
+    (tie.spec Inv-loop μ-loop loop-holds read-part-requires enum-known-part enum-told returns counted-requires added-requires sign-at-requires
+    returns-2 add-from loop-less loop-again)

@@ -50,4 +50,7 @@ returns-3 c =
     }
 
 pub read-part-spec : {M : Type 1} → statement M
-read-part-spec = tie.close (tie.spec read-name-requires enum-known-name enum-told returns number-after-requires enum-known-count enum-known-count-2 amount-unless-requires worse-of-requires returns-2 returns-3)
+read-part-spec =
+    tie.close
+    (tie.spec read-name-requires enum-known-name enum-told returns number-after-requires enum-known-count enum-known-count-2 amount-unless-requires
+    worse-of-requires returns-2 returns-3)

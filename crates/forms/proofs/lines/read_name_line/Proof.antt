@@ -37,4 +37,6 @@ unfolding nameLine
 returns-2 c = let a = c .before .before .before .before .before .before .before .before .args in key-read _ word (ascii "name=") (a .line .now) (c .before .before .before .before .before .read-literal .ensures) (c .before .before .before .start .given .1) (c .before .read-word .ensures) (c .at-end .ensures)
 
 pub read-name-line-spec : {M : Type 1} → statement M
-read-name-line-spec = tie.close (tie.spec slice-aggregate-read-literal read-literal-requires enum-known-start enum-told returns read-word-requires at-end-requires returns-2)
+read-name-line-spec =
+    tie.close
+    (tie.spec slice-aggregate-read-literal read-literal-requires enum-known-start enum-told returns read-word-requires at-end-requires returns-2)

@@ -22,11 +22,4 @@ returns-2 : tie.Need-returns-2
 returns-2 c = sym (set-out (c .before .args .store .now) (c .before .args .at) (c .before .args .word) (c .if1 .left))
 
 pub put-spec : {M : Type 1} → statement M
-put-spec =
-    tie.close
-    (tie.spec
-    mul-store
-    slice-write-store
-    same-length
-    returns
-    returns-2)
+put-spec = tie.close (tie.spec mul-store slice-write-store same-length returns returns-2)

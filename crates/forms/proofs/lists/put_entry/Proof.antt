@@ -30,13 +30,4 @@ returns-2 : tie.Need-returns-2
 returns-2 c = rw (ne-eqb (c .before .before .before .before .before .before .args .size) 2 (c .if1 .left)) (c .before .before .before .put .ensures)
 
 pub put-entry-spec : {M : Type 1} → statement M
-put-entry-spec =
-    tie.close
-    (tie.spec
-    put-requires
-    add-put
-    put-requires-2
-    same-length
-    returns
-    same-length-2
-    returns-2)
+put-entry-spec = tie.close (tie.spec put-requires add-put put-requires-2 same-length returns same-length-2 returns-2)

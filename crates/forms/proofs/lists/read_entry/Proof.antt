@@ -43,16 +43,5 @@ returns-4 c = rw (c .before .enum-told4 .given .1) (c .read-label .ensures)
 pub read-entry-spec : {M : Type 1} → statement M
 read-entry-spec =
     tie.close
-    (tie.spec
-    enum-told
-    read-name-requires
-    enum-told-2
-    read-pair-requires
-    enum-told-3
-    read-rule-requires
-    enum-told-4
-    read-label-requires
-    returns
-    returns-2
-    returns-3
-    returns-4)
+    (tie.spec enum-told read-name-requires enum-told-2 read-pair-requires enum-told-3 read-rule-requires enum-told-4 read-label-requires returns
+    returns-2 returns-3 returns-4)

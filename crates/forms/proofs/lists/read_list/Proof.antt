@@ -135,24 +135,5 @@ loop-again c =
 pub read-list-spec : {M : Type 1} → statement M
 read-list-spec =
     tie.close
-    (tie.spec
-    Inv-loop
-    μ-loop
-    shape-of-requires
-    loop-holds
-    read-entry-requires
-    enum-known-entry
-    enum-told
-    same-length
-    returns
-    counted-requires
-    entry-word-requires
-    put-entry-requires
-    add-index
-    add-entries
-    sign-at-requires
-    same-length-2
-    returns-2
-    add-from
-    loop-less
-    loop-again)
+    (tie.spec Inv-loop μ-loop shape-of-requires loop-holds read-entry-requires enum-known-entry enum-told same-length returns counted-requires
+    entry-word-requires put-entry-requires add-index add-entries sign-at-requires same-length-2 returns-2 add-from loop-less loop-again)

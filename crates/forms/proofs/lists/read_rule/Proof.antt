@@ -18,5 +18,4 @@ returns : tie.Need-returns
 returns c = both-sides (enough-said (c .before .before .read-label .ensures) (c .before .two-or-more .ensures)) (c .with-right .ensures) (rule-seen _ _)
 
 pub read-rule-spec : {M : Type 1} → statement M
-read-rule-spec =
-    tie.close (tie.spec read-label-requires two-or-more-requires with-right-requires returns)
+read-rule-spec = tie.close (tie.spec read-label-requires two-or-more-requires with-right-requires returns)

@@ -22,11 +22,4 @@ returns-2 : tie.Need-returns-2
 returns-2 c = rw (sym (c .before .before .before .before .before .is-none .ensures) ∙ c .before .before .before .before .if1 .left) (c .before .before .read-list .ensures)
 
 pub read-whole-spec : {M : Type 1} → statement M
-read-whole-spec =
-    tie.close
-    (tie.spec
-    is-none-requires
-    returns
-    read-list-requires
-    same-length
-    returns-2)
+read-whole-spec = tie.close (tie.spec is-none-requires returns read-list-requires same-length returns-2)

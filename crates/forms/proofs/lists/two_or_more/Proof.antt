@@ -33,12 +33,4 @@ returns-2 c =
     })
 
 pub two-or-more-spec : {M : Type 1} → statement M
-two-or-more-spec =
-    tie.close
-    (tie.spec
-    enum-known-label
-    enum-told
-    returns
-    amount-unless-requires
-    worse-of-requires
-    returns-2)
+two-or-more-spec = tie.close (tie.spec enum-known-label enum-told returns amount-unless-requires worse-of-requires returns-2)

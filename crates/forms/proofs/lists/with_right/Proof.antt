@@ -55,4 +55,7 @@ returns-4 c =
     }
 
 pub with-right-spec : {M : Type 1} → statement M
-with-right-spec = tie.close (tie.spec enum-known-left enum-told returns sign-at-requires returns-2 add-read-name read-name-requires enum-known-right enum-told-2 returns-3 worse-of-requires returns-4)
+with-right-spec =
+    tie.close
+    (tie.spec enum-known-left enum-told returns sign-at-requires returns-2 add-read-name read-name-requires enum-known-right enum-told-2 returns-3
+    worse-of-requires returns-4)

@@ -51,6 +51,4 @@ returns-2 : tie.Need-returns-2 Inv-loop μ-loop
 returns-2 c = number-none (c .before .before .args .names .now) (c .before .loop .i) (c .before .before .args .w) (omega arith) ∙ c .before .loop .inv .1
 
 pub find-name-spec : {M : Type 1} → statement M
-find-name-spec =
-    tie.close
-    (tie.spec Inv-loop μ-loop loop-holds mul-if1 shared-slice-read-if1 returns add-i loop-less loop-again returns-2)
+find-name-spec = tie.close (tie.spec Inv-loop μ-loop loop-holds mul-if1 shared-slice-read-if1 returns add-i loop-less loop-again returns-2)

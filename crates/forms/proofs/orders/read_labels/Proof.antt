@@ -35,4 +35,6 @@ returns-3 : tie.Need-returns-3
 returns-3 c = labels-taken (map (nameOf 8) (c .before .before .before .before .before .before .before .before .before .before .before .args .names .now)) (c .before .before .before .before .before .before .before .before .before .before .before .args .line .now) (c .before .before .before .before .before .before .before .before .before .before .before .args .at) (c .before .before .before .before .before .before .read-whole .ensures) (c .before .before .list2 .given .1) (c .if1 .left)
 
 pub read-labels-spec : {M : Type 1} → statement M
-read-labels-spec = tie.close (tie.spec read-whole-requires enum-known-list enum-known-list-2 same-length returns same-length-2 returns-2 same-length-3 returns-3)
+read-labels-spec =
+    tie.close
+    (tie.spec read-whole-requires enum-known-list enum-known-list-2 same-length returns same-length-2 returns-2 same-length-3 returns-3)

@@ -64,4 +64,7 @@ returns-5 c j k =
     (c .before .before .read-labels .ensures)
 
 pub read-order-spec : {M : Type 1} → statement M
-read-order-spec = tie.close (tie.spec returns returns-2 slice-aggregate-read-literal read-literal-requires enum-known-key enum-known-key-2 slice-aggregate-rest-is rest-is-requires returns-3 read-labels-requires returns-4 same-length returns-5)
+read-order-spec =
+    tie.close
+    (tie.spec returns returns-2 slice-aggregate-read-literal read-literal-requires enum-known-key enum-known-key-2 slice-aggregate-rest-is
+    rest-is-requires returns-3 read-labels-requires returns-4 same-length returns-5)

@@ -11,8 +11,4 @@ returns-2 : tie.Need-returns-2
 returns-2 c = rw (le-ltb _ _ (c .if1 .left))
 
 pub both-below-spec : {M : Type 1} → statement M
-both-below-spec =
-    tie.close
-    (tie.spec
-    returns
-    returns-2)
+both-below-spec = tie.close (tie.spec returns returns-2)

@@ -20,8 +20,4 @@ returns-2 c =
     }
 
 pub finish-spec : {M : Type 1} → statement M
-finish-spec =
-    tie.close
-    (tie.spec
-    returns
-    returns-2)
+finish-spec = tie.close (tie.spec returns returns-2)

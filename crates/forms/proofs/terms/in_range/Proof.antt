@@ -91,19 +91,5 @@ returns-4 c =
 pub in-range-spec : {M : Type 1} → statement M
 in-range-spec =
     tie.close
-    (tie.spec
-    enum-known-x
-    enum-known-x-2
-    enum-known-x-3
-    enum-known-x-4
-    enum-known-x-5
-    enum-known-x-6
-    enum-known-x-7
-    enum-known-x-8
-    enum-known-x-9
-    enum-known-x-10
-    both-below-requires
-    returns
-    returns-2
-    returns-3
-    returns-4)
+    (tie.spec enum-known-x enum-known-x-2 enum-known-x-3 enum-known-x-4 enum-known-x-5 enum-known-x-6 enum-known-x-7 enum-known-x-8 enum-known-x-9
+    enum-known-x-10 both-below-requires returns returns-2 returns-3 returns-4)

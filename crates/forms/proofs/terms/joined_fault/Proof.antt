@@ -31,11 +31,4 @@ returns c = c .worse-of2 .ensures ∙ ap (worse (foundOf (c .before .before .bef
 pub joined-fault-spec : {M : Type 1} → statement M
 joined-fault-spec =
     tie.close
-    (tie.spec
-    in-range-requires
-    found-unless-requires
-    operands-fit-requires
-    found-unless-requires-2
-    worse-of-requires
-    worse-of-requires-2
-    returns)
+    (tie.spec in-range-requires found-unless-requires operands-fit-requires found-unless-requires-2 worse-of-requires worse-of-requires-2 returns)

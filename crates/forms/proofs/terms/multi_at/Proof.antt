@@ -31,5 +31,4 @@ returns-2 : tie.Need-returns-2
 returns-2 c = c .is-multi .ensures ∙ sym (ap isMultiAction (List·getD-map bareSlot (c .before .before .before .args .t1) (c .before .before .before .args .t) blankSlot))
 
 pub multi-at-spec : {M : Type 1} → statement M
-multi-at-spec =
-    tie.close (tie.spec returns mul-slot array-copy-out-slot is-multi-requires returns-2)
+multi-at-spec = tie.close (tie.spec returns mul-slot array-copy-out-slot is-multi-requires returns-2)

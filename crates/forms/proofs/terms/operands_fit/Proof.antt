@@ -26,6 +26,4 @@ returns-3 : tie.Need-returns-3
 returns-3 c = rw (c .before .before .before .x .given .1, sym (c .before .multi-at .ensures) ∙ c .if1 .left) (c .if1 .left)
 
 pub operands-fit-spec : {M : Type 1} → statement M
-operands-fit-spec =
-    tie.close
-    (tie.spec enum-known-x returns multi-at-requires multi-at-requires-2 returns-2 returns-3)
+operands-fit-spec = tie.close (tie.spec enum-known-x returns multi-at-requires multi-at-requires-2 returns-2 returns-3)

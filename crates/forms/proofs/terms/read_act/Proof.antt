@@ -39,4 +39,6 @@ returns-4 : tie.Need-returns-4
 returns-4 c store = let a = c .before .before .before .before .before .before .before .before .before .args in act-line (map (nameOf 8) (a .names .now)) (a .line .now) (a .at) (sym (c .before .before .before .before .before .before .sign-at .ensures) ∙ not-false _ (c .before .before .before .before .before .if1 .left)) (c .before .before .before .before .read-name .ensures) (c .before .before .name2 .given .1) (a .n) store (c .if2 .left)
 
 pub read-act-spec : {M : Type 1} → statement M
-read-act-spec = tie.close (tie.spec sign-at-requires returns add-read-name read-name-requires enum-known-name enum-known-name-2 returns-2 returns-3 returns-4)
+read-act-spec =
+    tie.close
+    (tie.spec sign-at-requires returns add-read-name read-name-requires enum-known-name enum-known-name-2 returns-2 returns-3 returns-4)

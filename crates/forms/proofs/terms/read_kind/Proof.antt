@@ -80,17 +80,5 @@ returns-6 c =
 pub read-kind-spec : {M : Type 1} → statement M
 read-kind-spec =
     tie.close
-    (tie.spec
-    read-act-requires
-    returns
-    finish-requires
-    returns-2
-    finish-requires-2
-    returns-3
-    read-last-requires
-    returns-4
-    read-two-requires
-    returns-5
-    read-wrap-requires
-    same-length
-    returns-6)
+    (tie.spec read-act-requires returns finish-requires returns-2 finish-requires-2 returns-3 read-last-requires returns-4 read-two-requires
+    returns-5 read-wrap-requires same-length returns-6)

@@ -83,4 +83,7 @@ returns-3 c =
     (line-farther words (a .n) (a .line .now) (a .store .now) (c .before .before .before .read-kind .last .1 .1 .1 .1 .1 .0) (c .before .before .before .before .before .before .kind2 .given .0 .1 .1 .0) (f .reached) _ (c .before .before .before .read-kind .result) (c .before .before .before .read-kind .ensures)))
 
 pub read-line-spec : {M : Type 1} → statement M
-read-line-spec = tie.close (tie.spec slice-aggregate-read-literal read-literal-requires enum-known-key enum-known-key-2 find-kind-requires enum-known-kind enum-known-kind-2 read-kind-requires farthest-requires returns returns-2 same-length returns-3)
+read-line-spec =
+    tie.close
+    (tie.spec slice-aggregate-read-literal read-literal-requires enum-known-key enum-known-key-2 find-kind-requires enum-known-kind
+    enum-known-kind-2 read-kind-requires farthest-requires returns returns-2 same-length returns-3)

@@ -54,15 +54,5 @@ returns-5 c terms e i h j k =
 pub read-term-spec : {M : Type 1} → statement M
 read-term-spec =
     tie.close
-    (tie.spec
-    returns
-    returns-2
-    returns-3
-    read-line-requires
-    enum-known-said
-    enum-told
-    same-length
-    returns-4
-    joined-fault-requires
-    same-length-2
+    (tie.spec returns returns-2 returns-3 read-line-requires enum-known-said enum-told same-length returns-4 joined-fault-requires same-length-2
     returns-5)

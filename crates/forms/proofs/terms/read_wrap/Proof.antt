@@ -71,4 +71,8 @@ returns-5 : tie.Need-returns-5
 returns-5 c = let a = c .before .before .before .before .before .before .before .before .before .before .before .before .before .before .before .before .before .before .before .args in wrap-line (wrapOf (a .k)) (map (nameOf 8) (a .names .now)) (a .line .now) (a .at) (c .before .before .before .before .before .before .before .before .before .before .before .before .before .before .before .number-after .ensures) (c .before .before .before .before .before .before .before .before .before .before .before .before .before .operand2 .given .1) (sym (c .before .before .before .before .before .before .before .before .before .before .before .sign-at .ensures) ∙ not-false _ (c .before .before .before .before .before .before .before .before .before .before .if1 .left)) (c .before .before .before .before .before .before .before .before .before .list-kind .ensures) (c .before .before .before .before .before .before .before .read-whole .ensures) (c .before .before .before .list2 .given .1) (a .n) (c .before .if2 .left) (c .wrapped .ensures)
 
 pub read-wrap-spec : {M : Type 1} → statement M
-read-wrap-spec = tie.close (tie.spec number-after-requires enum-known-operand enum-known-operand-2 sign-at-requires returns list-kind-requires add-read-whole read-whole-requires enum-known-list enum-known-list-2 same-length returns-2 mul-first wrapped-requires returns-3 same-length-2 returns-4 same-length-3 returns-5)
+read-wrap-spec =
+    tie.close
+    (tie.spec number-after-requires enum-known-operand enum-known-operand-2 sign-at-requires returns list-kind-requires add-read-whole
+    read-whole-requires enum-known-list enum-known-list-2 same-length returns-2 mul-first wrapped-requires returns-3 same-length-2 returns-4
+    same-length-3 returns-5)

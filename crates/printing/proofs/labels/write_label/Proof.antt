@@ -52,6 +52,4 @@ returns-2 c =
     parts-written (parts (entry p)) (p .write-parts .ensures) (c .if1 .left)
 
 pub write-label-spec : {M : Type 1} → statement M
-write-label-spec =
-    tie.close
-    (tie.spec write-parts-requires slice-aggregate-copy copy-requires same-length returns same-length-2 returns-2)
+write-label-spec = tie.close (tie.spec write-parts-requires slice-aggregate-copy copy-requires same-length returns same-length-2 returns-2)

@@ -45,6 +45,4 @@ returns : tie.Need-returns Inv-loop μ-loop
 returns c = end (rw (name-none (c .before .loop .rest) (c .loop-test .left)) at (c .before .loop .inv .0))
 
 pub write-name-spec : {M : Type 1} → statement M
-write-name-spec =
-    tie.close
-    (tie.spec Inv-loop μ-loop loop-holds cast-text slice-write-text add-at loop-less loop-again same-length returns)
+write-name-spec = tie.close (tie.spec Inv-loop μ-loop loop-holds cast-text slice-write-text add-at loop-less loop-again same-length returns)

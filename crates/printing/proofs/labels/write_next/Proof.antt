@@ -70,5 +70,5 @@ same-length-2 c = same-size (entry (c .before .before .before .before) .pre) (re
 pub write-next-spec : {M : Type 1} → statement M
 write-next-spec =
     tie.close
-    (tie.spec returns write-part-requires same-length returns-2 slice-write-text sub-write-part part-write-part-start
-    part-write-part-end write-part-requires-2 add-result same-length-2 returns-3)
+    (tie.spec returns write-part-requires same-length returns-2 slice-write-text sub-write-part part-write-part-start part-write-part-end
+    write-part-requires-2 add-result same-length-2 returns-3)

@@ -56,5 +56,5 @@ write-number-requires c κs = lent-room (step-byte (named (c .before)))
 pub write-part-spec : {M : Type 1} → statement M
 write-part-spec =
     tie.close
-    (tie.spec write-name-requires slice-write-text add-at sub-write-number part-write-number-start part-write-number-end
-    write-number-requires add-result same-length returns)
+    (tie.spec write-name-requires slice-write-text add-at sub-write-number part-write-number-start part-write-number-end write-number-requires
+    add-result same-length returns)

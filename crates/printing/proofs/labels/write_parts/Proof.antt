@@ -64,5 +64,5 @@ returns c = parts-end (c .before .before .before .args .t2) (c .before .loop .i)
 pub write-parts-spec : {M : Type 1} → statement M
 write-parts-spec =
     tie.close
-    (tie.spec Inv-loop μ-loop loop-holds sub-write-next part-write-next-start part-write-next-end mul-write-next
-    array-read-write-next write-next-requires add-at add-i loop-less loop-again same-length returns)
+    (tie.spec Inv-loop μ-loop loop-holds sub-write-next part-write-next-start part-write-next-end mul-write-next array-read-write-next
+    write-next-requires add-at add-i loop-less loop-again same-length returns)

@@ -59,5 +59,5 @@ returns-2 c =
 pub label-lines-fit-spec : {M : Type 1} → statement M
 label-lines-fit-spec =
     tie.close
-    (tie.spec Inv-loop μ-loop loop-holds mul-label-length shared-slice-read-label-length label-length-requires add-size returns
-    add-i loop-less loop-again returns-2)
+    (tie.spec Inv-loop μ-loop loop-holds mul-label-length shared-slice-read-label-length label-length-requires add-size returns add-i loop-less
+    loop-again returns-2)

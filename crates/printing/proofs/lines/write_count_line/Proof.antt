@@ -70,5 +70,5 @@ returns c = line-written c .written
 pub write-count-line-spec : {M : Type 1} → statement M
 write-count-line-spec =
     tie.close
-    (tie.spec copy-requires sub-write-number part-write-number-start part-write-number-end write-number-requires add-end
-    slice-write-text add-result same-length returns)
+    (tie.spec copy-requires sub-write-number part-write-number-start part-write-number-end write-number-requires add-end slice-write-text add-result
+    same-length returns)

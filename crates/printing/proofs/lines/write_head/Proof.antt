@@ -73,6 +73,5 @@ same-length c = search needs
 pub write-head-spec : {M : Type 1} → statement M
 write-head-spec =
     tie.close
-    (tie.spec copy-requires sub-write-count-line part-write-count-line-start part-write-count-line-end write-count-line-requires
-    add-second sub-write-count-line-2 part-write-count-line-start-2 part-write-count-line-end-2 write-count-line-requires-2
-    add-result same-length returns)
+    (tie.spec copy-requires sub-write-count-line part-write-count-line-start part-write-count-line-end write-count-line-requires add-second
+    sub-write-count-line-2 part-write-count-line-start-2 part-write-count-line-end-2 write-count-line-requires-2 add-result same-length returns)

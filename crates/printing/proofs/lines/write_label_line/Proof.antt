@@ -73,5 +73,5 @@ add-result c = omega (arith, line-written c .below)
 pub write-label-line-spec : {M : Type 1} → statement M
 write-label-line-spec =
     tie.close
-    (tie.spec slice-aggregate-copy copy-requires sub-write-label part-write-label-start part-write-label-end write-label-requires
-    add-end slice-write-text add-result same-length returns)
+    (tie.spec slice-aggregate-copy copy-requires sub-write-label part-write-label-start part-write-label-end write-label-requires add-end
+    slice-write-text add-result same-length returns)

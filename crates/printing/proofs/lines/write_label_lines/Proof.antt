@@ -69,6 +69,5 @@ returns c =
 pub write-label-lines-spec : {M : Type 1} → statement M
 write-label-lines-spec =
     tie.close
-    (tie.spec Inv-loop μ-loop loop-holds sub-write-label-line part-write-label-line-start part-write-label-line-end
-    mul-write-label-line shared-slice-read-write-label-line write-label-line-requires add-at add-i loop-less loop-again
-    same-length returns)
+    (tie.spec Inv-loop μ-loop loop-holds sub-write-label-line part-write-label-line-start part-write-label-line-end mul-write-label-line
+    shared-slice-read-write-label-line write-label-line-requires add-at add-i loop-less loop-again same-length returns)

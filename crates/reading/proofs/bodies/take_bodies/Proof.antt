@@ -76,20 +76,5 @@ returns-2 c =
 pub take-bodies-spec : {M : Type 1} → statement M
 take-bodies-spec =
     tie.close
-    (tie.spec
-    Inv-loop
-    μ-loop
-    loop-holds
-    slice-aggregate-take-number
-    take-number-requires
-    enum-known-step
-    enum-told
-    same-length
-    returns
-    mul-bodies
-    slice-write-bodies
-    add-i
-    loop-less
-    loop-again
-    same-length-2
-    returns-2)
+    (tie.spec Inv-loop μ-loop loop-holds slice-aggregate-take-number take-number-requires enum-known-step enum-told same-length returns mul-bodies
+    slice-write-bodies add-i loop-less loop-again same-length-2 returns-2)

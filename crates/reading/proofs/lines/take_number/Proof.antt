@@ -74,18 +74,5 @@ returns-5 c =
 pub take-number-spec : {M : Type 1} → statement M
 take-number-spec =
     tie.close
-    (tie.spec
-    line-end-requires
-    returns
-    sub-read-count
-    part-read-count-start
-    part-read-count-end
-    read-count-requires
-    enum-known-step
-    enum-told
-    returns-2
-    returns-3
-    returns-4
-    add-next
-    add-after
-    returns-5)
+    (tie.spec line-end-requires returns sub-read-count part-read-count-start part-read-count-end read-count-requires enum-known-step enum-told
+    returns-2 returns-3 returns-4 add-next add-after returns-5)

@@ -31,6 +31,4 @@ returns-2 c =
     ∙ free-if (map (nameOf 8) (c .before .before .before .before .before .args .names .now)) (nameOf 8 (c .before .before .before .before .before .args .w)) (omega (arith, c .before .before .before .find-name .ensures, c .before .before .if1 .left, length-map (c .before .before .before .before .before .args .names .now) (nameOf 8)))
 
 pub is-free-spec : {M : Type 1} → statement M
-is-free-spec =
-    tie.close
-    (tie.spec find-name-requires returns slice-aggregate-find-name find-name-requires-2 returns-2)
+is-free-spec = tie.close (tie.spec find-name-requires returns slice-aggregate-find-name find-name-requires-2 returns-2)

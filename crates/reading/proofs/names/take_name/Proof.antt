@@ -76,18 +76,5 @@ returns-4 c =
 pub take-name-spec : {M : Type 1} → statement M
 take-name-spec =
     tie.close
-    (tie.spec
-    line-end-requires
-    returns
-    sub-read-name-line
-    part-read-name-line-start
-    part-read-name-line-end
-    read-name-line-requires
-    enum-known-step
-    enum-told
-    returns-2
-    is-free-requires
-    returns-3
-    add-next
-    add-after
-    returns-4)
+    (tie.spec line-end-requires returns sub-read-name-line part-read-name-line-start part-read-name-line-end read-name-line-requires enum-known-step
+    enum-told returns-2 is-free-requires returns-3 add-next add-after returns-4)

@@ -79,21 +79,5 @@ returns-2 c =
 pub take-names-spec : {M : Type 1} → statement M
 take-names-spec =
     tie.close
-    (tie.spec
-    Inv-loop
-    μ-loop
-    loop-holds
-    slice-reshare-prefix-take-name
-    slice-aggregate-take-name
-    take-name-requires
-    enum-known-step
-    enum-told
-    same-length
-    returns
-    mul-names
-    slice-write-names
-    add-i
-    loop-less
-    loop-again
-    same-length-2
-    returns-2)
+    (tie.spec Inv-loop μ-loop loop-holds slice-reshare-prefix-take-name slice-aggregate-take-name take-name-requires enum-known-step enum-told
+    same-length returns mul-names slice-write-names add-i loop-less loop-again same-length-2 returns-2)

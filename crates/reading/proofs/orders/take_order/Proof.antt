@@ -93,22 +93,5 @@ returns-4 c =
 pub take-order-spec : {M : Type 1} → statement M
 take-order-spec =
     tie.close
-    (tie.spec
-    line-end-requires
-    returns
-    sub-read-order
-    part-read-order-start
-    part-read-order-end
-    read-order-requires
-    enum-known-step
-    enum-told
-    same-length
-    returns-2
-    add-next
-    add-after
-    enum-told-2
-    enum-known-found
-    same-length-2
-    returns-3
-    same-length-3
-    returns-4)
+    (tie.spec line-end-requires returns sub-read-order part-read-order-start part-read-order-end read-order-requires enum-known-step enum-told
+    same-length returns-2 add-next add-after enum-told-2 enum-known-found same-length-2 returns-3 same-length-3 returns-4)

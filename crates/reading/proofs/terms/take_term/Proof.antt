@@ -95,22 +95,5 @@ returns-4 c = λ terms b.
 pub take-term-spec : {M : Type 1} → statement M
 take-term-spec =
     tie.close
-    (tie.spec
-    line-end-requires
-    returns
-    sub-read-term
-    part-read-term-start
-    part-read-term-end
-    read-term-requires
-    enum-known-step
-    enum-told
-    same-length
-    returns-2
-    add-next
-    add-after
-    enum-told-2
-    enum-known-found
-    same-length-2
-    returns-3
-    same-length-3
-    returns-4)
+    (tie.spec line-end-requires returns sub-read-term part-read-term-start part-read-term-end read-term-requires enum-known-step enum-told
+    same-length returns-2 add-next add-after enum-told-2 enum-known-found same-length-2 returns-3 same-length-3 returns-4)

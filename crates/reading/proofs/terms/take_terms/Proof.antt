@@ -125,26 +125,5 @@ returns-2 c =
 pub take-terms-spec : {M : Type 1} → statement M
 take-terms-spec =
     tie.close
-    (tie.spec
-    Inv-loop
-    μ-loop
-    loop-holds
-    mul-first
-    add-last
-    mul-part
-    sub-part
-    part-part-start
-    part-part-end
-    take-term-requires
-    enum-known-step
-    enum-told
-    fault-of-requires
-    same-length
-    returns
-    mul-slots
-    array-set-from-slots
-    add-n
-    loop-less
-    loop-again
-    same-length-2
-    returns-2)
+    (tie.spec Inv-loop μ-loop loop-holds mul-first add-last mul-part sub-part part-part-start part-part-end take-term-requires enum-known-step
+    enum-told fault-of-requires same-length returns mul-slots array-set-from-slots add-n loop-less loop-again same-length-2 returns-2)

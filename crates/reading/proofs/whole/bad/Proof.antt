@@ -24,6 +24,4 @@ returns-2 : tie.Need-returns-2
 returns-2 c = rw (c .before .before .p .given .1, fault-back (c .before .before .p .given .0 .0)) (c .refused2 .ensures)
 
 pub bad-spec : {M : Type 1} → statement M
-bad-spec =
-    tie.close
-    (tie.spec enum-told refused-requires enum-known-p refused-requires-2 returns returns-2)
+bad-spec = tie.close (tie.spec enum-told refused-requires enum-known-p refused-requires-2 returns returns-2)

@@ -167,32 +167,7 @@ returns-5 c =
 pub read-lines-spec : {M : Type 1} → statement M
 read-lines-spec =
     tie.close
-    (tie.spec
-    slice-aggregate-take-number
-    take-number-requires
-    enum-known-first
-    enum-told
-    bad-requires
-    returns
-    array-borrow-prefix-names
-    slice-aggregate-take-names
-    take-names-requires
-    enum-known-words
-    enum-told-2
-    bad-requires-2
-    returns-2
-    slice-aggregate-take-number-2
-    take-number-requires-2
-    enum-known-second
-    enum-told-3
-    bad-requires-3
-    returns-3
-    slice-aggregate-take-number-3
-    take-number-requires-3
-    enum-known-third
-    enum-told-4
-    bad-requires-4
-    returns-4
-    read-terms-requires
-    same-length
-    returns-5)
+    (tie.spec slice-aggregate-take-number take-number-requires enum-known-first enum-told bad-requires returns array-borrow-prefix-names
+    slice-aggregate-take-names take-names-requires enum-known-words enum-told-2 bad-requires-2 returns-2 slice-aggregate-take-number-2
+    take-number-requires-2 enum-known-second enum-told-3 bad-requires-3 returns-3 slice-aggregate-take-number-3 take-number-requires-3
+    enum-known-third enum-told-4 bad-requires-4 returns-4 read-terms-requires same-length returns-5)

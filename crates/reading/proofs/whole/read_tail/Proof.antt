@@ -122,27 +122,6 @@ returns-4 c = λ d h.
 pub read-tail-spec : {M : Type 1} → statement M
 read-tail-spec =
     tie.close
-    (tie.spec
-    slice-aggregate-take-number
-    take-number-requires
-    enum-known-given
-    enum-told
-    bad-requires
-    returns
-    array-share-prefix-names
-    slice-aggregate-take-order
-    sub-take-order
-    part-take-order-start
-    part-take-order-end
-    take-order-requires
-    enum-known-last
-    enum-told-2
-    fault-of-requires
-    bad-requires-2
-    same-length
-    returns-2
-    refused-requires
-    same-length-2
-    returns-3
-    same-length-3
-    returns-4)
+    (tie.spec slice-aggregate-take-number take-number-requires enum-known-given enum-told bad-requires returns array-share-prefix-names
+    slice-aggregate-take-order sub-take-order part-take-order-start part-take-order-end take-order-requires enum-known-last enum-told-2
+    fault-of-requires bad-requires-2 same-length returns-2 refused-requires same-length-2 returns-3 same-length-3 returns-4)

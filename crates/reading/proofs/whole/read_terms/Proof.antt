@@ -122,25 +122,6 @@ returns-3 c =
 pub read-terms-spec : {M : Type 1} → statement M
 read-terms-spec =
     tie.close
-    (tie.spec
-    slice-relend-prefix-part
-    slice-aggregate-part
-    array-share-prefix-names
-    slice-aggregate-take-terms
-    take-terms-requires
-    enum-known-progress
-    enum-told
-    bad-requires
-    same-length
-    returns
-    array-borrow-prefix-bodies
-    slice-aggregate-take-bodies
-    take-bodies-requires
-    enum-known-given
-    enum-told-2
-    bad-requires-2
-    same-length-2
-    returns-2
-    read-tail-requires
-    same-length-3
-    returns-3)
+    (tie.spec slice-relend-prefix-part slice-aggregate-part array-share-prefix-names slice-aggregate-take-terms take-terms-requires
+    enum-known-progress enum-told bad-requires same-length returns array-borrow-prefix-bodies slice-aggregate-take-bodies take-bodies-requires
+    enum-known-given enum-told-2 bad-requires-2 same-length-2 returns-2 read-tail-requires same-length-3 returns-3)

@@ -88,21 +88,5 @@ returns-4 c =
 pub respond-spec : {M : Type 1} → statement M
 respond-spec =
     tie.close
-    (tie.spec
-    too-short-requires
-    returns
-    slice-aggregate-read-description
-    read-description-requires
-    enum-told
-    enum-known-said
-    clear-requires
-    enum-told-2
-    slice-aggregate-alphabet
-    alphabet-requires
-    answer-of-requires
-    returns-2
-    same-length
-    returns-3
-    same-length-2
-    same-length-3
-    returns-4)
+    (tie.spec too-short-requires returns slice-aggregate-read-description read-description-requires enum-told enum-known-said clear-requires
+    enum-told-2 slice-aggregate-alphabet alphabet-requires answer-of-requires returns-2 same-length returns-3 same-length-2 same-length-3 returns-4)

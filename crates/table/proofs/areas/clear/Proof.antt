@@ -57,4 +57,6 @@ returns-2 c =
     c .before .loop .inv .0 ∙ ap (λ (i : ℕ). zeroed i (c .before .before .args .area .now)) end
 
 pub clear-spec : {M : Type 1} → statement M
-clear-spec = tie.close (tie.spec Inv-loop μ-loop loop-holds same-length returns mul-area slice-write-area add-i loop-less loop-again same-length-2 returns-2)
+clear-spec =
+    tie.close
+    (tie.spec Inv-loop μ-loop loop-holds same-length returns mul-area slice-write-area add-i loop-less loop-again same-length-2 returns-2)

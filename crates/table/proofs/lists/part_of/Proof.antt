@@ -54,18 +54,5 @@ returns-3 c = all-left (c .before .before .before .args .store .now) (c .before 
 pub part-of-spec : {M : Type 1} → statement M
 part-of-spec =
     tie.close
-    (tie.spec
-    slice-aggregate-result
-    returns
-    sub-if2
-    add-end
-    mul-result
-    sub-result
-    part-result-start
-    part-result-end
-    returns-2
-    mul-result-2
-    sub-result-2
-    part-result-start-2
-    part-result-end-2
-    returns-3)
+    (tie.spec slice-aggregate-result returns sub-if2 add-end mul-result sub-result part-result-start part-result-end returns-2 mul-result-2
+    sub-result-2 part-result-start-2 part-result-end-2 returns-3)

@@ -25,5 +25,4 @@ returns-2 : tie.Need-returns-2
 returns-2 c = c .part-of2 .ensures ∙ all-left (c .before .before .before .args .store .now) (c .before .before .before .args .place .at) (length (c .before .before .before .args .store .now)) (c .before .before .before .args .place .entries * 2) (omega arith) (omega arith)
 
 pub rule-words-of-spec : {M : Type 1} → statement M
-rule-words-of-spec =
-    tie.close (tie.spec mul-part-of part-of-requires returns part-of-requires-2 returns-2)
+rule-words-of-spec = tie.close (tie.spec mul-part-of part-of-requires returns part-of-requires-2 returns-2)
