@@ -42,14 +42,4 @@ returns-5 c = answered-right (c .before .before .before .before .before .before 
 pub alphabet-spec : {M : Type 1} → statement M
 alphabet-spec =
     tie.close
-    (tie.spec
-    returns
-    returns-2
-    returns-3
-    returns-4
-    until-stable-requires
-    listing-requires
-    clear-requires
-    same-length
-    same-length-2
-    returns-5)
+    (tie.spec returns returns-2 returns-3 returns-4 until-stable-requires listing-requires clear-requires same-length same-length-2 returns-5)

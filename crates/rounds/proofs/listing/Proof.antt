@@ -67,23 +67,5 @@ returns-6 c = listing-cut (c .before .before .before .before .before .before .be
 pub listing-spec : {M : Type 1} → statement M
 listing-spec =
     tie.close
-    (tie.spec
-    enum-known-found
-    enum-told
-    returns
-    returns-2
-    returns-3
-    returns-4
-    mul-set
-    part-set-start
-    part-set-end
-    enum-told-2
-    slice-aggregate-cut
-    cut-requires
-    enum-known-order
-    words-of-requires
-    cut-requires-2
-    same-length
-    returns-5
-    same-length-2
-    returns-6)
+    (tie.spec enum-known-found enum-told returns returns-2 returns-3 returns-4 mul-set part-set-start part-set-end enum-told-2 slice-aggregate-cut
+    cut-requires enum-known-order words-of-requires cut-requires-2 same-length returns-5 same-length-2 returns-6)

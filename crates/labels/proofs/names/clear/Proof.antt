@@ -52,14 +52,4 @@ returns-2 c =
 pub clear-spec : {M : Type 1} → statement M
 clear-spec =
     tie.close
-    (tie.spec
-    Inv-loop
-    μ-loop
-    loop-holds
-    word-at-requires
-    count-requires
-    returns
-    add-i
-    loop-less
-    loop-again
-    returns-2)
+    (tie.spec Inv-loop μ-loop loop-holds word-at-requires count-requires returns add-i loop-less loop-again returns-2)

@@ -40,13 +40,4 @@ returns c = ap packed (hidden-all (c .before .loop .inv) (c .loop-test .left))
 pub hide-spec : {M : Type 1} → statement M
 hide-spec =
     tie.close
-    (tie.spec
-    Inv-loop
-    μ-loop
-    loop-holds
-    sub-i
-    word-at-requires
-    hide-one-requires
-    loop-less
-    loop-again
-    returns)
+    (tie.spec Inv-loop μ-loop loop-holds sub-i word-at-requires hide-one-requires loop-less loop-again returns)

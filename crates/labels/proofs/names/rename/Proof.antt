@@ -55,16 +55,4 @@ returns c = ap packed (moved-all (c .before .loop .inv) (c .loop-test .left))
 pub rename-spec : {M : Type 1} → statement M
 rename-spec =
     tie.close
-    (tie.spec
-    Inv-loop
-    μ-loop
-    loop-holds
-    mul-single
-    array-read-single
-    single-requires
-    mul-word
-    add-word
-    add-i
-    loop-less
-    loop-again
-    returns)
+    (tie.spec Inv-loop μ-loop loop-holds mul-single array-read-single single-requires mul-word add-word add-i loop-less loop-again returns)

@@ -48,16 +48,4 @@ returns c = filled-all (c .before .loop .inv) (c .loop-test .left)
 pub renaming-spec : {M : Type 1} → statement M
 renaming-spec =
     tie.close
-    (tie.spec
-    Inv-loop
-    μ-loop
-    loop-holds
-    sub-i
-    word-at-requires
-    mul-to
-    array-write-to
-    loop-less
-    loop-again
-    loop-less-2
-    loop-again-2
-    returns)
+    (tie.spec Inv-loop μ-loop loop-holds sub-i word-at-requires mul-to array-write-to loop-less loop-again loop-less-2 loop-again-2 returns)

@@ -50,18 +50,5 @@ returns-2 c = moving-nothing (c .before .args .from) (c .before .args .to) (c .b
 pub move-up-spec : {M : Type 1} → statement M
 move-up-spec =
     tie.close
-    (tie.spec
-    Inv-loop
-    μ-loop
-    loop-holds
-    sub-words
-    mul-words
-    slice-read-words
-    mul-words-2
-    slice-write-words
-    sub-i
-    loop-less
-    loop-again
-    same-length
-    returns
-    returns-2)
+    (tie.spec Inv-loop μ-loop loop-holds sub-words mul-words slice-read-words mul-words-2 slice-write-words sub-i loop-less loop-again same-length
+    returns returns-2)

@@ -38,12 +38,4 @@ returns-2 c =
 pub add-both-spec : {M : Type 1} → statement M
 add-both-spec =
     tie.close
-    (tie.spec
-    add-either-requires
-    enum-known-labels
-    enum-told
-    same-length
-    returns
-    add-joint-requires
-    same-length-2
-    returns-2)
+    (tie.spec add-either-requires enum-known-labels enum-told same-length returns add-joint-requires same-length-2 returns-2)

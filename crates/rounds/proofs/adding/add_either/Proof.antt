@@ -50,16 +50,5 @@ returns-2 c =
 pub add-either-spec : {M : Type 1} → statement M
 add-either-spec =
     tie.close
-    (tie.spec
-    array-share-prefix-none
-    slice-aggregate-through
-    through-requires
-    enum-known-first
-    enum-told
-    same-length
-    returns
-    array-share-prefix-none-2
-    slice-aggregate-through-2
-    through-requires-2
-    same-length-2
-    returns-2)
+    (tie.spec array-share-prefix-none slice-aggregate-through through-requires enum-known-first enum-told same-length returns
+    array-share-prefix-none-2 slice-aggregate-through-2 through-requires-2 same-length-2 returns-2)

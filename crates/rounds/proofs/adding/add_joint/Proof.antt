@@ -50,16 +50,5 @@ returns-2 c =
 pub add-joint-spec : {M : Type 1} → statement M
 add-joint-spec =
     tie.close
-    (tie.spec
-    array-share-prefix-none
-    slice-aggregate-add-new
-    add-new-requires
-    enum-known-sums
-    enum-told
-    same-length
-    returns
-    array-share-prefix-none-2
-    slice-aggregate-add-new-2
-    add-new-requires-2
-    same-length-2
-    returns-2)
+    (tie.spec array-share-prefix-none slice-aggregate-add-new add-new-requires enum-known-sums enum-told same-length returns
+    array-share-prefix-none-2 slice-aggregate-add-new-2 add-new-requires-2 same-length-2 returns-2)

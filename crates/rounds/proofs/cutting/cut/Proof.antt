@@ -54,18 +54,5 @@ returns c = cut-end (c .before .before .before .before .before .args .all) (c .b
 pub cut-spec : {M : Type 1} → statement M
 cut-spec =
     tie.close
-    (tie.spec
-    Inv-loop
-    μ-loop
-    loop-holds
-    mul-word
-    shared-slice-read-word
-    allowed-requires
-    mul-answer
-    slice-write-answer
-    add-n
-    add-i
-    loop-less
-    loop-again
-    same-length
-    returns)
+    (tie.spec Inv-loop μ-loop loop-holds mul-word shared-slice-read-word allowed-requires mul-answer slice-write-answer add-n add-i loop-less
+    loop-again same-length returns)

@@ -47,14 +47,4 @@ returns-3 c =
 pub lay-spec : {M : Type 1} → statement M
 lay-spec =
     tie.close
-    (tie.spec
-    end-before-requires
-    same-length
-    returns
-    sub-count
-    room-requires
-    same-length-2
-    returns-2
-    carry-requires
-    same-length-3
-    returns-3)
+    (tie.spec end-before-requires same-length returns sub-count room-requires same-length-2 returns-2 carry-requires same-length-3 returns-3)

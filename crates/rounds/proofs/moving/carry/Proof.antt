@@ -51,18 +51,5 @@ returns c = carrying-end (c .before .before .args .area .now) (c .before .before
 pub carry-spec : {M : Type 1} → statement M
 carry-spec =
     tie.close
-    (tie.spec
-    Inv-loop
-    μ-loop
-    loop-holds
-    add-area
-    mul-area
-    slice-read-area
-    add-area-2
-    mul-area-2
-    slice-write-area
-    add-i
-    loop-less
-    loop-again
-    same-length
-    returns)
+    (tie.spec Inv-loop μ-loop loop-holds add-area mul-area slice-read-area add-area-2 mul-area-2 slice-write-area add-i loop-less loop-again
+    same-length returns)

@@ -30,11 +30,4 @@ returns-2 c = turn-worked (c .before .before .before .before .before .before .be
 pub next-term-spec : {M : Type 1} → statement M
 next-term-spec =
     tie.close
-    (tie.spec
-    unchanged-requires
-    copied-requires
-    same-length
-    returns
-    work-out-requires
-    same-length-2
-    returns-2)
+    (tie.spec unchanged-requires copied-requires same-length returns work-out-requires same-length-2 returns-2)

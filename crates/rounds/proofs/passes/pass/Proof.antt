@@ -92,31 +92,6 @@ returns-3 c = progress-end (c .before .before .before .before .before .before .b
 pub pass-spec : {M : Type 1} → statement M
 pass-spec =
     tie.close
-    (tie.spec
-    Inv-loop
-    μ-loop
-    loop-holds
-    mul-slot
-    element-copy-out-slot
-    slice-aggregate-next-term
-    slice-aggregate-next-term-2
-    next-term-requires
-    enum-known-built
-    enum-told
-    same-length
-    returns
-    slice-aggregate-left-of
-    left-of-requires
-    same-length-2
-    returns-2
-    mul-this
-    array-read-this
-    add-this
-    add-this-2
-    mul-this-2
-    array-write-this
-    add-n
-    loop-less
-    loop-again
-    same-length-3
-    returns-3)
+    (tie.spec Inv-loop μ-loop loop-holds mul-slot element-copy-out-slot slice-aggregate-next-term slice-aggregate-next-term-2 next-term-requires
+    enum-known-built enum-told same-length returns slice-aggregate-left-of left-of-requires same-length-2 returns-2 mul-this array-read-this
+    add-this add-this-2 mul-this-2 array-write-this add-n loop-less loop-again same-length-3 returns-3)

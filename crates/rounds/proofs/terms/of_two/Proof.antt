@@ -67,17 +67,5 @@ returns-3 c =
 pub of-two-spec : {M : Type 1} → statement M
 of-two-spec =
     tie.close
-    (tie.spec
-    of-one-requires
-    enum-known-old
-    enum-told
-    same-length
-    returns
-    growth-of-requires
-    growth-of-requires-2
-    whole-requires
-    same-length-2
-    returns-2
-    add-two-requires
-    same-length-3
-    returns-3)
+    (tie.spec of-one-requires enum-known-old enum-told same-length returns growth-of-requires growth-of-requires-2 whole-requires same-length-2
+    returns-2 add-two-requires same-length-3 returns-3)

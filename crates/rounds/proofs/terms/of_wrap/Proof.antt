@@ -52,13 +52,4 @@ returns-2 c =
 pub of-wrap-spec : {M : Type 1} → statement M
 of-wrap-spec =
     tie.close
-    (tie.spec
-    of-one-requires
-    enum-known-old
-    enum-told
-    same-length
-    returns
-    growth-of-requires
-    wrapped-requires
-    same-length-2
-    returns-2)
+    (tie.spec of-one-requires enum-known-old enum-told same-length returns growth-of-requires wrapped-requires same-length-2 returns-2)

@@ -165,56 +165,9 @@ returns-13 c = rw (c .before .before .before .before .before .term11 .given .1) 
 pub work-out-spec : {M : Type 1} → statement M
 work-out-spec =
     tie.close
-    (tie.spec
-    place-of-requires
-    left-of-requires
-    enum-told
-    enum-told-2
-    of-tau-requires
-    enum-known-term
-    of-act-requires
-    enum-known-term-2
-    of-body-requires
-    enum-known-term-3
-    of-one-requires
-    enum-known-term-4
-    of-one-requires-2
-    enum-known-term-5
-    of-two-requires
-    enum-known-term-6
-    of-two-requires-2
-    enum-known-term-7
-    of-two-requires-3
-    enum-known-term-8
-    of-two-requires-4
-    enum-known-term-9
-    of-two-requires-5
-    enum-known-term-10
-    of-joint-requires
-    enum-known-term-11
-    of-wrap-requires
-    returns
-    same-length
-    returns-2
-    same-length-2
-    returns-3
-    same-length-3
-    returns-4
-    same-length-4
-    returns-5
-    same-length-5
-    returns-6
-    same-length-6
-    returns-7
-    same-length-7
-    returns-8
-    same-length-8
-    returns-9
-    same-length-9
-    returns-10
-    same-length-10
-    returns-11
-    same-length-11
-    returns-12
-    same-length-12
-    returns-13)
+    (tie.spec place-of-requires left-of-requires enum-told enum-told-2 of-tau-requires enum-known-term of-act-requires enum-known-term-2
+    of-body-requires enum-known-term-3 of-one-requires enum-known-term-4 of-one-requires-2 enum-known-term-5 of-two-requires enum-known-term-6
+    of-two-requires-2 enum-known-term-7 of-two-requires-3 enum-known-term-8 of-two-requires-4 enum-known-term-9 of-two-requires-5
+    enum-known-term-10 of-joint-requires enum-known-term-11 of-wrap-requires returns same-length returns-2 same-length-2 returns-3 same-length-3
+    returns-4 same-length-4 returns-5 same-length-5 returns-6 same-length-6 returns-7 same-length-7 returns-8 same-length-8 returns-9
+    same-length-9 returns-10 same-length-10 returns-11 same-length-11 returns-12 same-length-12 returns-13)

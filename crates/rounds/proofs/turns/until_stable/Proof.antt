@@ -89,29 +89,7 @@ returns-3 c = turned-end (c .before .before .before .before .before .args .table
 pub until-stable-spec : {M : Type 1} → statement M
 until-stable-spec =
     tie.close
-    (tie.spec
-    Inv-loop
-    μ-loop
-    loop-holds
-    slice-aggregate-pass
-    slice-aggregate-pass-2
-    pass-requires
-    same-length
-    returns
-    add-k
-    slice-aggregate-all-stay
-    slice-aggregate-all-stay-2
-    array-share-prefix-bodies
-    slice-aggregate-all-stay-3
-    all-stay-requires
-    slice-aggregate-part-at
-    part-at-requires
-    same-length-2
-    returns-2
-    slice-aggregate-start-of
-    start-of-requires
-    carry-requires
-    loop-less
-    loop-again
-    same-length-3
-    returns-3)
+    (tie.spec Inv-loop μ-loop loop-holds slice-aggregate-pass slice-aggregate-pass-2 pass-requires same-length returns add-k
+    slice-aggregate-all-stay slice-aggregate-all-stay-2 array-share-prefix-bodies slice-aggregate-all-stay-3 all-stay-requires
+    slice-aggregate-part-at part-at-requires same-length-2 returns-2 slice-aggregate-start-of start-of-requires carry-requires loop-less
+    loop-again same-length-3 returns-3)

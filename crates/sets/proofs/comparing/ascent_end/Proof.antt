@@ -74,20 +74,5 @@ returns-3 c =
 pub ascent-end-spec : {M : Type 1} → statement M
 ascent-end-spec =
     tie.close
-    (tie.spec
-    Inv-loop
-    μ-loop
-    end-before-requires
-    returns
-    loop-holds
-    add-loop
-    read-label-requires
-    add-read-label
-    read-label-requires-2
-    below-requires
-    add-result
-    returns-2
-    add-i
-    loop-less
-    loop-again
-    returns-3)
+    (tie.spec Inv-loop μ-loop end-before-requires returns loop-holds add-loop read-label-requires add-read-label read-label-requires-2
+    below-requires add-result returns-2 add-i loop-less loop-again returns-3)

@@ -75,19 +75,5 @@ returns-3 c =
 pub same-parts-spec : {M : Type 1} → statement M
 same-parts-spec =
     tie.close
-    (tie.spec
-    Inv-loop
-    μ-loop
-    end-before-requires
-    end-before-requires-2
-    loop-holds
-    returns
-    read-label-requires
-    read-label-requires-2
-    same-requires
-    returns-2
-    add-i
-    add-j
-    loop-less
-    loop-again
-    returns-3)
+    (tie.spec Inv-loop μ-loop end-before-requires end-before-requires-2 loop-holds returns read-label-requires read-label-requires-2 same-requires
+    returns-2 add-i add-j loop-less loop-again returns-3)

@@ -89,23 +89,5 @@ returns-2 c =
 pub add-image-spec : {M : Type 1} → statement M
 add-image-spec =
     tie.close
-    (tie.spec
-    Inv-loop
-    μ-loop
-    reach-requires
-    end-before-requires
-    renaming-requires
-    loop-holds
-    read-label-requires
-    made-requires
-    depth-requires
-    take-requires
-    enum-known-step
-    enum-told
-    same-length
-    returns
-    add-i
-    loop-less
-    loop-again
-    same-length-2
-    returns-2)
+    (tie.spec Inv-loop μ-loop reach-requires end-before-requires renaming-requires loop-holds read-label-requires made-requires depth-requires
+    take-requires enum-known-step enum-told same-length returns add-i loop-less loop-again same-length-2 returns-2)

@@ -73,18 +73,5 @@ returns-3 c =
 pub allowed-spec : {M : Type 1} → statement M
 allowed-spec =
     tie.close
-    (tie.spec
-    Inv-loop
-    μ-loop
-    tau-requires
-    same-requires
-    returns
-    loop-holds
-    labels-in-requires
-    read-label-requires
-    same-requires-2
-    returns-2
-    add-i
-    loop-less
-    loop-again
-    returns-3)
+    (tie.spec Inv-loop μ-loop tau-requires same-requires returns loop-holds labels-in-requires read-label-requires same-requires-2 returns-2 add-i
+    loop-less loop-again returns-3)

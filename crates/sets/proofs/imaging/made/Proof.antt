@@ -84,28 +84,6 @@ returns-10 c = rw (c .before .before .enum-told7 .given .1) (ap (λ t. pickOffer
 pub made-spec : {M : Type 1} → statement M
 made-spec =
     tie.close
-    (tie.spec
-    enum-told
-    enum-known-way
-    sum-requires
-    enum-told-2
-    enum-known-result
-    enum-told-3
-    clear-requires
-    enum-told-4
-    hide-requires
-    enum-told-5
-    rename-requires
-    enum-told-6
-    enum-told-7
-    allowed-requires
-    returns
-    returns-2
-    returns-3
-    returns-4
-    returns-5
-    returns-6
-    returns-7
-    returns-8
-    returns-9
-    returns-10)
+    (tie.spec enum-told enum-known-way sum-requires enum-told-2 enum-known-result enum-told-3 clear-requires enum-told-4 hide-requires enum-told-5
+    rename-requires enum-told-6 enum-told-7 allowed-requires returns returns-2 returns-3 returns-4 returns-5 returns-6 returns-7 returns-8
+    returns-9 returns-10)

@@ -52,15 +52,4 @@ returns-4 c = rw (c .before .before .before .before .before .before .offer .give
 pub take-spec : {M : Type 1} → statement M
 take-spec =
     tie.close
-    (tie.spec
-    enum-told
-    enum-told-2
-    enum-known-offer
-    enter-requires
-    close-requires
-    returns
-    returns-2
-    same-length
-    returns-3
-    same-length-2
-    returns-4)
+    (tie.spec enum-told enum-told-2 enum-known-offer enter-requires close-requires returns returns-2 same-length returns-3 same-length-2 returns-4)

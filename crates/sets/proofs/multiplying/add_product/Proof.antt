@@ -86,21 +86,5 @@ returns-2 c =
 pub add-product-spec : {M : Type 1} → statement M
 add-product-spec =
     tie.close
-    (tie.spec
-    Inv-loop
-    μ-loop
-    reach-requires
-    end-before-requires
-    loop-holds
-    read-label-requires
-    slice-aggregate-add-image
-    add-image-requires
-    enum-known-step
-    enum-told
-    same-length
-    returns
-    add-i
-    loop-less
-    loop-again
-    same-length-2
-    returns-2)
+    (tie.spec Inv-loop μ-loop reach-requires end-before-requires loop-holds read-label-requires slice-aggregate-add-image add-image-requires
+    enum-known-step enum-told same-length returns add-i loop-less loop-again same-length-2 returns-2)

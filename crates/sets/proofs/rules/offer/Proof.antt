@@ -67,15 +67,5 @@ returns-3 c =
 pub offer-spec : {M : Type 1} → statement M
 offer-spec =
     tie.close
-    (tie.spec
-    read-label-requires
-    inside-requires
-    difference-requires
-    add-read-label
-    read-label-requires-2
-    sum-requires
-    enum-told
-    enum-known-result
-    returns
-    returns-2
-    returns-3)
+    (tie.spec read-label-requires inside-requires difference-requires add-read-label read-label-requires-2 sum-requires enum-told
+    enum-known-result returns returns-2 returns-3)

@@ -69,23 +69,5 @@ returns c = over-end (c .before .before .before .args .rules .now) (c .before .l
 pub exchanges-spec : {M : Type 1} → statement M
 exchanges-spec =
     tie.close
-    (tie.spec
-    Inv-loop
-    μ-loop
-    loop-holds
-    add-loop
-    add-single
-    mul-single
-    shared-slice-read-single
-    single-requires
-    mul-list
-    shared-slice-read-list
-    mul-list-2
-    array-write-list
-    add-list
-    mul-list-3
-    array-write-list-2
-    add-i
-    loop-less
-    loop-again
-    returns)
+    (tie.spec Inv-loop μ-loop loop-holds add-loop add-single mul-single shared-slice-read-single single-requires mul-list shared-slice-read-list
+    mul-list-2 array-write-list add-list mul-list-3 array-write-list-2 add-i loop-less loop-again returns)

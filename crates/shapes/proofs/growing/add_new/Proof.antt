@@ -108,26 +108,6 @@ returns-3 c =
 pub add-new-spec : {M : Type 1} → statement M
 add-new-spec =
     tie.close
-    (tie.spec
-    Inv-loop
-    μ-loop
-    end-before-requires
-    add-part-requires
-    same-length
-    returns
-    end-before-requires-2
-    reach-requires
-    loop-holds
-    stands-next-requires
-    add-next
-    add-t31
-    add-part-requires-2
-    enum-known-step
-    enum-told
-    same-length-2
-    returns-2
-    add-i
-    loop-less
-    loop-again
-    same-length-3
-    returns-3)
+    (tie.spec Inv-loop μ-loop end-before-requires add-part-requires same-length returns end-before-requires-2 reach-requires loop-holds
+    stands-next-requires add-next add-t31 add-part-requires-2 enum-known-step enum-told same-length-2 returns-2 add-i loop-less loop-again
+    same-length-3 returns-3)

@@ -31,12 +31,4 @@ returns-2 c = rw (c .before .before .before .before .before .giving2 .given .1) 
 pub add-part-spec : {M : Type 1} → statement M
 add-part-spec =
     tie.close
-    (tie.spec
-    enum-known-giving
-    add-image-requires
-    enum-known-giving-2
-    add-product-requires
-    same-length
-    returns
-    same-length-2
-    returns-2)
+    (tie.spec enum-known-giving add-image-requires enum-known-giving-2 add-product-requires same-length returns same-length-2 returns-2)

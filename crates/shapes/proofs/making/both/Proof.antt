@@ -34,12 +34,4 @@ returns-2 c =
 pub both-spec : {M : Type 1} → statement M
 both-spec =
     tie.close
-    (tie.spec
-    union-requires
-    enum-known-first
-    enum-told
-    same-length
-    returns
-    add-product-requires
-    same-length-2
-    returns-2)
+    (tie.spec union-requires enum-known-first enum-told same-length returns add-product-requires same-length-2 returns-2)

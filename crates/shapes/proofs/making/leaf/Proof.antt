@@ -43,14 +43,4 @@ returns-3 c =
 pub leaf-spec : {M : Type 1} → statement M
 leaf-spec =
     tie.close
-    (tie.spec
-    insert-requires
-    enum-told
-    enum-told-2
-    enum-told-3
-    same-length
-    returns
-    same-length-2
-    returns-2
-    same-length-3
-    returns-3)
+    (tie.spec insert-requires enum-told enum-told-2 enum-told-3 same-length returns same-length-2 returns-2 same-length-3 returns-3)

@@ -28,11 +28,4 @@ returns c = rw (c .before .before .before .before .before .exchanges .ensures, c
 pub communicate-spec : {M : Type 1} → statement M
 communicate-spec =
     tie.close
-    (tie.spec
-    first-rules-requires
-    exchanges-requires
-    array-share-prefix-list
-    slice-aggregate-through
-    through-requires
-    same-length
-    returns)
+    (tie.spec first-rules-requires exchanges-requires array-share-prefix-list slice-aggregate-through through-requires same-length returns)

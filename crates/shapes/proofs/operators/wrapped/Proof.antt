@@ -81,29 +81,7 @@ returns-5 c = rw (c .before .before .before .before .before .before .operator5 .
 pub wrapped-spec : {M : Type 1} → statement M
 wrapped-spec =
     tie.close
-    (tie.spec
-    enum-known-operator
-    words-of-requires
-    through-requires
-    enum-known-operator-2
-    words-of-requires-2
-    through-requires-2
-    enum-known-operator-3
-    words-of-requires-3
-    through-requires-3
-    enum-known-operator-4
-    rule-words-of-requires
-    communicate-requires
-    enum-known-operator-5
-    words-of-requires-4
-    through-requires-4
-    same-length
-    returns
-    same-length-2
-    returns-2
-    same-length-3
-    returns-3
-    same-length-4
-    returns-4
-    same-length-5
-    returns-5)
+    (tie.spec enum-known-operator words-of-requires through-requires enum-known-operator-2 words-of-requires-2 through-requires-2
+    enum-known-operator-3 words-of-requires-3 through-requires-3 enum-known-operator-4 rule-words-of-requires communicate-requires
+    enum-known-operator-5 words-of-requires-4 through-requires-4 same-length returns same-length-2 returns-2 same-length-3 returns-3 same-length-4
+    returns-4 same-length-5 returns-5)

@@ -46,15 +46,4 @@ returns-2 c = sym (stay-ends (c .before .before .before .before .before .args .o
 pub all-stay-spec : {M : Type 1} → statement M
 all-stay-spec =
     tie.close
-    (tie.spec
-    Inv-loop
-    μ-loop
-    loop-holds
-    mul-stays
-    shared-slice-read-stays
-    stays-requires
-    returns
-    add-i
-    loop-less
-    loop-again
-    returns-2)
+    (tie.spec Inv-loop μ-loop loop-holds mul-stays shared-slice-read-stays stays-requires returns add-i loop-less loop-again returns-2)

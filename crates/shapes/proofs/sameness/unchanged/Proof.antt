@@ -118,41 +118,8 @@ returns-13 c = rw (c .before .before .term10 .given .1) (c .stays4 .ensures)
 pub unchanged-spec : {M : Type 1} → statement M
 unchanged-spec =
     tie.close
-    (tie.spec
-    enum-told
-    enum-told-2
-    enum-told-3
-    enum-known-term
-    start-of-requires
-    stays-requires
-    enum-known-term-2
-    stays-requires-2
-    enum-known-term-3
-    stays-requires-3
-    enum-known-term-4
-    both-stay-requires
-    enum-known-term-5
-    both-stay-requires-2
-    enum-known-term-6
-    both-stay-requires-3
-    enum-known-term-7
-    both-stay-requires-4
-    enum-known-term-8
-    both-stay-requires-5
-    enum-known-term-9
-    both-stay-requires-6
-    enum-known-term-10
-    stays-requires-4
-    returns
-    returns-2
-    returns-3
-    returns-4
-    returns-5
-    returns-6
-    returns-7
-    returns-8
-    returns-9
-    returns-10
-    returns-11
-    returns-12
-    returns-13)
+    (tie.spec enum-told enum-told-2 enum-told-3 enum-known-term start-of-requires stays-requires enum-known-term-2 stays-requires-2
+    enum-known-term-3 stays-requires-3 enum-known-term-4 both-stay-requires enum-known-term-5 both-stay-requires-2 enum-known-term-6
+    both-stay-requires-3 enum-known-term-7 both-stay-requires-4 enum-known-term-8 both-stay-requires-5 enum-known-term-9 both-stay-requires-6
+    enum-known-term-10 stays-requires-4 returns returns-2 returns-3 returns-4 returns-5 returns-6 returns-7 returns-8 returns-9 returns-10
+    returns-11 returns-12 returns-13)
