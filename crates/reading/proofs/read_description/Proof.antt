@@ -8,18 +8,13 @@ use lib.Seq.{take-at, drop-at, length-take-le}
 use Rattle.table.specs.Encoded.{filled}
 use Rattle.table.proofs.Filled.{filled-length}
 use Rattle.table.proofs.Zeroed.{zeroed-whole}
+use Rattle.forms.proofs.Rests.{asks-nothing}
 use Rattle.reading.proofs.Stores.{text-long, room-short, both-fit, refused-first, fine-stored, bad-stored, not-fine}
 use Rattle.reading.proofs.read_description.Statement.{statement}
 use Rattle.reading.proofs.read_description.Tie as tie
 
-refused-requires : tie.Need-refused-requires
-refused-requires c κs = tt
-
 returns : tie.Need-returns
 returns c = refused-first (c .before .before .before .before .args .text .now) (c .before .before .before .before .args .store .now) (text-long (c .before .before .before .before .args .text .now) (length (c .before .before .before .before .args .store .now)) (omega (arith, c .before .if1 .taken))) (c .refused .ensures)
-
-refused-requires-2 : tie.Need-refused-requires-2
-refused-requires-2 c κs = tt
 
 returns-2 : tie.Need-returns-2
 returns-2 c = refused-first (c .before .before .before .before .before .args .text .now) (c .before .before .before .before .before .args .store .now) (room-short (c .before .before .before .before .before .args .text .now) (length (c .before .before .before .before .before .args .store .now)) (omega (arith, c .before .if2 .taken))) (c .refused2 .ensures)
@@ -29,9 +24,6 @@ slice-relend-prefix-clear c = omega arith
 
 slice-aggregate-clear : tie.Need-slice-aggregate-clear
 slice-aggregate-clear c = sym (length-take-le 3104 (c .before .before .before .before .before .args .store .now) (c .before .if2 .left))
-
-clear-requires : tie.Need-clear-requires
-clear-requires c κs = tt
 
 -- the first 3,104 words once they are 0, and once the lines are read
 zeros : (c : tie.After-clear) → c .clear .last .0 ≡ filled 3104 0 []
@@ -68,9 +60,6 @@ slice-relend-prefix-clear-2 c = rw length-append (omega (arith, read-long (c .be
 slice-aggregate-clear-2 : tie.Need-slice-aggregate-clear-2
 slice-aggregate-clear-2 c = sym (second-long (c .before .before .before))
 
-clear-requires-2 : tie.Need-clear-requires-2
-clear-requires-2 c κs = tt
-
 same-length : tie.Need-same-length
 same-length c = c .before .store3 .given .1 ∙ c .before .before .before .before .before .before .store2 .given .1 ∙ c .before .before .before .before .before .before .before .before .before .before .store .given .1
 
@@ -97,6 +86,6 @@ returns-4 c =
 pub read-description-spec : {M : Type 1} → statement M
 read-description-spec =
     tie.close
-    (tie.spec refused-requires returns refused-requires-2 returns-2 slice-relend-prefix-clear slice-aggregate-clear clear-requires
+    (tie.spec asks-nothing returns asks-nothing returns-2 slice-relend-prefix-clear slice-aggregate-clear asks-nothing
     slice-relend-prefix-read-lines slice-aggregate-read-lines read-lines-requires enum-told slice-relend-prefix-clear-2 slice-aggregate-clear-2
-    clear-requires-2 same-length returns-3 same-length-2 returns-4)
+    asks-nothing same-length returns-3 same-length-2 returns-4)

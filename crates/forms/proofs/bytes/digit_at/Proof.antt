@@ -3,7 +3,7 @@
 use mathlib.Core.Path.{sym, _∙_}
 use native.Mathlib.Omega.{arith}
 use borrow.Author.Tests.{not-true, not-false}
-use Rattle.forms.proofs.Rests.{digit-none, digit-other, digit-here, digit-low}
+use Rattle.forms.proofs.Rests.{asks-nothing, digit-none, digit-other, digit-here, digit-low}
 use Rattle.forms.proofs.bytes.digit_at.Statement.{statement}
 use Rattle.forms.proofs.bytes.digit_at.Tie as tie
 
@@ -12,9 +12,6 @@ returns c = digit-none (c .before .before .args .line .now) (c .before .before .
 
 shared-slice-read-b : tie.Need-shared-slice-read-b
 shared-slice-read-b c = omega arith
-
-between-requires : tie.Need-between-requires
-between-requires c κs = tt
 
 returns-2 : tie.Need-returns-2
 returns-2 c = let a = c .before .before .before .before .before .args in digit-other (a .line .now) (a .at) (c .before .before .before .if1 .left) (sym (c .before .between .ensures) ∙ not-true _ (c .if2 .taken))
@@ -29,4 +26,4 @@ returns-3 : tie.Need-returns-3
 returns-3 c = let a = c .before .before .before .before .before .args in digit-here (a .line .now) (a .at) (c .before .before .before .if1 .left) (sym (c .before .between .ensures) ∙ not-false _ (c .if2 .left))
 
 pub digit-at-spec : {M : Type 1} → statement M
-digit-at-spec = tie.close (tie.spec returns shared-slice-read-b between-requires returns-2 sub-result cast-result returns-3)
+digit-at-spec = tie.close (tie.spec returns shared-slice-read-b asks-nothing returns-2 sub-result cast-result returns-3)

@@ -2,22 +2,17 @@
 -- Assumes nothing.
 use mathlib.Core.Path.{sym, _∙_}
 use Rattle.forms.specs.Text.{isLower, isDigit}
+use Rattle.forms.proofs.Rests.{asks-nothing}
 use Rattle.forms.proofs.bytes.goes_on.Statement.{statement}
 use Rattle.forms.proofs.bytes.goes_on.Tie as tie
-
-between-requires : tie.Need-between-requires
-between-requires c κs = tt
 
 returns : tie.Need-returns
 unfolding isLower isDigit
 returns c = rw (sym (c .before .between .ensures) ∙ c .if1 .taken) (c .if1 .taken)
-
-between-requires-2 : tie.Need-between-requires-2
-between-requires-2 c κs = tt
 
 returns-2 : tie.Need-returns-2
 unfolding isLower isDigit
 returns-2 c = rw (sym (c .before .before .between .ensures) ∙ c .before .if1 .left) (c .between2 .ensures)
 
 pub goes-on-spec : {M : Type 1} → statement M
-goes-on-spec = tie.close (tie.spec between-requires between-requires-2 returns returns-2)
+goes-on-spec = tie.close (tie.spec asks-nothing asks-nothing returns returns-2)

@@ -3,13 +3,10 @@
 use mathlib.Core.Path.{sym, _∙_}
 use native.Mathlib.Omega.{arith}
 use borrow.Author.Tests.{not-true, not-false}
-use Rattle.forms.proofs.Rests.{sign-within}
+use Rattle.forms.proofs.Rests.{asks-nothing, sign-within}
 use Rattle.forms.proofs.Steps.{no-sign, past-sign}
 use Rattle.forms.proofs.bytes.number_after.Statement.{statement}
 use Rattle.forms.proofs.bytes.number_after.Tie as tie
-
-sign-at-requires : tie.Need-sign-at-requires
-sign-at-requires c κs = tt
 
 returns : tie.Need-returns
 returns c = let a = c .before .before .before .args in record { stands = no-sign (a .sign) (a .line .now) (a .at) _ (sym (c .before .sign-at .ensures) ∙ not-true _ (c .if1 .taken)) (c .before .before .before .pre) }
@@ -26,4 +23,4 @@ returns-2 c =
     record { stands = past-sign (a .sign) (a .line .now) (a .at) _ (sym (c .before .before .sign-at .ensures) ∙ not-false _ (c .before .if1 .left)) (c .read-number .ensures .stands) }
 
 pub number-after-spec : {M : Type 1} → statement M
-number-after-spec = tie.close (tie.spec sign-at-requires returns add-read-number read-number-requires returns-2)
+number-after-spec = tie.close (tie.spec asks-nothing returns add-read-number read-number-requires returns-2)

@@ -6,7 +6,7 @@ use native.Mathlib.Omega.{arith}
 use native.Mathlib.Nat.{le-refl}
 use Prim.Native.Nat.{_-_}
 use lib.ListN.{length, drop, drop-of-length-le}
-use Rattle.forms.proofs.Rests.{rest-cons, Spelling, spelled-other, spelled-more, spelled-all}
+use Rattle.forms.proofs.Rests.{asks-nothing, rest-cons, Spelling, spelled-other, spelled-more, spelled-all}
 use Rattle.forms.proofs.bytes.read_literal.Statement.{statement}
 use Rattle.forms.proofs.bytes.read_literal.Tie as tie
 
@@ -21,9 +21,6 @@ loop-holds c = record { says = refl; after = le-refl _; within = omega arith }
 
 shared-slice-read-sign-at : tie.Need-shared-slice-read-sign-at Inv-loop μ-loop
 shared-slice-read-sign-at c = omega arith
-
-sign-at-requires : tie.Need-sign-at-requires Inv-loop μ-loop
-sign-at-requires c κs = tt
 
 returns : tie.Need-returns Inv-loop μ-loop
 returns c = spelled-other (c .before .before .before .before .loop .inv) (rest-cons _ _ (c .before .before .before .loop-test .taken)) (sym (c .before .sign-at .ensures) ∙ not-true _ (c .if1 .taken))
@@ -46,4 +43,4 @@ returns-2 c = spelled-all (c .before .loop .inv) (drop-of-length-le _ (c .loop-t
 pub read-literal-spec : {M : Type 1} → statement M
 read-literal-spec =
     tie.close
-    (tie.spec Inv-loop μ-loop loop-holds shared-slice-read-sign-at sign-at-requires returns add-next add-i loop-less loop-again returns-2)
+    (tie.spec Inv-loop μ-loop loop-holds shared-slice-read-sign-at asks-nothing returns add-next add-i loop-less loop-again returns-2)

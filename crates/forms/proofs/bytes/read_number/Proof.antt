@@ -1,12 +1,9 @@
 -- `forms::bytes::read_number` meets its contract: by its first digit and the one after it.
 -- Assumes nothing.
 use native.Mathlib.Omega.{arith}
-use Rattle.forms.proofs.Rests.{number-none, first-within, zero-read, one-read, two-read}
+use Rattle.forms.proofs.Rests.{asks-nothing, number-none, first-within, zero-read, one-read, two-read}
 use Rattle.forms.proofs.bytes.read_number.Statement.{statement}
 use Rattle.forms.proofs.bytes.read_number.Tie as tie
-
-digit-at-requires : tie.Need-digit-at-requires
-digit-at-requires c κs = tt
 
 returns : tie.Need-returns
 returns c = let a = c .before .before .before .args in number-none (a .line .now) (a .at) (c .before .digit-at .ensures) (c .before .before .before .pre) (c .if1 .taken)
@@ -16,9 +13,6 @@ add-next c = let a = c .before .before .before .args in let w = first-within (a 
 
 returns-2 : tie.Need-returns-2
 returns-2 c = let a = c .before .before .before .before .args in zero-read (a .line .now) (a .at) (c .before .before .digit-at .ensures) (c .before .if1 .left) (c .if2 .taken)
-
-digit-at-requires-2 : tie.Need-digit-at-requires-2
-digit-at-requires-2 c κs = tt
 
 returns-3 : tie.Need-returns-3
 returns-3 c =
@@ -40,6 +34,4 @@ add-after : tie.Need-add-after
 add-after c = omega (arith, returns-4 c .stands .within)
 
 pub read-number-spec : {M : Type 1} → statement M
-read-number-spec =
-    tie.close
-    (tie.spec digit-at-requires returns add-next returns-2 digit-at-requires-2 returns-3 mul-both add-both add-after returns-4)
+read-number-spec = tie.close (tie.spec asks-nothing returns add-next returns-2 asks-nothing returns-3 mul-both add-both add-after returns-4)

@@ -4,6 +4,7 @@ use native.Mathlib.Omega.{arith}
 use borrow.Author.Tests.{not-true, not-false}
 use lib.ListN.{length, take, drop}
 use Rattle.forms.specs.Text.{onward, wordOn, word}
+use Rattle.forms.proofs.Rests.{asks-nothing}
 use Rattle.forms.proofs.Words.{prefixed, take-snoc, word-none, word-other, word-start, on-full, on-none, on-other, on-more}
 use Rattle.forms.proofs.bytes.word_end.Statement.{statement}
 use Rattle.forms.proofs.bytes.word_end.Tie as tie
@@ -24,9 +25,6 @@ shared-slice-read-between : tie.Need-shared-slice-read-between Inv-loop μ-loop
 shared-slice-read-between c = omega arith
 
 -- src/bytes.rt:96:9
-between-requires : tie.Need-between-requires Inv-loop μ-loop
-between-requires c κs = tt
-
 -- src/bytes.rt:97:9
 returns-2 : tie.Need-returns-2 Inv-loop μ-loop
 returns-2 c = record { stands = record { says = word-other (c .before .before .before .before .before .args .line .now) (c .before .before .before .before .before .args .at) (omega arith) (sym (c .before .between .ensures) ∙ not-true _ (c .if2 .taken)); after = omega arith; within = omega arith } }
@@ -49,9 +47,6 @@ shared-slice-read-goes-on : tie.Need-shared-slice-read-goes-on Inv-loop μ-loop
 shared-slice-read-goes-on c = omega arith
 
 -- src/bytes.rt:105:13
-goes-on-requires : tie.Need-goes-on-requires Inv-loop μ-loop
-goes-on-requires c κs = tt
-
 -- src/bytes.rt:106:13
 returns-4 : tie.Need-returns-4 Inv-loop μ-loop
 returns-4 c = record { stands = record { says = on-other (c .before .before .before .before .before .before .before .before .before .before .before .args .line .now) (c .before .before .before .before .before .loop .next) (take (c .before .before .before .before .before .loop .next - c .before .before .before .before .before .before .before .before .before .before .before .args .at) (drop (c .before .before .before .before .before .before .before .before .before .before .before .args .at) (c .before .before .before .before .before .before .before .before .before .before .before .args .line .now))) (c .before .before .before .before .before .loop .room) (omega arith) (sym (c .before .goes-on .ensures) ∙ not-true _ (c .if4 .taken)) ∙ c .before .before .before .before .before .loop .inv .3; after = omega arith; within = omega arith } }
@@ -85,5 +80,5 @@ returns-5 c = record { stands = record { says = on-full (c .before .before .befo
 pub word-end-spec : {M : Type 1} → statement M
 word-end-spec =
     tie.close
-    (tie.spec Inv-loop μ-loop returns shared-slice-read-between between-requires returns-2 add-next loop-holds returns-3 shared-slice-read-goes-on
-    goes-on-requires returns-4 add-next-2 sub-room loop-less loop-again returns-5)
+    (tie.spec Inv-loop μ-loop returns shared-slice-read-between asks-nothing returns-2 add-next loop-holds returns-3 shared-slice-read-goes-on
+    asks-nothing returns-4 add-next-2 sub-room loop-less loop-again returns-5)

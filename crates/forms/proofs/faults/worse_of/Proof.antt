@@ -3,6 +3,7 @@ use native.Mathlib.Omega.{arith}
 use borrow.Author.Tests.{le-leb, lt-leb}
 use Rattle.meaning.specs.Answers.{faultNumber}
 use Rattle.forms.specs.Tallies.{faultOf}
+use Rattle.forms.proofs.Rests.{asks-nothing}
 use Rattle.forms.proofs.faults.worse_of.Statement.{statement}
 use Rattle.forms.proofs.faults.worse_of.Tie as tie
 
@@ -31,13 +32,7 @@ returns-2 : tie.Need-returns-2
 returns-2 c = rw (c .before .before .before .a .given .1, c .enum-told2 .given .1)
 
 -- src/faults.rt:42:8
-number-of-requires : tie.Need-number-of-requires
-number-of-requires c κs = tt
-
 -- src/faults.rt:42:24
-number-of-requires-2 : tie.Need-number-of-requires-2
-number-of-requires-2 c κs = tt
-
 -- src/faults.rt:43:9
 returns-3 : tie.Need-returns-3
 returns-3 c =
@@ -53,6 +48,4 @@ returns-4 c =
     rw (c .before .before .before .before .before .before .before .a .given .1, c .before .before .before .before .b .given .1, lt-leb (faultNumber (faultOf (c .before .before .before .before .before .before .before .a .given .0 .0))) (faultNumber (faultOf (c .before .before .before .before .b .given .0 .0))) (omega arith))
 
 pub worse-of-spec : {M : Type 1} → statement M
-worse-of-spec =
-    tie.close
-    (tie.spec enum-known-a enum-told returns enum-known-b enum-told-2 returns-2 number-of-requires number-of-requires-2 returns-3 returns-4)
+worse-of-spec = tie.close (tie.spec enum-known-a enum-told returns enum-known-b enum-told-2 returns-2 asks-nothing asks-nothing returns-3 returns-4)

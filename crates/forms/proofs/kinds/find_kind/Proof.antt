@@ -2,6 +2,7 @@
 -- Assumes nothing.
 use Prim.Native.Nat.{_-_}
 use native.Mathlib.Omega.{arith}
+use Rattle.forms.proofs.Rests.{asks-nothing}
 use Rattle.forms.proofs.Kinded.{Sought, sought-none, sought-found, sought-more, sought-all}
 use Rattle.forms.proofs.kinds.find_kind.Statement.{statement}
 use Rattle.forms.proofs.kinds.find_kind.Tie as tie
@@ -35,9 +36,6 @@ returns c =
     sought-found _ _ _ _ (c .before .before .before .before .before .loop .inv) (c .before .before .before .before .loop-test .taken) (c .before .before .before .read-packed .ensures)
     (c .before .word .given .1)
 
-most-requires : tie.Need-most-requires Inv-loop μ-loop
-most-requires c κs = tt
-
 add-k : tie.Need-add-k Inv-loop μ-loop
 add-k c = omega arith
 
@@ -56,4 +54,4 @@ pub find-kind-spec : {M : Type 1} → statement M
 find-kind-spec =
     tie.close
     (tie.spec Inv-loop μ-loop loop-holds mul-read-packed array-read-read-packed read-packed-requires enum-known-word returns enum-known-word-2
-    most-requires add-k loop-less loop-again returns-2)
+    asks-nothing add-k loop-less loop-again returns-2)

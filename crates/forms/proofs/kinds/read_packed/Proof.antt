@@ -6,7 +6,7 @@ use native.Mathlib.Omega.{arith}
 use native.Mathlib.Nat.{le-refl}
 use Prim.Native.Nat.{ℕ, _<_, _^_}
 use Rattle.table.specs.Decoded.{nameOf}
-use Rattle.forms.proofs.Rests.{Spelling, spelled-other, spelled-more, spelled-all}
+use Rattle.forms.proofs.Rests.{asks-nothing, Spelling, spelled-other, spelled-more, spelled-all}
 use Rattle.forms.proofs.Kinded.{packed-split, packed-all}
 use Rattle.forms.proofs.kinds.read_packed.Statement.{statement}
 use Rattle.forms.proofs.kinds.read_packed.Tie as tie
@@ -23,9 +23,6 @@ loop-holds c = (8, omega arith, record { says = refl; after = le-refl _; within 
 
 cast-b : tie.Need-cast-b Inv-loop μ-loop
 cast-b c = omega arith
-
-sign-at-requires : tie.Need-sign-at-requires Inv-loop μ-loop
-sign-at-requires c κs = tt
 
 returns : tie.Need-returns Inv-loop μ-loop
 returns c =
@@ -48,4 +45,4 @@ returns-2 : tie.Need-returns-2 Inv-loop μ-loop
 returns-2 c = let i = c .before .loop .inv in spelled-all (i .2) (packed-all (i .0) (omega arith))
 
 pub read-packed-spec : {M : Type 1} → statement M
-read-packed-spec = tie.close (tie.spec Inv-loop μ-loop loop-holds cast-b sign-at-requires returns add-next loop-less loop-again returns-2)
+read-packed-spec = tie.close (tie.spec Inv-loop μ-loop loop-holds cast-b asks-nothing returns add-next loop-less loop-again returns-2)

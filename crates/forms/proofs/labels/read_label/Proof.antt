@@ -12,6 +12,7 @@ use Rattle.forms.specs.Forms.{part, dot}
 use Rattle.forms.specs.Tallies.{Said}
 use Rattle.forms.specs.Places.{saidOf}
 use Rattle.forms.specs.Entries.{seen, partSaid}
+use Rattle.forms.proofs.Rests.{asks-nothing}
 use Rattle.forms.proofs.Steps.{said-went, otherwise}
 use Rattle.forms.proofs.Seen.{become, said-same}
 use Rattle.forms.proofs.Tallied.{Tallied, tallied-none, tallied-more}
@@ -61,9 +62,6 @@ tallied c = tallied-more sizes 31 (saidOf (c .before .before .part .given .0 .0)
 added-requires : tie.Need-added-requires Inv-loop μ-loop
 added-requires c κs = room-for (c .before .before .before .before .before .loop .inv .0) (saidOf (c .before .before .part .given .0 .0)) (c .before .before .before .before .before .loop .inv .3) (known (c .before)) (c .before .before .before .before .before .loop .number) (c .before .before .before .before .before .loop .inv .4) (tallied c .faults)
 
-sign-at-requires : tie.Need-sign-at-requires Inv-loop μ-loop
-sign-at-requires c κs = tt
-
 summed : (c : tie.After-added Inv-loop μ-loop) → c .added .result ≡ partsNumber (c .before .before .before .before .before .before .loop .inv .0 ++ (saidOf (c .before .before .before .part .given .0 .0) ∷ []))
 summed c =
     sum-more (c .before .before .before .before .before .before .loop .inv .0) (saidOf (c .before .before .before .part .given .0 .0)) (c .before .before .before .before .before .before .loop .inv .3) (known (c .before .before)) (c .before .before .before .before .before .before .loop .number) (c .before .before .before .before .before .before .loop .inv .4)
@@ -101,5 +99,5 @@ loop-again c = (
 pub read-label-spec : {M : Type 1} → statement M
 read-label-spec =
     tie.close
-    (tie.spec Inv-loop μ-loop loop-holds read-part-requires enum-known-part enum-told returns counted-requires added-requires sign-at-requires
-    returns-2 add-from loop-less loop-again)
+    (tie.spec Inv-loop μ-loop loop-holds read-part-requires enum-known-part enum-told returns counted-requires added-requires asks-nothing returns-2
+    add-from loop-less loop-again)

@@ -2,6 +2,7 @@
 -- Assumes nothing.
 use borrow.Author.Needs.{needs}
 use mathlib.Core.Path.{refl}
+use Rattle.forms.proofs.Rests.{asks-nothing}
 use Rattle.forms.proofs.Steps.{went, halts, onwards, arrived, otherwise}
 use Rattle.forms.proofs.Seen.{said-same, name-faulted}
 use Rattle.forms.proofs.labels.read_name.Statement.{statement}
@@ -19,12 +20,6 @@ enum-known-name-2 c = c .match .keys2
 returns : tie.Need-returns
 returns c = record { stands = halts _ (c .before .before .before .read-word .ensures) (c .before .name .given .1) }
 
-find-name-requires : tie.Need-find-name-requires
-find-name-requires c κs = tt
-
-name-fault-requires : tie.Need-name-fault-requires
-name-fault-requires c κs = tt
-
 returns-2 : tie.Need-returns-2
 returns-2 c =
     record {
@@ -35,4 +30,4 @@ returns-2 c =
     }
 
 pub read-name-spec : {M : Type 1} → statement M
-read-name-spec = tie.close (tie.spec read-word-requires enum-known-name enum-known-name-2 find-name-requires name-fault-requires returns returns-2)
+read-name-spec = tie.close (tie.spec read-word-requires enum-known-name enum-known-name-2 asks-nothing asks-nothing returns returns-2)

@@ -4,6 +4,7 @@ use borrow.Author.Needs.{needs}
 use mathlib.Core.Path.{refl, ap, _∙_}
 use Rattle.forms.specs.Faults.{worse}
 use Rattle.forms.specs.Tallies.{foundOf}
+use Rattle.forms.proofs.Rests.{asks-nothing}
 use Rattle.forms.proofs.Steps.{went, halts, onwards, said-went, said-halted, said-onwards, arrived, otherwise}
 use Rattle.forms.proofs.Seen.{become, part-seen, said-same}
 use Rattle.forms.proofs.labels.read_part.Statement.{statement}
@@ -33,12 +34,6 @@ enum-known-count-2 c = c .match2 .keys2
 returns-2 : tie.Need-returns-2
 returns-2 c = record { stands = become (part-seen _ _) (said-onwards _ (c .before .before .before .before .before .before .before .read-name .ensures) (c .before .before .before .before .before .name .given .1) (halts _ (c .before .before .before .number-after .ensures) (c .before .count .given .1))) }
 
-amount-unless-requires : tie.Need-amount-unless-requires
-amount-unless-requires c κs = tt
-
-worse-of-requires : tie.Need-worse-of-requires
-worse-of-requires c κs = tt
-
 returns-3 : tie.Need-returns-3
 returns-3 c =
     record {
@@ -52,5 +47,5 @@ returns-3 c =
 pub read-part-spec : {M : Type 1} → statement M
 read-part-spec =
     tie.close
-    (tie.spec read-name-requires enum-known-name enum-told returns number-after-requires enum-known-count enum-known-count-2 amount-unless-requires
-    worse-of-requires returns-2 returns-3)
+    (tie.spec read-name-requires enum-known-name enum-told returns number-after-requires enum-known-count enum-known-count-2 asks-nothing
+    asks-nothing returns-2 returns-3)

@@ -3,6 +3,7 @@
 use native.Mathlib.Omega.{arith}
 use Rattle.forms.specs.Text.{number}
 use Rattle.forms.specs.Forms.{countLine}
+use Rattle.forms.proofs.Rests.{asks-nothing}
 use Rattle.forms.proofs.Steps.{went}
 use Rattle.forms.proofs.Ends.{key-stuck, key-read}
 use Rattle.forms.proofs.lines.read_count.Statement.{statement}
@@ -24,12 +25,9 @@ returns c = let a = c .before .before .before .before .before .args in key-stuck
 read-number-requires : tie.Need-read-number-requires
 read-number-requires c κs = went (c .before .before .before .read-literal .ensures) (c .before .start .given .1) .within
 
-at-end-requires : tie.Need-at-end-requires
-at-end-requires c κs = tt
-
 returns-2 : tie.Need-returns-2
 unfolding countLine
 returns-2 c = let a = c .before .before .before .before .before .before .before .before .args in key-read _ number (a .key .now) (a .line .now) (c .before .before .before .before .before .read-literal .ensures) (c .before .before .before .start .given .1) (c .before .read-number .ensures) (c .at-end .ensures)
 
 pub read-count-spec : {M : Type 1} → statement M
-read-count-spec = tie.close (tie.spec read-literal-requires enum-known-start enum-told returns read-number-requires at-end-requires returns-2)
+read-count-spec = tie.close (tie.spec read-literal-requires enum-known-start enum-told returns read-number-requires asks-nothing returns-2)

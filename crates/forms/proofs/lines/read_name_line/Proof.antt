@@ -5,6 +5,7 @@ use mathlib.Core.Path.{refl}
 use Rattle.meaning.specs.Bytes.{ascii}
 use Rattle.forms.specs.Text.{word}
 use Rattle.forms.specs.Forms.{nameLine}
+use Rattle.forms.proofs.Rests.{asks-nothing}
 use Rattle.forms.proofs.Steps.{went}
 use Rattle.forms.proofs.Ends.{key-stuck, key-read}
 use Rattle.forms.proofs.lines.read_name_line.Statement.{statement}
@@ -29,9 +30,6 @@ returns c = let a = c .before .before .before .before .before .args in key-stuck
 read-word-requires : tie.Need-read-word-requires
 read-word-requires c κs = went (c .before .before .before .read-literal .ensures) (c .before .start .given .1) .within
 
-at-end-requires : tie.Need-at-end-requires
-at-end-requires c κs = tt
-
 returns-2 : tie.Need-returns-2
 unfolding nameLine
 returns-2 c = let a = c .before .before .before .before .before .before .before .before .args in key-read _ word (ascii "name=") (a .line .now) (c .before .before .before .before .before .read-literal .ensures) (c .before .before .before .start .given .1) (c .before .read-word .ensures) (c .at-end .ensures)
@@ -39,4 +37,4 @@ returns-2 c = let a = c .before .before .before .before .before .before .before 
 pub read-name-line-spec : {M : Type 1} → statement M
 read-name-line-spec =
     tie.close
-    (tie.spec slice-aggregate-read-literal read-literal-requires enum-known-start enum-told returns read-word-requires at-end-requires returns-2)
+    (tie.spec slice-aggregate-read-literal read-literal-requires enum-known-start enum-told returns read-word-requires asks-nothing returns-2)

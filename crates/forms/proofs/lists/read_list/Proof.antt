@@ -11,6 +11,7 @@ use Rattle.forms.specs.Forms.{comma}
 use Rattle.forms.specs.Tallies.{Said}
 use Rattle.forms.specs.Places.{saidOf}
 use Rattle.forms.specs.Lists.{entryOf, weightFor, limitFor, wordCount, entryWord, entryStored, listEntry, listWords, over}
+use Rattle.forms.proofs.Rests.{asks-nothing}
 use Rattle.forms.proofs.Steps.{said-went, otherwise}
 use Rattle.forms.proofs.Seen.{said-same}
 use Rattle.forms.proofs.Tallied.{Tallied, tallied-none, tallied-more}
@@ -27,9 +28,6 @@ Inv-loop kind line at names store₀ shape tally₀ entries₀ index₀ from₀ 
 
 abbrev μ-loop : tie.MeasureT-loop
 μ-loop kind line at names store₀ shape tally₀ entries₀ index₀ from₀ store tally entries index from = length line - from
-
-shape-of-requires : tie.Need-shape-of-requires Inv-loop μ-loop
-shape-of-requires c κs = tt
 
 loop-holds : tie.Need-loop-holds Inv-loop μ-loop
 loop-holds c = ([], begun _ _ _ _ (c .before .before .before .before .pre .0), tallied-none _ _, filled-none _ _, omega arith, c .shape-of .ensures .0, c .shape-of .ensures .1, c .shape-of .ensures .2)
@@ -86,9 +84,6 @@ add-index c = let m = count-most (c .before .before .before .before .before .bef
 add-entries : tie.Need-add-entries Inv-loop μ-loop
 add-entries c = omega (arith, c .before .before .before .before .before .before .before .before .before .before .before .loop .inv .3 .index-most, c .before .before .before .before .before .before .before .before .before .before .before .loop .inv .4, c .before .before .before .before .before .before .before .before .before .before .before .loop .inv .1 .within, c .before .before .before .before .before .before .before .before .before .before .before .before .before .before .before .before .pre .2)
 
-sign-at-requires : tie.Need-sign-at-requires Inv-loop μ-loop
-sign-at-requires c κs = tt
-
 filled : (c : tie.After-put-entry Inv-loop μ-loop)
     → Filled (c .before .before .before .before .before .before .before .before .before .before .before .before .before .args .kind) (c .before .before .before .before .before .before .before .before .before .before .before .before .before .args .store .now) (c .before .before .before .before .before .before .before .before .loop .inv .0 ++ (saidOf (c .before .before .before .before .before .entry .given .0 .0) ∷ [])) (c .before .before .before .before .before .before .before .before .loop .entries + 1) (c .before .before .before .before .before .before .before .before .loop .index + c .before .before .before .before .before .before .before .before .before .shape-of .result .size) (c .put-entry .last .0)
 filled c = filled-more (c .before .before .before .before .before .before .before .before .before .before .before .before .before .args .kind) (c .before .before .before .before .before .before .before .before .before .before .before .before .before .args .store .now) (saidOf (c .before .before .before .before .before .entry .given .0 .0)) (c .before .before .before .before .before .before .before .before .loop .inv .3) (c .before .before .before .before .before .before .before .before .loop .inv .5)
@@ -135,5 +130,5 @@ loop-again c =
 pub read-list-spec : {M : Type 1} → statement M
 read-list-spec =
     tie.close
-    (tie.spec Inv-loop μ-loop shape-of-requires loop-holds read-entry-requires enum-known-entry enum-told same-length returns counted-requires
-    entry-word-requires put-entry-requires add-index add-entries sign-at-requires same-length-2 returns-2 add-from loop-less loop-again)
+    (tie.spec Inv-loop μ-loop asks-nothing loop-holds read-entry-requires enum-known-entry enum-told same-length returns counted-requires
+    entry-word-requires put-entry-requires add-index add-entries asks-nothing same-length-2 returns-2 add-from loop-less loop-again)

@@ -1,15 +1,13 @@
 -- `forms::lists::read_rule` meets its contract: a label, and its right side.
 -- Assumes nothing.
 use borrow.Author.Needs.{needs}
+use Rattle.forms.proofs.Rests.{asks-nothing}
 use Rattle.forms.proofs.Seen.{both-sides, enough-said, rule-seen}
 use Rattle.forms.proofs.lists.read_rule.Statement.{statement}
 use Rattle.forms.proofs.lists.read_rule.Tie as tie
 
 read-label-requires : tie.Need-read-label-requires
 read-label-requires c κs = search needs
-
-two-or-more-requires : tie.Need-two-or-more-requires
-two-or-more-requires c κs = tt
 
 with-right-requires : tie.Need-with-right-requires
 with-right-requires c κs = search needs
@@ -18,4 +16,4 @@ returns : tie.Need-returns
 returns c = both-sides (enough-said (c .before .before .read-label .ensures) (c .before .two-or-more .ensures)) (c .with-right .ensures) (rule-seen _ _)
 
 pub read-rule-spec : {M : Type 1} → statement M
-read-rule-spec = tie.close (tie.spec read-label-requires two-or-more-requires with-right-requires returns)
+read-rule-spec = tie.close (tie.spec read-label-requires asks-nothing with-right-requires returns)

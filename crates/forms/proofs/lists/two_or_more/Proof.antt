@@ -5,6 +5,7 @@ use lib.ListN.{drop}
 use Rattle.forms.specs.Text.{past}
 use Rattle.forms.specs.Faults.{worse}
 use Rattle.forms.specs.Tallies.{foundOf}
+use Rattle.forms.proofs.Rests.{asks-nothing}
 use Rattle.forms.proofs.Seen.{said-same}
 use Rattle.forms.proofs.lists.two_or_more.Statement.{statement}
 use Rattle.forms.proofs.lists.two_or_more.Tie as tie
@@ -18,12 +19,6 @@ enum-told c = c .match .keys2
 returns : tie.Need-returns
 returns c = rw (c .enum-told .given .1) (record { places = refl; says = λ line. refl })
 
-amount-unless-requires : tie.Need-amount-unless-requires
-amount-unless-requires c κs = tt
-
-worse-of-requires : tie.Need-worse-of-requires
-worse-of-requires c κs = tt
-
 returns-2 : tie.Need-returns-2
 returns-2 c =
     rw (c .before .before .before .before .label .given .1)
@@ -33,4 +28,4 @@ returns-2 c =
     })
 
 pub two-or-more-spec : {M : Type 1} → statement M
-two-or-more-spec = tie.close (tie.spec enum-known-label enum-told returns amount-unless-requires worse-of-requires returns-2)
+two-or-more-spec = tie.close (tie.spec enum-known-label enum-told returns asks-nothing asks-nothing returns-2)

@@ -6,7 +6,7 @@ use native.Mathlib.Omega.{arith}
 use borrow.Author.Tests.{not-true, not-false}
 use Rattle.forms.specs.Forms.{greater}
 use Rattle.forms.specs.Places.{saidOf}
-use Rattle.forms.proofs.Rests.{sign-within}
+use Rattle.forms.proofs.Rests.{asks-nothing, sign-within}
 use Rattle.forms.proofs.Steps.{no-sign, past-sign, said-went, said-halted, said-onwards, arrived, otherwise}
 use Rattle.forms.proofs.Seen.{become, right-seen, said-same}
 use Rattle.forms.proofs.lists.with_right.Statement.{statement}
@@ -20,9 +20,6 @@ enum-told c = c .match .keys2
 
 returns : tie.Need-returns
 returns c = search needs
-
-sign-at-requires : tie.Need-sign-at-requires
-sign-at-requires c κs = tt
 
 returns-2 : tie.Need-returns-2
 returns-2 c = record { stands = rw (c .before .before .before .left .given .1) (become (right-seen _ (saidOf (c .before .before .before .left .given .0 .0)) _) (no-sign greater (c .before .before .before .before .before .before .before .args .line .now) (c .before .before .before .left .given .0 .1 .0) _ (sym (c .before .sign-at .ensures) ∙ not-true _ (c .if1 .taken)) (rw (c .before .before .before .left .given .1) at (c .before .before .before .before .before .before .before .pre)))) }
@@ -42,9 +39,6 @@ enum-told-2 c = c .match2 .keys2
 returns-3 : tie.Need-returns-3
 returns-3 c = record { stands = rw (c .before .before .before .before .before .before .left .given .1) (become (right-seen _ (saidOf (c .before .before .before .before .before .before .left .given .0 .0)) _) (past-sign greater (c .before .before .before .before .before .before .before .before .before .before .args .line .now) (c .before .before .before .before .before .before .left .given .0 .1 .0) _ (sym (c .before .before .before .before .sign-at .ensures) ∙ not-false _ (c .before .before .before .if1 .left)) (said-halted _ (c .before .before .read-name .ensures) (c .enum-told2 .given .1) .stands))) }
 
-worse-of-requires : tie.Need-worse-of-requires
-worse-of-requires c κs = tt
-
 returns-4 : tie.Need-returns-4
 returns-4 c =
     record {
@@ -57,5 +51,5 @@ returns-4 c =
 pub with-right-spec : {M : Type 1} → statement M
 with-right-spec =
     tie.close
-    (tie.spec enum-known-left enum-told returns sign-at-requires returns-2 add-read-name read-name-requires enum-known-right enum-told-2 returns-3
-    worse-of-requires returns-4)
+    (tie.spec enum-known-left enum-told returns asks-nothing returns-2 add-read-name read-name-requires enum-known-right enum-told-2 returns-3
+    asks-nothing returns-4)

@@ -2,6 +2,7 @@
 -- Assumes nothing.
 use mathlib.Core.Path.{ap}
 use Rattle.forms.specs.declared.TermStep.the-variants as TermStep
+use Rattle.forms.proofs.Rests.{asks-nothing}
 use Rattle.forms.proofs.terms.farthest.Statement.{statement}
 use Rattle.forms.proofs.terms.farthest.Tie as tie
 
@@ -14,11 +15,8 @@ enum-told c = c .match .keys2
 returns : tie.Need-returns
 returns c = rw (c .enum-told .given .1)
 
-most-requires : tie.Need-most-requires
-most-requires c κs = tt
-
 returns-2 : tie.Need-returns-2
 returns-2 c = rw (c .before .before .x .given .1) (ap TermStep.Stuck (c .most .ensures))
 
 pub farthest-spec : {M : Type 1} → statement M
-farthest-spec = tie.close (tie.spec enum-known-x enum-told returns most-requires returns-2)
+farthest-spec = tie.close (tie.spec enum-known-x enum-told returns asks-nothing returns-2)

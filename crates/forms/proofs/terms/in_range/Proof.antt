@@ -13,6 +13,7 @@ use Rattle.table.proofs.Term.{the-type}
 use Rattle.table.specs.Terms.{bareTerm}
 use Rattle.forms.specs.Faults.{inRange}
 use borrow.Author.Needs.{needs}
+use Rattle.forms.proofs.Rests.{asks-nothing}
 use Rattle.forms.proofs.terms.in_range.Statement.{statement}
 use Rattle.forms.proofs.terms.in_range.Tie as tie
 
@@ -64,9 +65,6 @@ enum-known-x-9 c = search needs
 enum-known-x-10 : tie.Need-enum-known-x-10
 enum-known-x-10 c = search needs
 
-both-below-requires : tie.Need-both-below-requires
-both-below-requires c κs = tt
-
 returns : tie.Need-returns
 returns c = leaf-in-range (c .before .args .equations) (c .before .args .n) (c .before .args .x) (c .match .keys1)
 
@@ -92,4 +90,4 @@ pub in-range-spec : {M : Type 1} → statement M
 in-range-spec =
     tie.close
     (tie.spec enum-known-x enum-known-x-2 enum-known-x-3 enum-known-x-4 enum-known-x-5 enum-known-x-6 enum-known-x-7 enum-known-x-8 enum-known-x-9
-    enum-known-x-10 both-below-requires returns returns-2 returns-3 returns-4)
+    enum-known-x-10 asks-nothing returns returns-2 returns-3 returns-4)

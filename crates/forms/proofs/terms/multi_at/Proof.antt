@@ -7,6 +7,7 @@ use lib.ListN.{length, length-map, List·getD-map, List·getD-eq-default}
 use Rattle.meaning.specs.Descriptions.{delta}
 use Rattle.meaning.specs.Legal.{isMultiAction}
 use Rattle.forms.specs.Terms.{bareSlot}
+use Rattle.forms.proofs.Rests.{asks-nothing}
 use Rattle.forms.proofs.Slotted.{blankSlot}
 use mathlib.Core.Path.{_≡_, sym, ap, _∙_}
 use Rattle.forms.proofs.terms.multi_at.Statement.{statement}
@@ -24,11 +25,8 @@ mul-slot c = search needs
 array-copy-out-slot : tie.Need-array-copy-out-slot
 array-copy-out-slot c = search needs
 
-is-multi-requires : tie.Need-is-multi-requires
-is-multi-requires c κs = tt
-
 returns-2 : tie.Need-returns-2
 returns-2 c = c .is-multi .ensures ∙ sym (ap isMultiAction (List·getD-map bareSlot (c .before .before .before .args .t1) (c .before .before .before .args .t) blankSlot))
 
 pub multi-at-spec : {M : Type 1} → statement M
-multi-at-spec = tie.close (tie.spec returns mul-slot array-copy-out-slot is-multi-requires returns-2)
+multi-at-spec = tie.close (tie.spec returns mul-slot array-copy-out-slot asks-nothing returns-2)

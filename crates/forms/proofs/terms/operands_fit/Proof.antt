@@ -3,6 +3,7 @@
 use mathlib.Core.Path.{sym, _∙_}
 use mathlib.Core.List.{map}
 use Rattle.forms.specs.Terms.{bareSlot}
+use Rattle.forms.proofs.Rests.{asks-nothing}
 use Rattle.forms.proofs.Slotted.{fit-other}
 use Rattle.forms.proofs.terms.operands_fit.Statement.{statement}
 use Rattle.forms.proofs.terms.operands_fit.Tie as tie
@@ -13,12 +14,6 @@ enum-known-x c = c .match .keys1
 returns : tie.Need-returns
 returns c = fit-other (c .before .args .x) (map bareSlot (c .before .args .slots)) (c .match .keys2)
 
-multi-at-requires : tie.Need-multi-at-requires
-multi-at-requires c κs = tt
-
-multi-at-requires-2 : tie.Need-multi-at-requires-2
-multi-at-requires-2 c κs = tt
-
 returns-2 : tie.Need-returns-2
 returns-2 c = rw (c .before .before .before .before .x .given .1, sym (c .before .before .multi-at .ensures) ∙ c .before .if1 .taken) (c .multi-at2 .ensures)
 
@@ -26,4 +21,4 @@ returns-3 : tie.Need-returns-3
 returns-3 c = rw (c .before .before .before .x .given .1, sym (c .before .multi-at .ensures) ∙ c .if1 .left) (c .if1 .left)
 
 pub operands-fit-spec : {M : Type 1} → statement M
-operands-fit-spec = tie.close (tie.spec enum-known-x returns multi-at-requires multi-at-requires-2 returns-2 returns-3)
+operands-fit-spec = tie.close (tie.spec enum-known-x returns asks-nothing asks-nothing returns-2 returns-3)

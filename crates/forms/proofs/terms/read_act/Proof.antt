@@ -6,13 +6,10 @@ use mathlib.Core.List.{map}
 use native.Mathlib.Omega.{arith}
 use Rattle.table.specs.Decoded.{nameOf}
 use Rattle.forms.specs.Forms.{space}
-use Rattle.forms.proofs.Rests.{sign-within}
+use Rattle.forms.proofs.Rests.{asks-nothing, sign-within}
 use Rattle.forms.proofs.Operands.{act-no-space, act-no-name, act-no-end, act-line}
 use Rattle.forms.proofs.terms.read_act.Statement.{statement}
 use Rattle.forms.proofs.terms.read_act.Tie as tie
-
-sign-at-requires : tie.Need-sign-at-requires
-sign-at-requires c κs = tt
 
 returns : tie.Need-returns
 returns c store = let a = c .before .before .before .before .args in act-no-space (map (nameOf 8) (a .names .now)) (a .line .now) (a .at) (sym (c .before .sign-at .ensures) ∙ not-true _ (c .if1 .taken))
@@ -41,4 +38,4 @@ returns-4 c store = let a = c .before .before .before .before .before .before .b
 pub read-act-spec : {M : Type 1} → statement M
 read-act-spec =
     tie.close
-    (tie.spec sign-at-requires returns add-read-name read-name-requires enum-known-name enum-known-name-2 returns-2 returns-3 returns-4)
+    (tie.spec asks-nothing returns add-read-name read-name-requires enum-known-name enum-known-name-2 returns-2 returns-3 returns-4)

@@ -4,6 +4,7 @@ use mathlib.Core.Path.{ap, _∙_}
 use lib.ListN.{drop}
 use Rattle.forms.specs.Text.{onward}
 use Rattle.forms.specs.Terms.{madeOf}
+use Rattle.forms.proofs.Rests.{asks-nothing}
 use Rattle.forms.proofs.Steps.{went, stays}
 use Rattle.forms.proofs.Operands.{alone-with, one-seen, plain-become}
 use Rattle.forms.proofs.terms.read_last.Statement.{statement}
@@ -23,9 +24,6 @@ returns-2 c =
     ap (λ d. onward d (λ t q. alone-with (madeOf (c .before .before .before .before .before .args .k) (c .before .before .before .before .before .args .t) t) q)) (stays (c .before .before .before .number-after .ensures) (c .before .last2 .given .1) .says)
     ∙ one-seen (madeOf (c .before .before .before .before .before .args .k) (c .before .before .before .before .before .args .t)) (drop (c .before .before .before .before .before .args .at) (c .before .before .before .before .before .args .line .now))
 
-made-of-requires : tie.Need-made-of-requires
-made-of-requires c κs = tt
-
 finish-requires : tie.Need-finish-requires
 finish-requires c κs = (went (c .before .before .before .before .number-after .ensures) (c .before .before .last .given .1) .within, c .made-of .ensures .1)
 
@@ -38,4 +36,4 @@ returns c =
     (c .finish .ensures)
 
 pub read-last-spec : {M : Type 1} → statement M
-read-last-spec = tie.close (tie.spec number-after-requires enum-known-last made-of-requires finish-requires enum-known-last-2 returns returns-2)
+read-last-spec = tie.close (tie.spec number-after-requires enum-known-last asks-nothing finish-requires enum-known-last-2 returns returns-2)

@@ -10,6 +10,7 @@ use Rattle.table.specs.Decoded.{nameOf}
 use Rattle.forms.specs.Text.{onward}
 use Rattle.forms.specs.Forms.{kinds, ofKind, termLine}
 use Rattle.forms.specs.Kinds.{fartherStep, KindFound}
+use Rattle.forms.proofs.Rests.{asks-nothing}
 use Rattle.forms.proofs.Steps.{went, stays}
 use Rattle.forms.proofs.Operands.{line-become}
 use Rattle.forms.proofs.Farthest.{key-passed, line-farther}
@@ -66,9 +67,6 @@ read-kind-requires c κs =
     let p = c .before .before .before .before .before .before .before .before .before .before .before .before .before .pre in
     (f .within, p .0, p .1, p .2, f .known)
 
-farthest-requires : tie.Need-farthest-requires
-farthest-requires c κs = tt
-
 same-length : tie.Need-same-length
 same-length c = search needs
 
@@ -86,4 +84,4 @@ pub read-line-spec : {M : Type 1} → statement M
 read-line-spec =
     tie.close
     (tie.spec slice-aggregate-read-literal read-literal-requires enum-known-key enum-known-key-2 find-kind-requires enum-known-kind
-    enum-known-kind-2 read-kind-requires farthest-requires returns returns-2 same-length returns-3)
+    enum-known-kind-2 read-kind-requires asks-nothing returns returns-2 same-length returns-3)

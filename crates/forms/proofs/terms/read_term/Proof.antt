@@ -5,6 +5,7 @@ use mathlib.Core.Path.{_≡_}
 use mathlib.Core.List.{map}
 use lib.ListN.{length}
 use Rattle.table.specs.Decoded.{nameOf}
+use Rattle.forms.proofs.Rests.{asks-nothing}
 use Rattle.forms.proofs.Slotted.{term-stays, term-taken}
 use native.Mathlib.Omega.{arith}
 use Rattle.forms.proofs.terms.read_term.Statement.{statement}
@@ -38,9 +39,6 @@ returns-4 c terms e i h j k =
     term-stays (map (nameOf 8) (a .names .now)) (a .equations) terms (a .slots) (omega arith) e (a .n) i (a .line .now) (a .store .now) (c .before .before .before .before .read-line .last .1 .1 .1 .0) l
     (c .before .before .before .before .read-line .result) (c .enum-told .given .1) (c .before .before .before .before .read-line .ensures)
 
-joined-fault-requires : tie.Need-joined-fault-requires
-joined-fault-requires c κs = tt
-
 same-length-2 : tie.Need-same-length-2
 same-length-2 c = search needs
 
@@ -54,5 +52,4 @@ returns-5 c terms e i h j k =
 pub read-term-spec : {M : Type 1} → statement M
 read-term-spec =
     tie.close
-    (tie.spec returns returns-2 returns-3 read-line-requires enum-known-said enum-told same-length returns-4 joined-fault-requires same-length-2
-    returns-5)
+    (tie.spec returns returns-2 returns-3 read-line-requires enum-known-said enum-told same-length returns-4 asks-nothing same-length-2 returns-5)

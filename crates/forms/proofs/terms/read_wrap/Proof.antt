@@ -8,7 +8,7 @@ use borrow.Author.Tests.{not-true, not-false}
 use Rattle.table.specs.Decoded.{nameOf}
 use Rattle.forms.specs.Forms.{space}
 use Rattle.forms.specs.Kinds.{wrapOf}
-use Rattle.forms.proofs.Rests.{sign-within}
+use Rattle.forms.proofs.Rests.{asks-nothing, sign-within}
 use Rattle.forms.proofs.Wraps.{no-operand, no-space, no-list, no-end, wrap-line}
 use Rattle.forms.proofs.terms.read_wrap.Statement.{statement}
 use Rattle.forms.proofs.terms.read_wrap.Tie as tie
@@ -25,14 +25,8 @@ enum-known-operand-2 c = c .match .keys2
 returns-3 : tie.Need-returns-3
 returns-3 c = let a = c .before .before .before .before .before .before .before .args in no-operand (wrapOf (a .k)) (map (nameOf 8) (a .names .now)) (a .line .now) (a .at) (c .before .before .before .number-after .ensures) (c .before .operand .given .1)
 
-sign-at-requires : tie.Need-sign-at-requires
-sign-at-requires c κs = tt
-
 returns : tie.Need-returns
 returns c = let a = c .before .before .before .before .before .before .before .before .before .args in no-space (wrapOf (a .k)) (map (nameOf 8) (a .names .now)) (a .line .now) (a .at) (c .before .before .before .before .before .number-after .ensures) (c .before .before .before .operand2 .given .1) (sym (c .before .sign-at .ensures) ∙ not-true _ (c .if1 .taken))
-
-list-kind-requires : tie.Need-list-kind-requires
-list-kind-requires c κs = tt
 
 add-read-whole : tie.Need-add-read-whole
 add-read-whole c = let w = sign-within space (c .before .before .before .before .before .before .before .before .before .before .args .line .now) (c .before .before .before .before .operand2 .given .0 .1 .0) (sym (c .before .before .sign-at .ensures) ∙ not-false _ (c .before .if1 .left)) in omega arith
@@ -61,9 +55,6 @@ returns-2 c = let a = c .before .before .before .before .before .before .before 
 mul-first : tie.Need-mul-first
 mul-first c = omega (arith, c .before .before .before .before .before .before .before .before .before .before .before .before .before .before .before .before .before .before .pre .3)
 
-wrapped-requires : tie.Need-wrapped-requires
-wrapped-requires c κs = tt
-
 same-length-3 : tie.Need-same-length-3
 same-length-3 c = search needs
 
@@ -73,6 +64,5 @@ returns-5 c = let a = c .before .before .before .before .before .before .before 
 pub read-wrap-spec : {M : Type 1} → statement M
 read-wrap-spec =
     tie.close
-    (tie.spec number-after-requires enum-known-operand enum-known-operand-2 sign-at-requires returns list-kind-requires add-read-whole
-    read-whole-requires enum-known-list enum-known-list-2 same-length returns-2 mul-first wrapped-requires returns-3 same-length-2 returns-4
-    same-length-3 returns-5)
+    (tie.spec number-after-requires enum-known-operand enum-known-operand-2 asks-nothing returns asks-nothing add-read-whole read-whole-requires
+    enum-known-list enum-known-list-2 same-length returns-2 mul-first asks-nothing returns-3 same-length-2 returns-4 same-length-3 returns-5)

@@ -4,6 +4,7 @@ use borrow.Author.Needs.{needs}
 use native.Mathlib.Omega.{arith}
 use Rattle.forms.specs.Tallies.{faultOf}
 use Rattle.forms.proofs.Steps.{went, says-stuck}
+use Rattle.forms.proofs.Rests.{asks-nothing}
 use Rattle.reading.proofs.Walking.{refuses, line-lacks, line-there, line-taken, next-spot}
 use Rattle.reading.proofs.Taking.{number-stuck, number-low, number-high, number-between}
 use Rattle.reading.proofs.lines.take_number.Statement.{statement}
@@ -23,9 +24,6 @@ part-read-count-start c = search needs
 
 part-read-count-end : tie.Need-part-read-count-end
 part-read-count-end c = search needs
-
-read-count-requires : tie.Need-read-count-requires
-read-count-requires c κs = tt
 
 enum-known-step : tie.Need-enum-known-step
 enum-known-step c = c .match .keys1
@@ -74,5 +72,5 @@ returns-5 c =
 pub take-number-spec : {M : Type 1} → statement M
 take-number-spec =
     tie.close
-    (tie.spec line-end-requires returns sub-read-count part-read-count-start part-read-count-end read-count-requires enum-known-step enum-told
-    returns-2 returns-3 returns-4 add-next add-after returns-5)
+    (tie.spec line-end-requires returns sub-read-count part-read-count-start part-read-count-end asks-nothing enum-known-step enum-told returns-2
+    returns-3 returns-4 add-next add-after returns-5)

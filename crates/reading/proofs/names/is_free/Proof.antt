@@ -7,12 +7,10 @@ use native.Mathlib.Omega.{arith}
 use lib.Dec.{leb}
 use lib.ListN.{length-map}
 use Rattle.table.specs.Decoded.{nameOf}
+use Rattle.forms.proofs.Rests.{asks-nothing}
 use Rattle.reading.proofs.Freedom.{held-before, free-if}
 use Rattle.reading.proofs.names.is_free.Statement.{statement}
 use Rattle.reading.proofs.names.is_free.Tie as tie
-
-find-name-requires : tie.Need-find-name-requires
-find-name-requires c κs = tt
 
 returns : tie.Need-returns
 returns c =
@@ -21,9 +19,6 @@ returns c =
 slice-aggregate-find-name : tie.Need-slice-aggregate-find-name
 slice-aggregate-find-name c = search needs
 
-find-name-requires-2 : tie.Need-find-name-requires-2
-find-name-requires-2 c κs = tt
-
 returns-2 : tie.Need-returns-2
 unfolding nameOf
 returns-2 c =
@@ -31,4 +26,4 @@ returns-2 c =
     ∙ free-if (map (nameOf 8) (c .before .before .before .before .before .args .names .now)) (nameOf 8 (c .before .before .before .before .before .args .w)) (omega (arith, c .before .before .before .find-name .ensures, c .before .before .if1 .left, length-map (c .before .before .before .before .before .args .names .now) (nameOf 8)))
 
 pub is-free-spec : {M : Type 1} → statement M
-is-free-spec = tie.close (tie.spec find-name-requires returns slice-aggregate-find-name find-name-requires-2 returns-2)
+is-free-spec = tie.close (tie.spec asks-nothing returns slice-aggregate-find-name asks-nothing returns-2)

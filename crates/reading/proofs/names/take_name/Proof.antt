@@ -7,6 +7,7 @@ use native.Mathlib.Omega.{arith}
 use borrow.Author.Tests.{not-true, not-false}
 use Rattle.table.specs.Decoded.{nameOf}
 use Rattle.forms.proofs.Steps.{went, says-stuck}
+use Rattle.forms.proofs.Rests.{asks-nothing}
 use Rattle.reading.proofs.Walking.{line-lacks, line-there, line-taken, next-spot}
 use Rattle.reading.proofs.Taking.{name-stuck, name-held, name-free}
 use Rattle.reading.proofs.names.take_name.Statement.{statement}
@@ -27,9 +28,6 @@ part-read-name-line-start c = search needs
 part-read-name-line-end : tie.Need-part-read-name-line-end
 part-read-name-line-end c = search needs
 
-read-name-line-requires : tie.Need-read-name-line-requires
-read-name-line-requires c κs = tt
-
 enum-known-step : tie.Need-enum-known-step
 enum-known-step c = c .match .keys1
 
@@ -44,9 +42,6 @@ returns-2 c =
           (name-stuck (map (nameOf 8) (c .before .before .before .before .before .before .before .before .args .names .now)) _ (says-stuck (c .before .before .read-name-line .ensures) (c .enum-told .given .1)));
       spot = tt;
     }
-
-is-free-requires : tie.Need-is-free-requires
-is-free-requires c κs = tt
 
 returns-3 : tie.Need-returns-3
 returns-3 c =
@@ -76,5 +71,5 @@ returns-4 c =
 pub take-name-spec : {M : Type 1} → statement M
 take-name-spec =
     tie.close
-    (tie.spec line-end-requires returns sub-read-name-line part-read-name-line-start part-read-name-line-end read-name-line-requires enum-known-step
-    enum-told returns-2 is-free-requires returns-3 add-next add-after returns-4)
+    (tie.spec line-end-requires returns sub-read-name-line part-read-name-line-start part-read-name-line-end asks-nothing enum-known-step enum-told
+    returns-2 asks-nothing returns-3 add-next add-after returns-4)

@@ -9,6 +9,7 @@ use lib.ListN.{drop, take}
 use Rattle.table.specs.Decoded.{nameOf}
 use Rattle.forms.specs.Faults.{orderSaid}
 use Rattle.forms.specs.Orders.{OrderRead}
+use Rattle.forms.proofs.Rests.{asks-nothing}
 use Rattle.reading.proofs.Walking.{line-lacks, line-there, line-taken, next-spot}
 use Rattle.reading.proofs.Termed.{part-short, found-fine, order-stuck, order-fine, order-faulty}
 use Rattle.reading.proofs.orders.take_order.Statement.{statement}
@@ -28,9 +29,6 @@ part-read-order-start c = search needs
 
 part-read-order-end : tie.Need-part-read-order-end
 part-read-order-end c = search needs
-
-read-order-requires : tie.Need-read-order-requires
-read-order-requires c κs = tt
 
 -- what the reader says of the line
 line-read : (c : tie.After-read-order)
@@ -93,5 +91,5 @@ returns-4 c =
 pub take-order-spec : {M : Type 1} → statement M
 take-order-spec =
     tie.close
-    (tie.spec line-end-requires returns sub-read-order part-read-order-start part-read-order-end read-order-requires enum-known-step enum-told
-    same-length returns-2 add-next add-after enum-told-2 enum-known-found same-length-2 returns-3 same-length-3 returns-4)
+    (tie.spec line-end-requires returns sub-read-order part-read-order-start part-read-order-end asks-nothing enum-known-step enum-told same-length
+    returns-2 add-next add-after enum-told-2 enum-known-found same-length-2 returns-3 same-length-3 returns-4)

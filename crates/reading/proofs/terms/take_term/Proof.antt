@@ -11,6 +11,7 @@ use Rattle.table.specs.Decoded.{nameOf}
 use Rattle.forms.specs.Faults.{termSaid}
 use Rattle.reading.specs.Walks.{TermsBefore}
 use Rattle.forms.specs.Terms.{TermRead}
+use Rattle.forms.proofs.Rests.{asks-nothing}
 use Rattle.reading.proofs.Walking.{line-lacks, line-there, line-taken, next-spot}
 use Rattle.reading.proofs.Termed.{part-short, found-fine, term-stuck, term-fine, term-faulty}
 use Rattle.reading.proofs.terms.take_term.Statement.{statement}
@@ -30,9 +31,6 @@ part-read-term-start c = search needs
 
 part-read-term-end : tie.Need-part-read-term-end
 part-read-term-end c = search needs
-
-read-term-requires : tie.Need-read-term-requires
-read-term-requires c κs = tt
 
 -- what the reader says of the line
 line-read : (c : tie.After-read-term) (terms : List D.Term) → TermsBefore terms (c .before .before .before .before .before .before .before .before .args .slots) (c .before .before .before .before .before .before .before .before .args .n)
@@ -95,5 +93,5 @@ returns-4 c = λ terms b.
 pub take-term-spec : {M : Type 1} → statement M
 take-term-spec =
     tie.close
-    (tie.spec line-end-requires returns sub-read-term part-read-term-start part-read-term-end read-term-requires enum-known-step enum-told
-    same-length returns-2 add-next add-after enum-told-2 enum-known-found same-length-2 returns-3 same-length-3 returns-4)
+    (tie.spec line-end-requires returns sub-read-term part-read-term-start part-read-term-end asks-nothing enum-known-step enum-told same-length
+    returns-2 add-next add-after enum-told-2 enum-known-found same-length-2 returns-3 same-length-3 returns-4)

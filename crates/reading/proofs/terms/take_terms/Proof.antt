@@ -11,6 +11,7 @@ use Rattle.table.specs.Encoded.{filled, slotsFrom, termsWords}
 use Rattle.table.proofs.Filled.{filled-length}
 use Rattle.reading.specs.Reading.{takeTerm, oneLine, lines}
 use Rattle.reading.specs.Walks.{TermTo, Termed}
+use Rattle.forms.proofs.Rests.{asks-nothing}
 use Rattle.reading.proofs.Walking.{Onto, lines-begin, lines-more, lines-halt, lines-done}
 use Rattle.reading.proofs.Termed.{store-more, slot-more, one-more}
 use Rattle.reading.proofs.terms.take_terms.Statement.{statement}
@@ -60,9 +61,6 @@ enum-known-step c = c .match .keys1
 
 enum-told : tie.Need-enum-told Inv-loop μ-loop
 enum-told c = c .match .keys2
-
-fault-of-requires : tie.Need-fault-of-requires Inv-loop μ-loop
-fault-of-requires c κs = tt
 
 same-length : tie.Need-same-length Inv-loop μ-loop
 same-length c = c .before .before .before .before .store .given .1 ∙ long (c .before .before .before .before .before .before .before .before) ∙ sym (long-first (c .before .before .before .before .before .before .before .before .before .before .before .before))
@@ -126,4 +124,4 @@ pub take-terms-spec : {M : Type 1} → statement M
 take-terms-spec =
     tie.close
     (tie.spec Inv-loop μ-loop loop-holds mul-first add-last mul-part sub-part part-part-start part-part-end take-term-requires enum-known-step
-    enum-told fault-of-requires same-length returns mul-slots array-set-from-slots add-n loop-less loop-again same-length-2 returns-2)
+    enum-told asks-nothing same-length returns mul-slots array-set-from-slots add-n loop-less loop-again same-length-2 returns-2)

@@ -1,6 +1,7 @@
 -- `reading::whole::bad` meets its contract.
 -- Assumes nothing.
 use borrow.Author.Needs.{needs}
+use Rattle.forms.proofs.Rests.{asks-nothing}
 use Rattle.reading.proofs.Wholes.{fault-back}
 use Rattle.reading.proofs.whole.bad.Statement.{statement}
 use Rattle.reading.proofs.whole.bad.Tie as tie
@@ -8,14 +9,8 @@ use Rattle.reading.proofs.whole.bad.Tie as tie
 enum-told : tie.Need-enum-told
 enum-told c = search needs
 
-refused-requires : tie.Need-refused-requires
-refused-requires c κs = tt
-
 enum-known-p : tie.Need-enum-known-p
 enum-known-p c = search needs
-
-refused-requires-2 : tie.Need-refused-requires-2
-refused-requires-2 c κs = tt
 
 returns : tie.Need-returns
 returns c = rw (c .before .enum-told .given .1) (c .refused .ensures)
@@ -24,4 +19,4 @@ returns-2 : tie.Need-returns-2
 returns-2 c = rw (c .before .before .p .given .1, fault-back (c .before .before .p .given .0 .0)) (c .refused2 .ensures)
 
 pub bad-spec : {M : Type 1} → statement M
-bad-spec = tie.close (tie.spec enum-told refused-requires enum-known-p refused-requires-2 returns returns-2)
+bad-spec = tie.close (tie.spec enum-told asks-nothing enum-known-p asks-nothing returns returns-2)

@@ -12,6 +12,7 @@ use Rattle.meaning.specs.Answers.{form}
 use Rattle.table.proofs.Filled.{filled-replicate}
 use Rattle.reading.specs.Reading.{nameCount, equationCount, termCount, takeNumber, takeName, reached, oneLine, lines, wholeText}
 use Rattle.reading.specs.Walks.{between, NamesTo}
+use Rattle.forms.proofs.Rests.{asks-nothing}
 use Rattle.reading.proofs.Walking.{gone-to, gone-spot, gone-bad, gone-below}
 use Rattle.reading.proofs.Wholes.{other-test, names-test, equations-test, terms-test, ends-bad, ends-on, names-front, names-padded}
 use Rattle.reading.proofs.whole.read_lines.Statement.{statement}
@@ -28,9 +29,6 @@ enum-known-first c = c .match .keys1
 
 enum-told : tie.Need-enum-told
 enum-told c = c .match .keys2
-
-bad-requires : tie.Need-bad-requires
-bad-requires c κs = tt
 
 returns : tie.Need-returns
 unfolding wholeText
@@ -82,9 +80,6 @@ enum-known-words c = c .match2 .keys1
 enum-told-2 : tie.Need-enum-told-2
 enum-told-2 c = c .match2 .keys2
 
-bad-requires-2 : tie.Need-bad-requires-2
-bad-requires-2 c κs = tt
-
 returns-2 : tie.Need-returns-2
 unfolding wholeText
 returns-2 c =
@@ -102,9 +97,6 @@ enum-known-second c = c .match3 .keys1
 
 enum-told-3 : tie.Need-enum-told-3
 enum-told-3 c = c .match3 .keys2
-
-bad-requires-3 : tie.Need-bad-requires-3
-bad-requires-3 c κs = tt
 
 returns-3 : tie.Need-returns-3
 unfolding wholeText
@@ -126,9 +118,6 @@ enum-known-third c = c .match4 .keys1
 
 enum-told-4 : tie.Need-enum-told-4
 enum-told-4 c = c .match4 .keys2
-
-bad-requires-4 : tie.Need-bad-requires-4
-bad-requires-4 c κs = tt
 
 returns-4 : tie.Need-returns-4
 unfolding wholeText
@@ -167,7 +156,7 @@ returns-5 c =
 pub read-lines-spec : {M : Type 1} → statement M
 read-lines-spec =
     tie.close
-    (tie.spec slice-aggregate-take-number take-number-requires enum-known-first enum-told bad-requires returns array-borrow-prefix-names
-    slice-aggregate-take-names take-names-requires enum-known-words enum-told-2 bad-requires-2 returns-2 slice-aggregate-take-number-2
-    take-number-requires-2 enum-known-second enum-told-3 bad-requires-3 returns-3 slice-aggregate-take-number-3 take-number-requires-3
-    enum-known-third enum-told-4 bad-requires-4 returns-4 read-terms-requires same-length returns-5)
+    (tie.spec slice-aggregate-take-number take-number-requires enum-known-first enum-told asks-nothing returns array-borrow-prefix-names
+    slice-aggregate-take-names take-names-requires enum-known-words enum-told-2 asks-nothing returns-2 slice-aggregate-take-number-2
+    take-number-requires-2 enum-known-second enum-told-3 asks-nothing returns-3 slice-aggregate-take-number-3 take-number-requires-3
+    enum-known-third enum-told-4 asks-nothing returns-4 read-terms-requires same-length returns-5)

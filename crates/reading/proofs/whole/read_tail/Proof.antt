@@ -13,6 +13,7 @@ use Rattle.meaning.specs.Answers.{range}
 use Rattle.reading.specs.Reading.{takeNumber, takeOrder, reached, oneLine}
 use Rattle.reading.specs.Walks.{between, OrderTo, orderProgress}
 use Rattle.reading.specs.Stored.{Held}
+use Rattle.forms.proofs.Rests.{asks-nothing}
 use Rattle.reading.proofs.Walking.{gone-to, gone-spot, gone-bad}
 use Rattle.reading.proofs.Wholes.{other-test, below-test, ends-bad, ends-on, ends-short, ends-whole, whole-with, order-stored, with-root}
 use Rattle.reading.proofs.whole.read_tail.Statement.{statement}
@@ -29,9 +30,6 @@ enum-known-given c = c .match .keys1
 
 enum-told : tie.Need-enum-told
 enum-told c = c .match .keys2
-
-bad-requires : tie.Need-bad-requires
-bad-requires c κs = tt
 
 returns : tie.Need-returns
 returns c = λ d h.
@@ -80,12 +78,6 @@ order-read c d h =
 enum-told-2 : tie.Need-enum-told-2
 enum-told-2 c = c .match2 .keys2
 
-fault-of-requires : tie.Need-fault-of-requires
-fault-of-requires c κs = tt
-
-bad-requires-2 : tie.Need-bad-requires-2
-bad-requires-2 c κs = tt
-
 same-length : tie.Need-same-length
 same-length c = c .before .before .before .before .before .store .given .1
 
@@ -95,9 +87,6 @@ returns-2 c = λ d h.
     let k = rw (c .before .before .enum-told2 .given .1) at t in
     ends-on _ (root-read (c .before .before .before .before .before .before .before .before .before .before .before))
     (ends-bad _ (c .before .fault-of .ensures ∙ ap orderProgress (c .before .before .enum-told2 .given .1)) (rw (h .named) at k) (c .bad2 .ensures))
-
-refused-requires : tie.Need-refused-requires
-refused-requires c κs = tt
 
 same-length-2 : tie.Need-same-length-2
 same-length-2 c = c .before .before .before .before .before .before .store .given .1
@@ -122,6 +111,6 @@ returns-4 c = λ d h.
 pub read-tail-spec : {M : Type 1} → statement M
 read-tail-spec =
     tie.close
-    (tie.spec slice-aggregate-take-number take-number-requires enum-known-given enum-told bad-requires returns array-share-prefix-names
-    slice-aggregate-take-order sub-take-order part-take-order-start part-take-order-end take-order-requires enum-known-last enum-told-2
-    fault-of-requires bad-requires-2 same-length returns-2 refused-requires same-length-2 returns-3 same-length-3 returns-4)
+    (tie.spec slice-aggregate-take-number take-number-requires enum-known-given enum-told asks-nothing returns array-share-prefix-names
+    slice-aggregate-take-order sub-take-order part-take-order-start part-take-order-end take-order-requires enum-known-last enum-told-2 asks-nothing
+    asks-nothing same-length returns-2 asks-nothing same-length-2 returns-3 same-length-3 returns-4)

@@ -13,6 +13,7 @@ use Rattle.table.proofs.Filled.{filled-length, filled-replicate}
 use Rattle.reading.specs.Reading.{takeTerm, takeBody, lines}
 use Rattle.reading.specs.Walks.{Walks, TermsTo}
 use Rattle.reading.specs.Stored.{Held}
+use Rattle.forms.proofs.Rests.{asks-nothing}
 use Rattle.reading.proofs.Walking.{gone-to, gone-spot, gone-bad}
 use Rattle.reading.proofs.Wholes.{front-free, rest-free, ends-bad, ends-on, held-length, names-length, table-read}
 use Rattle.reading.proofs.whole.read_terms.Statement.{statement}
@@ -41,9 +42,6 @@ enum-known-progress c = c .match .keys1
 
 enum-told : tie.Need-enum-told
 enum-told c = c .match .keys2
-
-bad-requires : tie.Need-bad-requires
-bad-requires c κs = tt
 
 same-length : tie.Need-same-length
 same-length c = search needs
@@ -84,9 +82,6 @@ enum-known-given c = c .match2 .keys1
 enum-told-2 : tie.Need-enum-told-2
 enum-told-2 c = c .match2 .keys2
 
-bad-requires-2 : tie.Need-bad-requires-2
-bad-requires-2 c κs = tt
-
 same-length-2 : tie.Need-same-length-2
 same-length-2 c = search needs
 
@@ -123,5 +118,5 @@ pub read-terms-spec : {M : Type 1} → statement M
 read-terms-spec =
     tie.close
     (tie.spec slice-relend-prefix-part slice-aggregate-part array-share-prefix-names slice-aggregate-take-terms take-terms-requires
-    enum-known-progress enum-told bad-requires same-length returns array-borrow-prefix-bodies slice-aggregate-take-bodies take-bodies-requires
-    enum-known-given enum-told-2 bad-requires-2 same-length-2 returns-2 read-tail-requires same-length-3 returns-3)
+    enum-known-progress enum-told asks-nothing same-length returns array-borrow-prefix-bodies slice-aggregate-take-bodies take-bodies-requires
+    enum-known-given enum-told-2 asks-nothing same-length-2 returns-2 read-tail-requires same-length-3 returns-3)

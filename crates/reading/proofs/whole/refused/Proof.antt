@@ -3,14 +3,12 @@
 use mathlib.Core.Path.{ap}
 use Rattle.table.specs.declared.Order.the-variants.{All}
 use Rattle.reading.specs.declared.Read.{Read}
+use Rattle.forms.proofs.Rests.{asks-nothing}
 use Rattle.reading.proofs.whole.refused.Statement.{statement}
 use Rattle.reading.proofs.whole.refused.Tie as tie
-
-empty-requires : tie.Need-empty-requires
-empty-requires c κs = tt
 
 returns : tie.Need-returns
 returns c = ap {B = Read} (λ t. record { answer = c .before .args .answer; table = t; order = All }) (c .empty .ensures)
 
 pub refused-spec : {M : Type 1} → statement M
-refused-spec = tie.close (tie.spec empty-requires returns)
+refused-spec = tie.close (tie.spec asks-nothing returns)
