@@ -106,7 +106,7 @@ one-more names rs a b r m t two ih (suc k) h =
     inr (in-spread (communicated k names rs) (applied names rs a) (replaced names r a) b (in-applied names rs a r m t)
     (ih k (let l = fewer-left names r a two t in omega arith)))
 
-communicated-self : (k names : ℕ) (rs : List Rule) (a : Label) → a ∈ communicated k names rs a
+pub communicated-self : (k names : ℕ) (rs : List Rule) (a : Label) → a ∈ communicated k names rs a
 unfolding communicated
 communicated-self zero names rs a = inl refl
 communicated-self (suc k) names rs a = inl refl

@@ -20,13 +20,14 @@ use Rattle.meaning.proofs.Digits.{number-injective}
 use Rattle.meaning.proofs.Sorted.{Within}
 use Rattle.meaning.proofs.Members.{Sum, in-append, in-spread, in-spread→, in-product, in-product→, in-ascending}
 use Rattle.meaning.proofs.Made.{sum-grows}
-use Rattle.meaning.proofs.Operators.{in-applied, in-applied→, fewer-left}
+use Rattle.meaning.proofs.Operators.{in-applied, in-applied→, fewer-left, communicated-self}
 use Rattle.meaning.proofs.Outcomes.{SameFor, made-same}
 use Rattle.meaning.proofs.Growth.{round-grows, round-length, at-body}
 use Rattle.labels.proofs.Meant.{packs-small}
 use Rattle.sets.specs.declared.Built.{Built}
 use Rattle.sets.specs.declared.Way.the-variants.{Copy}
 use Rattle.sets.specs.Building.{Building, next, Grown, multiplied}
+use Rattle.sets.proofs.Communication.{rule-legal}
 use Rattle.sets.proofs.Meant.{AllPack}
 use Rattle.shapes.specs.Fresh.{fresh}
 use Rattle.shapes.specs.Making.{throughBuilt, eitherBuilt, bothBuilt}
@@ -80,18 +81,9 @@ module _ (names : ℕ) where
           }
 
 -- All that the rules of comm make of what communication makes is among it.
-rule-legal : (names : ℕ) (rs : List Rule) → Each (LegalRule names) rs → (r : Rule) → r ∈ rs → LegalRule names r
-rule-legal names (q ∷ rs) h r (inl e) = rw e (h .0)
-rule-legal names (q ∷ rs) h r (inr m) = rule-legal names rs (h .1) r m
-
 module _ (names : ℕ) (rs : List Rule) (legal : Each (LegalRule names) rs) where
   fewer : (r : Rule) → r ∈ rs → (a : Label) → T (inside (r .left) a) → size (replaced names r a) < size a
   fewer r m a t = fewer-left names r a (rule-legal names rs legal r m .1) t
-
-  communicated-self : (k : ℕ) (a : Label) → a ∈ communicated k names rs a
-  unfolding communicated
-  communicated-self zero a = inl refl
-  communicated-self (suc k) a = inl refl
 
   communicated-shut : (k : ℕ) (a b : Label) → size a ≤ k → b ∈ communicated k names rs a → (r : Rule) → r ∈ rs → T (inside (r .left) b)
       → replaced names r b ∈ communicated k names rs a
@@ -100,7 +92,7 @@ module _ (names : ℕ) (rs : List Rule) (legal : Each (LegalRule names) rs) wher
   communicated-shut zero a b h (inr m) r n t = absurd m
   communicated-shut (suc k) a b h (inl e) r n t =
       inr (in-spread (communicated k names rs) (applied names rs a) (replaced names r b) (replaced names r b)
-      (subst (λ (x : Label). replaced names r b ∈ applied names rs x) e (in-applied names rs b r n t)) (communicated-self k (replaced names r b)))
+      (subst (λ (x : Label). replaced names r b ∈ applied names rs x) e (in-applied names rs b r n t)) (communicated-self k names rs (replaced names r b)))
   communicated-shut (suc k) a b h (inr m) r n t =
       let x = in-spread→ (communicated k names rs) (applied names rs a) b m in
       let y = in-applied→ names rs a (x .source) (x .there) in

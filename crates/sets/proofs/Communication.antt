@@ -50,7 +50,7 @@ data Follows (names : ℕ) (rs : List Rule) : Label → Label → Type 0 where
   here : {a : Label} → Follows names rs a a
   then : {a b : Label} (r : Rule) → r ∈ rs → T (inside (r .left) a) → Follows names rs (replaced names r a) b → Follows names rs a b
 
-rule-legal : (names : ℕ) (rs : List Rule) → Each (LegalRule names) rs → (r : Rule) → r ∈ rs → LegalRule names r
+pub rule-legal : (names : ℕ) (rs : List Rule) → Each (LegalRule names) rs → (r : Rule) → r ∈ rs → LegalRule names r
 rule-legal names (q ∷ rs) h r (inl e) = rw e (h .0)
 rule-legal names (q ∷ rs) h r (inr m) = rule-legal names rs (h .1) r m
 
