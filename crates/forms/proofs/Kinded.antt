@@ -16,7 +16,8 @@ use Rattle.table.specs.Decoded.{nameOf}
 use Rattle.forms.specs.Text.{Past, past, stuck, literal}
 use Rattle.forms.specs.Forms.{Line, Kind, kinds, farther, ofKind, alone, ofName, ofOne, ofTwo, ofList}
 use Rattle.meaning.specs.Descriptions.{tau, delta}
-use Rattle.forms.specs.Terms.{either, madeOf, WrapKind, Allow, contents, listed}
+use Rattle.table.specs.Packed.{either}
+use Rattle.forms.specs.Terms.{madeOf, WrapKind, Allow, contents, listed}
 use Rattle.forms.specs.Kinds.{restOf, noKind, fartherFrom, wrapOf, KindFound, KindRead}
 use Rattle.forms.specs.declared.kinds.KindStep.{KindStep}
 use Rattle.forms.specs.declared.kinds.KindStep.the-variants as K

@@ -2,8 +2,9 @@
 -- Assumes nothing.
 use mathlib.Core.Path.{_≡_, refl, ap, subst, _∙_}
 use mathlib.Core.List.{List, [], _∷_}
-use mathlib.Core.Bool.{true, false}
+use mathlib.Core.Bool.{Bool, true, false}
 use Prim.Native.Nat.{ℕ, _+_, _≤_, _<_}
+use lib.Dec.{eqb}
 use lib.ListN.{length, drop, drop-of-length-le}
 use Rattle.meaning.specs.Bytes.{Text}
 use Rattle.meaning.specs.Descriptions as D
@@ -24,6 +25,7 @@ use Rattle.table.specs.declared.Term.{Term}
 use Rattle.table.specs.declared.Term.the-variants.{Delta, Tau, Act, Ref, Sum, Cond, Choice, IfElse, Seq, Merge, LMerge, Sync, Wrap}
 use Rattle.table.specs.Terms.{IsPlain, bareTerm}
 use Rattle.table.specs.Encoded.{termWords, termFor}
+use Rattle.table.specs.Packed.{either, plainOf}
 use Rattle.forms.proofs.Rests.{rest-cons, literal-other, literal-more}
 use Rattle.forms.proofs.Steps.{regrouped, said-went, said-stays, back-stuck, back-past}
 
@@ -34,6 +36,15 @@ ended-none line at h = rw (drop-of-length-le line h)
 pub ended-some : (line : Text) (at : ℕ) → at < length line → stuck (drop at line) ≡ ended (drop at line)
 unfolding ended
 ended-some line at h = rw (rest-cons line at h)
+
+-- the kinds without a list are plain
+either-both : {A : Type 0} (P : A → Type 0) (b : Bool) (x y : A) → P x → P y → P (either b x y)
+either-both P true x y p q = p
+either-both P false x y p q = q
+
+pub plain-kind : (k t u : ℕ) → IsPlain (plainOf k t u)
+plain-kind k t u =
+    either-both IsPlain (eqb k 1) _ _ tt (either-both IsPlain (eqb k 2) _ _ tt (either-both IsPlain (eqb k 3) _ _ tt (either-both IsPlain (eqb k 4) _ _ tt (either-both IsPlain (eqb k 5) _ _ tt (either-both IsPlain (eqb k 6) _ _ tt (either-both IsPlain (eqb k 7) _ _ tt (either-both IsPlain (eqb k 8) _ _ tt (either-both IsPlain (eqb k 9) _ _ tt (either-both IsPlain (eqb k 10) _ _ tt (either-both IsPlain (eqb k 11) _ _ tt tt))))))))))
 
 -- the number after a space, as one step
 abbrev pub operand : Text → Past ℕ

@@ -3,7 +3,8 @@
 use mathlib.Core.Path.{_≡_, refl, ap, ap₂, _∙_}
 use mathlib.Core.Bool.{Bool, true, false, _&&_}
 use mathlib.Core.List.{List, [], _∷_, map}
-use Prim.Native.Nat.{ℕ, zero, suc, _≤_}
+use Prim.Native.Nat.{ℕ, zero, suc, _%_, _≤_, _<_}
+use native.Mathlib.Omega.{arith}
 use native.Mathlib.Nat.{not-suc-le-zero, le-of-suc-le-suc}
 use lib.ListN.{length, getD}
 use types.Run.{OneOf, miss}
@@ -17,7 +18,9 @@ use Rattle.table.specs.Terms.{bareTerm}
 use Rattle.table.proofs.Term as TermType
 use Rattle.table.specs.declared.Term.{Term}
 use Rattle.table.specs.declared.Term.the-variants.{Delta, Tau, Act, Ref, Sum, Cond, Choice, IfElse, Seq, Merge, LMerge, Sync, Wrap}
-use Rattle.table.specs.declared.Slot.{Slot}
+use Rattle.table.specs.declared.Operator.the-variants.{Block, Hide, Rename, Comm, Allow}
+use Rattle.table.specs.Packed.{packed, termWord, kindTerm, wordTerm}
+use Rattle.table.proofs.Packed.{taken-out}
 use Rattle.forms.specs.Forms.{Line, termLine}
 use Rattle.forms.specs.Faults.{Found, fine, worse, unless, inRange, operandsFit, termSaid, wordsOfFault, termFault}
 use Rattle.forms.specs.Tallies.{foundOf}
@@ -43,24 +46,45 @@ kept f h n (D.lmerge t u) = refl
 kept f h n (D.sync t u) = refl
 kept f h n (D.wrap o t) = h _ o t
 
-abbrev pub blankSlot : Slot
-blankSlot = record { term = Delta }
+-- and so it has in its word, though a number may be cut there
+of-kind : (k t u entries : ℕ) → k < 32 → isMultiAction (bareSlot (packed k t u entries)) ≡ isMultiAction (bareTerm (kindTerm k (t % 65536) (u % 65536) (entries % 65536)))
+of-kind k t u entries h = ap (λ (x : Term). isMultiAction (bareTerm x)) (taken-out k t u entries h)
 
-multi-blank : (m t : ℕ) → isMultiAction (getD (map bareSlot (filled m blankSlot [])) t D.delta) ≡ false
-unfolding filled
+multi-word : (x : Term) → isMultiAction (bareSlot (termWord x)) ≡ isMultiAction (bareTerm x)
+unfolding wordTerm
+multi-word Delta = refl
+multi-word Tau = refl
+multi-word (Act a) = of-kind 2 0 a 0 (omega arith)
+multi-word (Ref e) = of-kind 3 0 e 0 (omega arith)
+multi-word (Sum u) = of-kind 4 0 u 0 (omega arith)
+multi-word (Cond u) = of-kind 5 0 u 0 (omega arith)
+multi-word (Choice t u) = of-kind 6 t u 0 (omega arith)
+multi-word (IfElse t u) = of-kind 7 t u 0 (omega arith)
+multi-word (Seq t u) = of-kind 8 t u 0 (omega arith)
+multi-word (Merge t u) = of-kind 9 t u 0 (omega arith)
+multi-word (LMerge t u) = of-kind 10 t u 0 (omega arith)
+multi-word (Sync t u) = of-kind 11 t u 0 (omega arith)
+multi-word (Wrap (Block p) u) = of-kind 12 (p .at) u (p .entries) (omega arith)
+multi-word (Wrap (Hide p) u) = of-kind 13 (p .at) u (p .entries) (omega arith)
+multi-word (Wrap (Rename p) u) = of-kind 14 (p .at) u (p .entries) (omega arith)
+multi-word (Wrap (Comm p) u) = of-kind 15 (p .at) u (p .entries) (omega arith)
+multi-word (Wrap (Allow p) u) = of-kind 16 (p .at) u (p .entries) (omega arith)
+
+multi-blank : (m t : ℕ) → isMultiAction (getD (map bareSlot (filled m 0 [])) t D.delta) ≡ false
+unfolding filled wordTerm
 multi-blank zero t = refl
 multi-blank (suc m) zero = refl
 multi-blank (suc m) (suc t) = multi-blank m t
 
 multi-slots : (m k : ℕ) (terms : List D.Term) (t : ℕ) → length terms ≤ m
-    → isMultiAction (getD (map bareSlot (filled m blankSlot (slotsFrom k terms))) t D.delta) ≡ isMultiAction (getD terms t D.delta)
+    → isMultiAction (getD (map bareSlot (filled m 0 (slotsFrom k terms))) t D.delta) ≡ isMultiAction (getD terms t D.delta)
 unfolding filled slotsFrom
 multi-slots m k [] t h = multi-blank m t
 multi-slots zero k (x ∷ terms) t h = absurd (not-suc-le-zero h)
-multi-slots (suc m) k (x ∷ terms) zero h = kept isMultiAction (λ o q t. refl) k x
+multi-slots (suc m) k (x ∷ terms) zero h = multi-word (termFor k x) ∙ kept isMultiAction (λ o q t. refl) k x
 multi-slots (suc m) k (x ∷ terms) (suc t) h = multi-slots m (suc k) terms t (le-of-suc-le-suc h)
 
-fit-slots : (terms : List D.Term) (x : D.Term) → length terms ≤ 96 → operandsFit (map bareSlot (filled 96 blankSlot (slotsFrom 0 terms))) x ≡ operandsFit terms x
+fit-slots : (terms : List D.Term) (x : D.Term) → length terms ≤ 96 → operandsFit (map bareSlot (filled 96 0 (slotsFrom 0 terms))) x ≡ operandsFit terms x
 fit-slots terms (D.act a) h = refl
 fit-slots terms D.tau h = refl
 fit-slots terms D.delta h = refl
@@ -92,8 +116,8 @@ fit-other (Sync t u) terms e = absurd (miss (0 ∷ 1 ∷ 2 ∷ 3 ∷ 4 ∷ 5 ∷
 fit-other (Wrap o t) terms e = refl
 
 -- All faults of a line.
-module _ (words : List Text) (equations : ℕ) (terms : List D.Term) (slots : List Slot) (few : length terms ≤ 96)
-    (filling : slots ≡ filled 96 blankSlot (slotsFrom 0 terms)) where
+module _ (words : List Text) (equations : ℕ) (terms : List D.Term) (slots : List ℕ) (few : length terms ≤ 96)
+    (filling : slots ≡ filled 96 0 (slotsFrom 0 terms)) where
   faults-joined : (n : ℕ) → n ≡ length terms → (line : Line) (x : Term) (a f : Found) → x ≡ termFor (length terms) (termSaid words line) → a ≡ wordsOfFault words line
       → f ≡ worse a (worse (unless (inRange equations n (bareTerm x)) range) (unless (operandsFit (map bareSlot slots) (bareTerm x)) operand))
       → f ≡ termFault words equations terms line

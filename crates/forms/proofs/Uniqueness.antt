@@ -12,7 +12,6 @@ use Rattle.meaning.proofs.Alike.{alike, alike-through}
 use Rattle.table.specs.declared.Term.{Term}
 use Rattle.table.specs.declared.Term.the-variants.{Delta}
 use Rattle.table.specs.declared.Order.{Order}
-use Rattle.table.specs.declared.Slot.{Slot}
 use Rattle.table.specs.Decoded.{nameOf}
 use Rattle.table.specs.Encoded.{wordOf, termWords, termFor, orderWords, orderFor, filled, slotsFrom}
 use Rattle.forms.specs.Text.{Past, past, stuck}
@@ -170,9 +169,9 @@ module _ (names : List ℕ) (line : Text) (before after₁ after₂ : List ℕ) 
   term-meets words equations terms after (T.To x f) p = record { line = p .line; says = p .says; made = p .term; found = p .faults; stored = p .stored }
   term-meets words equations terms after (T.Stuck n) p = p .0
 
-  pub term-unique : (equations : ℕ) (slots : List Slot) (n : ℕ) (r s : TermStep)
+  pub term-unique : (equations : ℕ) (slots : List ℕ) (n : ℕ) (r s : TermStep)
       → TermAnswer names equations slots n line before after₁ r → TermAnswer names equations slots n line before after₂ s
-      → (terms : List D.Term) → slots ≡ filled 96 (record { term = Delta }) (slotsFrom 0 terms) → n ≡ length terms → n < 96 → length names ≤ 12 → length line ≤ 8192
+      → (terms : List D.Term) → slots ≡ filled 96 0 (slotsFrom 0 terms) → n ≡ length terms → n < 96 → length names ≤ 12 → length line ≤ 8192
       → (termSeen line r ≡ termSeen line s) × ((x : Term) → termSeen line r ≡ took x Fine → after₁ ≡ after₂)
   term-unique equations slots n r s p q terms e m h few short =
       let ws = map (nameOf 8) names in

@@ -4,11 +4,15 @@ use mathlib.Core.Path.{_≡_, refl, sym, ap, _∙_}
 use mathlib.Core.Bool.{Bool, true, false}
 use mathlib.Core.List.{List, [], _∷_, map}
 use Prim.Native.Nat.{ℕ, suc, _+_, _*_, _≤_, _<_}
+use lib.Dec.{eqb}
 use lib.ListN.{length, drop, length-map}
 use Rattle.meaning.specs.Bytes.{Text, ascii}
+use Rattle.table.specs.declared.Place.{Place}
 use Rattle.table.specs.declared.Operator.{Operator}
+use Rattle.table.specs.declared.Operator.the-variants as O
 use Rattle.table.specs.declared.Term.the-variants.{Wrap}
 use Rattle.table.specs.Encoded.{operatorWords, operatorFor}
+use Rattle.table.specs.Packed.{either, operatorAt}
 use Rattle.forms.specs.Text.{Past, past, stuck, onward, sameText, ended, starts, literal, word}
 use Rattle.forms.specs.Forms.{Line, wraps, Parts, comma, space, pair, rule, label, labelList, ofList}
 use Rattle.forms.specs.Faults.{fine, wordsOfFault, worst, labelFault, ruleFault, rulesFault, labelsFault, listFault, operatorSaid, nameNumber, pairSaid, ruleSaid, labelSaid}
@@ -16,7 +20,8 @@ use Rattle.forms.specs.Tallies.{Said}
 use Rattle.forms.specs.Places.{Stands, Steps, saidOf}
 use Rattle.forms.specs.Entries.{nameEntry, pairEntry, ruleEntry, labelEntry}
 use Rattle.forms.specs.Lists.{listFaults, listEntry, listWords, listOf, unlessNone, wholeList, over, ListRead}
-use Rattle.forms.specs.Terms.{WrapKind, Block, Hide, Rename, Comm, Allow, listKind, ContentsOf, contents, listed, wrappedOf, LineTerm}
+use Rattle.forms.specs.Terms.{WrapKind, Block, Hide, Rename, Comm, Allow, listKind, ContentsOf, contents, listed, LineTerm}
+use Rattle.forms.specs.Kinds.{wrapOf}
 use Rattle.forms.specs.declared.labels.Said as C
 use Rattle.forms.specs.declared.labels.SaidStep.{SaidStep}
 use Rattle.forms.specs.declared.labels.SaidStep.the-variants as S
@@ -31,6 +36,25 @@ use Rattle.forms.proofs.Gathered.{all-too}
 use Rattle.forms.proofs.Parts.{worse-none}
 use Rattle.forms.proofs.Operands.{ended-none, ended-some, operand}
 use Rattle.forms.proofs.Contents.{names-faults, pairs-faults, rules-faults, labels-faults, names-words, pairs-words, rules-words, labels-words}
+
+-- the operator of a kind with its list's place
+abbrev wrappedOf : WrapKind → Place → Operator
+wrappedOf Block p = O.Block p
+wrappedOf Hide p = O.Hide p
+wrappedOf Rename p = O.Rename p
+wrappedOf Comm p = O.Comm p
+wrappedOf Allow p = O.Allow p
+
+either-through : {A B : Type 0} (f : A → B) (b : Bool) (x y : A) {z : B} → z ≡ f y → either b (f x) z ≡ f (either b x y)
+either-through f true x y e = refl
+either-through f false x y e = e
+
+pub operator-wrapped : (k : ℕ) (p : Place) → operatorAt k p ≡ wrappedOf (wrapOf k) p
+operator-wrapped k p =
+    either-through by (eqb k 12) Block _ (either-through by (eqb k 13) Hide _ (either-through by (eqb k 14) Rename _ (either-through by (eqb k 15) Comm Allow refl)))
+  where
+    by : WrapKind → Operator
+    by w = wrappedOf w p
 
 abbrev pub entries : (w : WrapKind) → List Text → ContentsOf w → List Said
 entries Block words ws = map (nameEntry words) ws

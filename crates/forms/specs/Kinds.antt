@@ -8,7 +8,8 @@ use lib.Dec.{eqb}
 use Rattle.meaning.specs.Bytes.{Text}
 use Rattle.forms.specs.Text.{Past, stuck}
 use Rattle.forms.specs.Forms.{Line, Kind, kinds, farther}
-use Rattle.forms.specs.Terms.{either, WrapKind, Block, Hide, Rename, Comm, Allow}
+use Rattle.table.specs.Packed.{either}
+use Rattle.forms.specs.Terms.{WrapKind, Block, Hide, Rename, Comm, Allow}
 use Rattle.forms.specs.declared.TermStep.{TermStep}
 use Rattle.forms.specs.declared.TermStep.the-variants as T
 use Rattle.forms.specs.declared.kinds.KindStep.{KindStep}

@@ -1,10 +1,8 @@
 -- Term lines as the code reads them.
 -- Assumes nothing.
 use mathlib.Core.Path.{_≡_}
-use mathlib.Core.Bool.{Bool, true, false}
 use mathlib.Core.List.{List, [], map}
 use Prim.Native.Nat.{ℕ, _≤_, _<_}
-use lib.Dec.{eqb}
 use lib.ListN.{drop, length}
 use Rattle.meaning.specs.Bytes.{Text}
 use Rattle.meaning.specs.Descriptions as D
@@ -13,9 +11,7 @@ use Rattle.table.specs.declared.Term.{Term}
 use Rattle.forms.specs.Text.{Past, past, stuck, separated}
 use Rattle.forms.specs.Forms as F
 use Rattle.forms.specs.Forms.{Line, plain, Listed, Parts, WordPair, WordRule, comma, wordList, pair, rule, labelList, termLine}
-use Rattle.table.specs.declared.Place.{Place}
-use Rattle.table.specs.declared.Operator.{Operator}
-use Rattle.table.specs.declared.Operator.the-variants as O
+use Rattle.table.specs.Packed.{plainOf, wordTerm}
 use Rattle.forms.specs.declared.lists.ListKind.{ListKind}
 use Rattle.forms.specs.declared.lists.ListKind.the-variants.{Names, Pairs, Rules, Labels}
 use Rattle.table.specs.Encoded.{termWords, termFor, filled, slotsFrom}
@@ -27,8 +23,6 @@ use Rattle.forms.specs.declared.TermStep.{TermStep}
 use Rattle.forms.specs.declared.TermStep.the-variants as T
 use Rattle.forms.specs.declared.Found as G
 use Rattle.table.specs.Decoded.{nameOf}
-use Rattle.table.specs.declared.Term.the-variants.{Delta}
-use Rattle.table.specs.declared.Slot.{Slot}
 
 -- A term of numbers alone: there is no name and no list in it that could have a fault.
 pub record PlainTerm (due : Past Line) (x : Term) (f : G.Found) : Type 0 where
@@ -40,16 +34,10 @@ abbrev pub PlainRead : Text → Past Line → TermStep → Type 0
 PlainRead line due (T.To x f) = PlainTerm due x f
 PlainRead line due (T.Stuck p) = stuck (drop p line) ≡ due
 
--- The kinds with one number and with two, by their places among all kinds.
-abbrev pub either : {A : Type 0} → Bool → A → A → A
-either true a b = a
-either false a b = b
-
--- by the last number, and one before it for the kinds with two
+-- The kinds with one number and with two, which the table counts by their places among all kinds: by the last number, and one
+-- before it for the kinds with two.
 abbrev pub madeOf : ℕ → ℕ → ℕ → D.Term
-madeOf k t u =
-    either (eqb k 3) (D.ref u) (either (eqb k 4) (D.sum u) (either (eqb k 5) (D.cond u) (either (eqb k 6) (D.choice t u) (either (eqb k 7) (D.ifelse t u)
-    (either (eqb k 8) (D.seq t u) (either (eqb k 9) (D.merge t u) (either (eqb k 10) (D.lmerge t u) (D.sync t u))))))))
+madeOf k t u = bareTerm (plainOf k t u)
 
 -- A line with its names looked up: the term at its number, the fault of its names and its list, and the list's words over the
 -- start of the store.
@@ -100,16 +88,9 @@ listed Rename ps = F.rename ps
 listed Comm rs = F.comm rs
 listed Allow ls = F.allow ls
 
-abbrev pub wrappedOf : WrapKind → Place → Operator
-wrappedOf Block p = O.Block p
-wrappedOf Hide p = O.Hide p
-wrappedOf Rename p = O.Rename p
-wrappedOf Comm p = O.Comm p
-wrappedOf Allow p = O.Allow p
-
 -- the term in a slot
-abbrev pub bareSlot : Slot → D.Term
-bareSlot s = bareTerm (s .term)
+abbrev pub bareSlot : ℕ → D.Term
+bareSlot w = bareTerm (wordTerm w)
 
 -- A line after the terms before it: the term at its number, all faults of the line joined, and the list's words over the start
 -- of the store where there is none.
@@ -126,7 +107,7 @@ TermRead words equations terms line before after (T.To x f) = TermTaken words eq
 TermRead words equations terms line before after (T.Stuck p) = (stuck (drop p line) ≡ termLine line) × (length after ≡ length before)
 
 -- Every line that is short enough, at a number in range, with few enough names and the slots of the terms before it.
-abbrev pub TermAnswer : List ℕ → ℕ → List Slot → ℕ → Text → List ℕ → List ℕ → TermStep → Type 0
+abbrev pub TermAnswer : List ℕ → ℕ → List ℕ → ℕ → Text → List ℕ → List ℕ → TermStep → Type 0
 TermAnswer names equations slots n line before after r =
-    (terms : List D.Term) → slots ≡ filled 96 (record { term = Delta }) (slotsFrom 0 terms) → n ≡ length terms → n < 96 → length names ≤ 12 → length line ≤ 8192
+    (terms : List D.Term) → slots ≡ filled 96 0 (slotsFrom 0 terms) → n ≡ length terms → n < 96 → length names ≤ 12 → length line ≤ 8192
     → TermRead (map (nameOf 8) names) equations terms line before after r

@@ -9,7 +9,7 @@ ghost use Rattle.meaning.specs.Legal.{isMultiAction};
 ghost use Rattle.forms.specs.Text.{past, onward, ended};
 ghost use Rattle.forms.specs.Forms.{plain, ofName, ofOne, ofTwo, ofList, termLine};
 ghost use Rattle.forms.specs.Faults.{bothBelow, inRange, worse, unless, operandsFit};
-ghost use Rattle.forms.specs.Terms.{PlainRead, madeOf, LineRead, Storeless, listKind, contents, listed, wrappedOf, bareSlot, TermAnswer};
+ghost use Rattle.forms.specs.Terms.{PlainRead, madeOf, LineRead, Storeless, listKind, contents, listed, bareSlot, TermAnswer};
 ghost use Rattle.meaning.specs.Answers.{range, operand};
 ghost use Rattle.meaning.specs.Descriptions.{delta};
 ghost use Rattle.forms.specs.Tallies.{foundOf};
@@ -30,10 +30,11 @@ use crate::labels::SaidStep;
 use crate::labels::read_name;
 use crate::lists::ListKind;
 use crate::lists::read_whole;
-use table::Operator;
 use table::Place;
-use table::Slot;
 use table::Term;
+use table::packing::operator;
+use table::packing::plain;
+use table::packing::unpack;
 
 // A term with nothing after it.
 fn finish(line: &[u8], at: usize, x: Term) -> TermStep
@@ -46,23 +47,6 @@ fn finish(line: &[u8], at: usize, x: Term) -> TermStep
     TermStep::To(x, Found::Fine)
 }
 
-// The kinds with one number, and those with two, by their places among the kinds.
-fn made_of(k: usize, t: usize, u: usize) -> Term
-    ensures { λ r. ⌜ (bareTerm r ≡ madeOf k t u) × IsPlain r ⌝ }
-{
-    match k {
-        3 => Term::Ref(u),
-        4 => Term::Sum(u),
-        5 => Term::Cond(u),
-        6 => Term::Choice(t, u),
-        7 => Term::IfElse(t, u),
-        8 => Term::Seq(t, u),
-        9 => Term::Merge(t, u),
-        10 => Term::LMerge(t, u),
-        _ => Term::Sync(t, u),
-    }
-}
-
 // The last number of a line, or the only one.
 fn read_last(k: usize, t: usize, line: &[u8], at: usize) -> TermStep
     requires { ⌜ at ≤ length (now line) ⌝ }
@@ -70,7 +54,7 @@ fn read_last(k: usize, t: usize, line: &[u8], at: usize) -> TermStep
 {
     let last = number_after(line, at, b' ');
     match last {
-        Step::To(u, next) => finish(line, next, made_of(k, t, u as usize)),
+        Step::To(u, next) => finish(line, next, plain(k, t, u as usize)),
         Step::Stuck(p) => TermStep::Stuck(p),
     }
 }
@@ -106,7 +90,7 @@ fn read_act(line: &[u8], at: usize, names: &[u64], n: usize) -> TermStep
     }
 }
 
-// The kinds with one operand and a list, by their places too.
+// What the list of a kind is of, by the kind's place.
 fn list_kind(k: usize) -> ListKind
     ensures { λ r. ⌜ r ≡ listKind (wrapOf k) ⌝ }
 {
@@ -116,18 +100,6 @@ fn list_kind(k: usize) -> ListKind
         14 => ListKind::Pairs,
         15 => ListKind::Rules,
         _ => ListKind::Labels,
-    }
-}
-
-fn wrapped(k: usize, place: Place) -> Operator
-    ensures { λ r. ⌜ r ≡ wrappedOf (wrapOf k) place ⌝ }
-{
-    match k {
-        12 => Operator::Block(place),
-        13 => Operator::Hide(place),
-        14 => Operator::Rename(place),
-        15 => Operator::Comm(place),
-        _ => Operator::Allow(place),
     }
 }
 
@@ -163,8 +135,8 @@ fn read_wrap(
                         entries: said.first as usize,
                     };
                     let fault = said.fault;
-                    let operator = wrapped(k, place);
-                    TermStep::To(Term::Wrap(operator, t as usize), fault)
+                    let with_list = operator(k, place);
+                    TermStep::To(Term::Wrap(with_list, t as usize), fault)
                 }
             }
         }
@@ -264,19 +236,17 @@ fn read_line(line: &[u8], names: &[u64], n: usize, store: &mut [u64]) -> TermSte
 }
 
 // Whether the term at a number is a multi-action; past the slots there is none.
-fn multi_at(slots: [Slot; 96], t: usize) -> bool
-    ensures { λ r. ⌜ r ≡ isMultiAction (getD (map bareSlot slots) t delta) ⌝ }
+fn multi_at(slots: &[u64], t: usize) -> bool
+    ensures { λ r. ⌜ r ≡ isMultiAction (getD (map bareSlot (now (slots .entry))) t delta) ⌝ }
 {
-    if 96 <= t {
+    if slots.len() <= t {
         return false;
     }
-    let slot = slots[t];
-    let x = slot.term;
-    is_multi(x)
+    is_multi(unpack(slots[t]))
 }
 
-fn operands_fit(x: Term, slots: [Slot; 96]) -> bool
-    ensures { λ r. ⌜ r ≡ operandsFit (map bareSlot slots) (bareTerm x) ⌝ }
+fn operands_fit(x: Term, slots: &[u64]) -> bool
+    ensures { λ r. ⌜ r ≡ operandsFit (map bareSlot (now (slots .entry))) (bareTerm x) ⌝ }
 {
     let Term::Sync(t, u) = x else {
         return true;
@@ -285,8 +255,8 @@ fn operands_fit(x: Term, slots: [Slot; 96]) -> bool
 }
 
 // The fault of a term's names and list, of its numbers, and of its operands, joined.
-fn joined_fault(x: Term, found: Found, n: usize, equations: usize, slots: [Slot; 96]) -> Found
-    ensures { λ r. ⌜ foundOf r ≡ worse (foundOf found) (worse (unless (inRange equations n (bareTerm x)) range) (unless (operandsFit (map bareSlot slots) (bareTerm x)) operand)) ⌝ }
+fn joined_fault(x: Term, found: Found, n: usize, equations: usize, slots: &[u64]) -> Found
+    ensures { λ r. ⌜ foundOf r ≡ worse (foundOf found) (worse (unless (inRange equations n (bareTerm x)) range) (unless (operandsFit (map bareSlot (now (slots .entry))) (bareTerm x)) operand)) ⌝ }
 {
     let numbers = found_unless(in_range(x, n, equations), Fault::Range);
     let operands = found_unless(operands_fit(x, slots), Fault::Operand);
@@ -298,11 +268,11 @@ pub fn read_term(
     line: &[u8],
     names: &[u64],
     equations: usize,
-    slots: [Slot; 96],
+    slots: &[u64],
     n: usize,
     store: &mut [u64],
 ) -> TermStep
-    ensures { λ r. ⌜ TermAnswer (now (names .entry)) equations slots n (now (line .entry)) (now (store .entry)) (now (store .exit)) r ⌝ }
+    ensures { λ r. ⌜ TermAnswer (now (names .entry)) equations (now (slots .entry)) n (now (line .entry)) (now (store .entry)) (now (store .exit)) r ⌝ }
 {
     if 12 < names.len() {
         return TermStep::Stuck(0);

@@ -9,10 +9,9 @@ use Rattle.meaning.specs.Bytes.{Text}
 use Rattle.meaning.specs.Descriptions as D
 use Rattle.meaning.specs.Answers.{Fault, form}
 use Rattle.table.specs.declared.Term.{Term}
-use Rattle.table.specs.declared.Term.the-variants.{Delta}
-use Rattle.table.specs.declared.Slot.{Slot}
 use Rattle.table.specs.declared.Order.{Order}
 use Rattle.table.specs.Encoded.{filled, termWords, termsWords, termFor, slotsFrom}
+use Rattle.table.specs.Packed.{termWord}
 use Rattle.table.proofs.Filled.{slots-more, part-free, part-more}
 use Rattle.forms.specs.Lists.{over}
 use Rattle.forms.specs.Text.{Past, stuck}
@@ -89,9 +88,9 @@ module _ (ts : List D.Term) (n k : ℕ) (store : List ℕ) (h : n < 96) (e : n �
       (part-more 3072 (32 * n) (3040 - 32 * n) ts (omega arith) (omega arith) t)
 
 -- one slot more
-pub slot-more : (ts : List D.Term) {slots : List Slot} {n : ℕ} {x : Term} (t : D.Term) → slots ≡ filled 96 (record { term = Delta }) (slotsFrom 0 ts) → n ≡ length ts → x ≡ termFor (length ts) t
-    → set slots n (record { term = x }) ≡ filled 96 (record { term = Delta }) (slotsFrom 0 (ts ++ (t ∷ [])))
-slot-more ts t s e q = rw (s, e, q) (slots-more 96 (record { term = Delta }) ts t)
+pub slot-more : (ts : List D.Term) {slots : List ℕ} {n w : ℕ} {x : Term} (t : D.Term) → slots ≡ filled 96 0 (slotsFrom 0 ts) → n ≡ length ts → w ≡ termWord x → x ≡ termFor (length ts) t
+    → set slots n w ≡ filled 96 0 (slotsFrom 0 (ts ++ (t ∷ [])))
+slot-more ts t s e p q = rw (s, e, p, q) (slots-more 96 0 ts t)
 
 pub one-more : (ts : List D.Term) (t : D.Term) {n : ℕ} → n ≡ length ts → n + 1 ≡ length (ts ++ (t ∷ []))
 one-more ts t e = rw (length-append ts (t ∷ [])) (omega arith)

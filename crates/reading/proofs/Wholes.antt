@@ -15,8 +15,6 @@ use Rattle.meaning.specs.Answers as A
 use Rattle.meaning.specs.Answers.{form, inLine}
 use Rattle.table.specs.declared.Order.{Order}
 use Rattle.table.specs.declared.Table.{Table}
-use Rattle.table.specs.declared.Term.the-variants.{Delta}
-use Rattle.table.specs.declared.Slot.{Slot}
 use Rattle.table.specs.Decoded.{nameOf}
 use Rattle.table.specs.Encoded.{filled, wordOf, slotsFrom, termsWords, orderWords, orderFor, tableOf, storeOf}
 use Rattle.table.proofs.Filled.{filled-length, filled-two, filled-front}
@@ -143,7 +141,7 @@ words-back [] h = refl
 words-back (w ∷ ws) h = ap₂ {C = List ℕ} _∷_ (word-name 8 w (h 0)) (words-back ws (λ i. h (suc i)))
 
 -- The table of what was read before the root.
-same-table : {names names′ bodies bodies′ : List ℕ} {named named′ equations equations′ terms terms′ root : ℕ} {slots slots′ : List Slot}
+same-table : {names names′ bodies bodies′ : List ℕ} {named named′ equations equations′ terms terms′ root : ℕ} {slots slots′ : List ℕ}
     → names ≡ names′ → named ≡ named′ → bodies ≡ bodies′ → equations ≡ equations′ → slots ≡ slots′ → terms ≡ terms′
     → _≡_ {A = Table} (record { names = names; named = named; bodies = bodies; equations = equations; slots = slots; terms = terms; root = root })
     (record { names = names′; named = named′; bodies = bodies′; equations = equations′; slots = slots′; terms = terms′; root = root })
@@ -152,9 +150,9 @@ same-table p q r s t u = rw (p, q, r, s, t, u)
 pub names-length : {names : List ℕ} {named : ℕ} → Padded names named → length names ≡ 12
 names-length p = ap length (p .padded) ∙ filled-length 0 12 _
 
-pub table-read : (names bodies zeros : List ℕ) (named equations count : ℕ) (slots : List Slot) (terms : List D.Term)
+pub table-read : (names bodies zeros : List ℕ) (named equations count : ℕ) (slots : List ℕ) (terms : List D.Term)
     → Padded names named → equations ≤ 16 → length bodies ≡ equations → zeros ≡ filled 16 0 []
-    → slots ≡ filled 96 (record { term = Delta }) (slotsFrom 0 terms) → length terms ≡ count
+    → slots ≡ filled 96 0 (slotsFrom 0 terms) → length terms ≡ count
     → _≡_ {A = Table} (record { names = names; named = named; bodies = bodies ++ drop equations zeros; equations = equations; slots = slots; terms = count; root = 0 })
     (tableOf (record { words = map (nameOf 8) (take named names); terms = terms; bodies = bodies; root = 0 }))
 unfolding tableOf

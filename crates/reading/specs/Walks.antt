@@ -10,8 +10,6 @@ use Rattle.meaning.specs.Bytes.{Text}
 use Rattle.meaning.specs.Descriptions as D
 use Rattle.meaning.specs.Answers.{inLine}
 use Rattle.table.specs.declared.Term.{Term}
-use Rattle.table.specs.declared.Term.the-variants.{Delta}
-use Rattle.table.specs.declared.Slot.{Slot}
 use Rattle.table.specs.declared.Order.{Order}
 use Rattle.table.specs.Decoded.{nameOf}
 use Rattle.table.specs.Encoded.{filled, termWords, termFor, slotsFrom, termsWords, orderWords, orderFor}
@@ -63,8 +61,8 @@ pub record NamesTo (text : Text) (r : Progress) (due : Walk (List Text)) (after 
   pub fits : (i : ℕ) → getD after i 0 < 2 ^ 64
 
 -- The terms before the n-th.
-pub record TermsBefore (terms : List D.Term) (slots : List Slot) (n : ℕ) : Type 0 where
-  pub kept : slots ≡ filled 96 (record { term = Delta }) (slotsFrom 0 terms)
+pub record TermsBefore (terms : List D.Term) (slots : List ℕ) (n : ℕ) : Type 0 where
+  pub kept : slots ≡ filled 96 0 (slotsFrom 0 terms)
   pub counted : n ≡ length terms
 
 abbrev pub progressOf : TermProgress → Progress
@@ -84,19 +82,19 @@ TermWalks terms text due before after (T.To x at line) = TermTo terms text due b
 TermWalks terms text due before after (T.Bad f line) = halted (inLine (faultOf f) line) ≡ due
 
 -- Some terms, as they stand in the table and in the store.
-pub record Termed (terms : List D.Term) (slots : List Slot) (store : List ℕ) : Type 0 where
-  pub kept : slots ≡ filled 96 (record { term = Delta }) (slotsFrom 0 terms)
+pub record Termed (terms : List D.Term) (slots : List ℕ) (store : List ℕ) : Type 0 where
+  pub kept : slots ≡ filled 96 0 (slotsFrom 0 terms)
   pub stored : store ≡ filled 3072 0 (termsWords terms)
 
 -- All terms that were asked for.
-pub record TermsTo (text : Text) (due : Walk (List D.Term)) (count : ℕ) (after : List ℕ) (slots : List Slot) (at line : ℕ) : Type 0 where
+pub record TermsTo (text : Text) (due : Walk (List D.Term)) (count : ℕ) (after : List ℕ) (slots : List ℕ) (at line : ℕ) : Type 0 where
   pub terms : List D.Term
   pub says : reached terms line (drop at text) ≡ due
   pub spot : Spot text at line
   pub counted : length terms ≡ count
   pub termed : Termed terms slots after
 
-abbrev pub TermsWalk : Text → Walk (List D.Term) → ℕ → List ℕ → List Slot → Progress → Type 0
+abbrev pub TermsWalk : Text → Walk (List D.Term) → ℕ → List ℕ → List ℕ → Progress → Type 0
 TermsWalk text due count after slots (To v at line) = TermsTo text due count after slots at line
 TermsWalk text due count after slots (Bad f line) = halted (inLine (faultOf f) line) ≡ due
 

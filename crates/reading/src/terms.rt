@@ -14,8 +14,8 @@ use forms::Fault;
 use forms::Found;
 use forms::TermStep;
 use forms::terms::read_term;
-use table::Slot;
 use table::Term;
+use table::packing::pack;
 
 pub enum TermProgress {
     To(Term, usize, usize),
@@ -28,12 +28,12 @@ fn take_term(
     line: usize,
     names: &[u64],
     equations: usize,
-    slots: [Slot; 96],
+    slots: &[u64],
     n: usize,
     store: &mut [u64],
 ) -> TermProgress
     requires { ⌜ Spot (now text) at line × (n < 96) × (length (now names) ≤ 12) ⌝ }
-    ensures { λ r. ⌜ ((terms : List D.Term) → TermsBefore terms slots n → TermWalks terms (now (text .entry)) (oneLine (takeTerm (map (nameOf 8) (now (names .entry))) equations terms) line (drop at (now (text .entry)))) (now (store .entry)) (now (store .exit)) r) ⌝ }
+    ensures { λ r. ⌜ ((terms : List D.Term) → TermsBefore terms (now (slots .entry)) n → TermWalks terms (now (text .entry)) (oneLine (takeTerm (map (nameOf 8) (now (names .entry))) equations terms) line (drop at (now (text .entry)))) (now (store .entry)) (now (store .exit)) r) ⌝ }
 {
     let end = line_end(text, at);
     if text.len() <= end {
@@ -53,7 +53,7 @@ fn take_term(
 
 pub struct Terms {
     pub progress: Progress,
-    pub slots: [Slot; 96],
+    pub slots: [u64; 96],
 }
 
 pub fn take_terms(
@@ -68,7 +68,7 @@ pub fn take_terms(
     requires { ⌜ Spot (now text) at line × (count ≤ 96) × (length (now names) ≤ 12) × (now store ≡ filled 3072 0 []) ⌝ }
     ensures { λ r. ⌜ TermsWalk (now (text .entry)) (lines (takeTerm (map (nameOf 8) (now (names .entry))) equations) count [] line (drop at (now (text .entry)))) count (now (store .exit)) (r .slots) (r .progress) ⌝ }
 {
-    let mut slots = [Slot { term: Term::Delta }; 96];
+    let mut slots = [0u64; 96];
     let mut from = at;
     let mut number = line;
     let mut n = 0;
@@ -76,14 +76,14 @@ pub fn take_terms(
         let first = 32 * n;
         let last = first + 32;
         let part = &mut store[first..last];
-        let step = take_term(text, from, number, names, equations, slots, n, part);
+        let step = take_term(text, from, number, names, equations, &slots, n, part);
         let TermProgress::To(term, next, after) = step else {
             return Terms {
                 progress: fault_of(step),
                 slots,
             };
         };
-        slots[n] = Slot { term };
+        slots[n] = pack(term);
         from = next;
         number = after;
         n += 1;

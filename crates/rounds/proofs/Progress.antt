@@ -11,12 +11,12 @@ use lib.Dec.{T}
 use lib.ListN.{length, getD, set, replicate, length-set, getD-replicate, List·getD-eq-default}
 use lib.Seq.{getD-set-same, getD-set-other}
 use Rattle.meaning.specs.Descriptions as D
+use Rattle.meaning.specs.Legal.{Legal}
 use Rattle.table.specs.declared.Term.{Term}
-use Rattle.table.specs.declared.Term.the-variants.{Delta}
-use Rattle.table.specs.declared.Slot.{Slot}
 use Rattle.table.specs.declared.Table.{Table}
 use Rattle.table.specs.Encoded.{termFor, storeOf, tableOf}
-use Rattle.table.proofs.Stored.{slot-of}
+use Rattle.table.specs.Packed.{wordTerm}
+use Rattle.table.proofs.Stored.{term-of}
 use Rattle.sets.specs.declared.Built.{Built}
 use Rattle.sets.specs.declared.Built.the-variants.{TooLarge, Holds}
 use Rattle.sets.specs.Parts.{roomAt}
@@ -103,21 +103,20 @@ module _ (table : Table) (store older before work₀ : List ℕ) where
         }
 
     -- the term that the table has there
-    term-there : (d : D.Description) → table ≡ tableOf d → n < table .terms → (n < D.termCount d) × (getD (table .slots) n (record { term = Delta }) .term ≡ termFor n (D.termAt d n))
+    term-there : (d : D.Description) → Legal d D.all → table ≡ tableOf d → n < table .terms → (n < D.termCount d) × (wordTerm (getD (table .slots) n 0) ≡ termFor n (D.termAt d n))
     unfolding tableOf
-    term-there d e more =
+    term-there d l e more =
         let same : table .terms ≡ D.termCount d = ap (λ (t : Table). t .terms) e in
         let h : n < D.termCount d = omega arith in
-        let l : D.termCount d ≤ 96 = omega (arith, p .few) in
-        (h, ap (λ (t : Table). getD (t .slots) n (record { term = Delta }) .term) e ∙ ap (λ (s : Slot). s .term) (slot-of d n h l))
+        (h, ap (λ (t : Table). wordTerm (getD (t .slots) n 0)) e ∙ term-of d D.all n l h)
 
     abbrev Found : (work′ : List ℕ) → Built → Type 0
-    Found work′ r = TermWorked (getD (table .slots) n (record { term = Delta }) .term) store (table .bodies) n older before this work work′ r
+    Found work′ r = TermWorked (wordTerm (getD (table .slots) n 0)) store (table .bodies) n older before this work work′ r
 
     done : (work′ : List ℕ) (r : Built) → Found work′ r → n < table .terms → (d : D.Description) (o : D.Order) (k : ℕ) → table ≡ tableOf d → store ≡ storeOf d o
         → Between d k older before work₀ → Worked d k n work work′ r
     done work′ r w more d o k e f b =
-        let t = term-there d e more in w d o k (t .1) f (ap (λ (x : Table). x .bodies) e) (t .0) (p .right d o k e f b .0)
+        let t = term-there d (b .legal) e more in w d o k (t .1) f (ap (λ (x : Table). x .bodies) e) (t .0) (p .right d o k e f b .0)
 
     pub progress-large : (work′ : List ℕ) → n < table .terms → Found work′ TooLarge → Passed table store older before work₀ work′ (record { fits = false; starts = this })
     progress-large work′ more w =
@@ -125,7 +124,7 @@ module _ (table : Table) (store older before work₀ : List ℕ) where
           size = p .size;
           low = p .low;
           right = λ d o k e f b.
-              round-over d k n work₀ work work′ (term-there d e more .0) (p .right d o k e f b .1) (done work′ TooLarge w more d o k e f b);
+              round-over d k n work₀ work work′ (term-there d (b .legal) e more .0) (p .right d o k e f b .1) (done work′ TooLarge w more d o k e f b);
         }
 
     -- a set that is counted has room

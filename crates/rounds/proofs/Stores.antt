@@ -2,35 +2,23 @@
 -- Assumes nothing.
 use mathlib.Core.Path.{_≡_, refl, sym, ap, ap₂, _∙_}
 use mathlib.Core.List.{List, [], _∷_, _++_, map}
-use Prim.Native.Nat.{ℕ, suc, _+_, _*_, _-_, _≤_, _<_, zero-le}
+use Prim.Native.Nat.{ℕ, _*_, _-_, _≤_, _<_}
 use native.Mathlib.Nat.{mul-one}
 use native.Mathlib.Omega.{arith}
 use lib.ListN.{length, take, drop, replicate, length-map}
 use lib.Seq.{take-all, take-at}
 use Rattle.meaning.specs.Labels.{number}
 use Rattle.meaning.specs.Sets.{Rising}
-use Rattle.meaning.specs.Descriptions.{Description, Order, Pair, Rule, Operator, block, hide, rename, comm, allow, wrap, names, termCount, termAt}
-use Rattle.meaning.specs.Legal.{Each, LegalPair, LegalRule, LegalOperator}
+use Rattle.meaning.specs.Descriptions.{Description, Order, Rule, Operator, block, hide, rename, comm, allow, wrap, names, termCount, termAt}
+use Rattle.meaning.specs.Legal.{Each, LegalRule, LegalOperator}
 use Rattle.table.specs.Encoded as T
+use Rattle.table.proofs.Packed.{rising-few, rising-pairs}
 use Rattle.table.proofs.Stored.{term-words}
 use Rattle.labels.specs.Stored.{pairWord, ruleWords}
 use Rattle.labels.proofs.Meant.{single-number}
 use Rattle.shapes.specs.Exchanging.{exchangeWords, exchangeList}
 use Rattle.shapes.specs.Ways.{ruleList, wayFor, wordsFor}
 use Rattle.rounds.proofs.Shaped.{wayOf, wayWords}
-
--- Strictly ascending numbers below m are at most m.
-rising-from : (m x : ℕ) (xs : List ℕ) → Rising (x ∷ xs) → Each (λ y. y < m) (x ∷ xs) → x + suc (length xs) ≤ m
-rising-from m x [] h k = omega (arith, k .0)
-rising-from m x (y ∷ ys) h k = omega (arith, h .0, rising-from m y ys (h .1) (k .1))
-
-rising-few : (m : ℕ) (xs : List ℕ) → Rising xs → Each (λ y. y < m) xs → length xs ≤ m
-rising-few m [] h k = zero-le
-rising-few m (x ∷ xs) h k = omega (arith, rising-from m x xs h k)
-
-lefts : (m : ℕ) (ps : List Pair) → Each (LegalPair m) ps → Each (λ y. y < m) (map (λ p. p .left) ps)
-lefts m [] h = tt
-lefts m (p ∷ ps) h = (h .0 .0, lefts m ps (h .1))
 
 -- The words of rules, as they are stored and as they are taken.
 length-rules : (rs : List Rule) → length (T.ruleWords rs) ≡ length rs * 2
@@ -79,6 +67,6 @@ module _ (d : Description) (o : Order) (n t : ℕ) (h : n < termCount d) (few : 
   words-same (hide ns) e l = stored (hide ns) 1 (length ns) e (sym (mul-one (length ns))) (names-fit ns (l .2) (l .1))
   words-same (rename ps) e l =
       stored (rename ps) 1 (length ps) e (length-map ps T.pairWord ∙ sym (mul-one (length ps)))
-      (omega (arith, names-fit (map (λ p. p .left) ps) (l .2) (lefts (names d) ps (l .1)), length-map ps (λ (p : Pair). p .left)))
+      (omega (arith, rising-pairs (names d) ps (l .1) (l .2)))
   words-same (comm rs) e l = ap ruleList (stored (comm rs) 2 (length rs) e (length-rules rs) (omega (arith, l .1))) ∙ rule-list (names d) narrow rs (l .1) (l .2)
   words-same (allow ls) e l = stored (allow ls) 1 (length ls) e (length-map ls number ∙ sym (mul-one (length ls))) (omega (arith, l .0))

@@ -6,9 +6,9 @@ use crate::starts::place_of;
 use crate::terms::work_out;
 use sets::Built;
 use shapes::sameness::unchanged;
-use table::Slot;
 use table::Table;
 use table::Term;
+use table::packing::unpack;
 ghost use mathlib.Core.Path.{_≡_};
 ghost use Prim.Native.Nat.{_≤_};
 ghost use lib.ListN.{length};
@@ -71,8 +71,8 @@ pub fn pass(
     let mut this = [0usize; 97];
     let mut n = 0;
     while n < table.terms {
-        let slot = table.slots[n];
-        let term = slot.term;
+        let word = table.slots[n];
+        let term = unpack(word);
         let built = next_term(term, store, &bodies, n, older, before, &this, work);
         let Built::Holds(count) = built else {
             return Round {

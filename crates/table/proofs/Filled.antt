@@ -8,8 +8,8 @@ use native.Mathlib.Omega.{arith}
 use lib.ListN.{length, take, drop, set, replicate, length-append}
 use lib.Seq.{take-at, drop-at}
 use Rattle.meaning.specs.Descriptions as D
-use Rattle.table.specs.declared.Slot.{Slot}
 use Rattle.table.specs.Encoded.{filled, termWords, termsWords, termFor, slotsFrom}
+use Rattle.table.specs.Packed.{termWord}
 
 module _ {A : Type 0} (x : A) where
   pub filled-length : (n : ℕ) (ys : List A) → length (filled n x ys) ≡ n
@@ -59,19 +59,19 @@ unfolding slotsFrom
 slots-length n [] = refl
 slots-length n (t ∷ ts) = ap suc (slots-length (suc n) ts)
 
-slots-append : (n : ℕ) (ts : List D.Term) (t : D.Term) → slotsFrom n (ts ++ (t ∷ [])) ≡ slotsFrom n ts ++ (record { term = termFor (n + length ts) t } ∷ [])
+slots-append : (n : ℕ) (ts : List D.Term) (t : D.Term) → slotsFrom n (ts ++ (t ∷ [])) ≡ slotsFrom n ts ++ (termWord (termFor (n + length ts) t) ∷ [])
 unfolding slotsFrom
 slots-append n [] t = let h : n + 0 ≡ n = omega arith in rw h
 slots-append n (u ∷ ts) t =
     let h : suc n + length ts ≡ n + suc (length ts) = omega arith in
     let ih = slots-append (suc n) ts t in
-    ap {B = List Slot} (λ l. record { term = termFor n u } ∷ l) (rw h at ih)
+    ap {B = List ℕ} (λ l. termWord (termFor n u) ∷ l) (rw h at ih)
 
-pub slots-more : (size : ℕ) (x : Slot) (ts : List D.Term) (t : D.Term)
-    → set (filled size x (slotsFrom 0 ts)) (length ts) (record { term = termFor (length ts) t }) ≡ filled size x (slotsFrom 0 (ts ++ (t ∷ [])))
+pub slots-more : (size x : ℕ) (ts : List D.Term) (t : D.Term)
+    → set (filled size x (slotsFrom 0 ts)) (length ts) (termWord (termFor (length ts) t)) ≡ filled size x (slotsFrom 0 (ts ++ (t ∷ [])))
 slots-more size x ts t =
     let h : 0 + length ts ≡ length ts = omega arith in
-    rw (slots-append 0 ts t, h, ← filled-more x size (slotsFrom 0 ts) (record { term = termFor (length ts) t }), slots-length)
+    rw (slots-append 0 ts t, h, ← filled-more x size (slotsFrom 0 ts) (termWord (termFor (length ts) t)), slots-length)
 
 -- The store: the terms' lists one after the other, 32 words each.
 pub words-length : (ts : List D.Term) → length (termsWords ts) ≡ 32 * length ts

@@ -3,3 +3,4 @@ pub mod Parts
 pub mod Zeroed
 pub mod Stored
 pub mod Filled
+pub mod Packed

@@ -7,9 +7,13 @@ use native.Mathlib.Nat.{sub-zero, zero-sub, suc-sub-suc}
 use native.Mathlib.Omega.{arith}
 use lib.ListN.{length, getD, take, drop, length-append, length-drop}
 use lib.Seq.{drop-cons, drop-nil, take-append-le, drop-append-le, drop-append-add, drop-at}
-use Rattle.table.specs.declared.Term.the-variants.{Delta}
 use Rattle.table.specs.Encoded.{filled, termWords, orderWords, termsWords, storeOf, termFor, slotsFrom, tableOf}
+use Rattle.table.specs.Packed.{termWord, wordTerm}
+use Rattle.table.proofs.Filled.{slots-length}
+use Rattle.table.proofs.Packed.{term-back}
 use Rattle.meaning.specs.Descriptions as D
+use Rattle.meaning.specs.Legal.{Legal}
+use Rattle.meaning.proofs.Least.{term-legal}
 
 -- The first so many of a list, filled.
 pub length-filled : {A : Type 0} (n : ℕ) (x : A) (xs : List A) → length (filled n x xs) ≡ n
@@ -86,26 +90,27 @@ module _ (d : D.Description) (o : D.Order) where
       ap (take count) (drop-at (filled 3072 0 (termsWords (d .terms))) (filled 32 0 (orderWords o)) 3072 (length-filled 3072 0 (termsWords (d .terms))))
       ∙ first-whole count (orderWords o) e small
 
--- The slot of a term, and the body of an equation.
-slot-from : (k i : ℕ) (ts : List D.Term) → i < length ts → getD (slotsFrom k ts) i (record { term = Delta }) ≡ record { term = termFor (k + i) (getD ts i D.delta) }
+-- The term of a slot, and the body of an equation.
+slot-from : (k i : ℕ) (ts : List D.Term) → i < length ts → getD (slotsFrom k ts) i 0 ≡ termWord (termFor (k + i) (getD ts i D.delta))
 unfolding slotsFrom
 slot-from k i [] h = absurd (omega arith)
-slot-from k zero (t ∷ ts) h = let e : k + 0 ≡ k = omega arith in ap (λ (m : ℕ). record { term = termFor m t }) (sym e)
+slot-from k zero (t ∷ ts) h = let e : k + 0 ≡ k = omega arith in ap (λ (m : ℕ). termWord (termFor m t)) (sym e)
 slot-from k (suc i) (t ∷ ts) h =
     let e : suc k + i ≡ k + suc i = omega arith in
-    slot-from (suc k) i ts (omega arith) ∙ ap (λ (m : ℕ). record { term = termFor m (getD ts i D.delta) }) e
+    slot-from (suc k) i ts (omega arith) ∙ ap (λ (m : ℕ). termWord (termFor m (getD ts i D.delta))) e
 
-pub slot-of : (d : D.Description) (n : ℕ) → n < D.termCount d → D.termCount d ≤ 96 → getD (tableOf d .slots) n (record { term = Delta }) ≡ record { term = termFor n (D.termAt d n) }
-unfolding tableOf slotsFrom
+slot-of : (d : D.Description) (n : ℕ) → n < D.termCount d → D.termCount d ≤ 96 → getD (tableOf d .slots) n 0 ≡ termWord (termFor n (D.termAt d n))
+unfolding tableOf
 slot-of d n h few =
     let e : 0 + n ≡ n = omega arith in
-    getD-filled 96 (record { term = Delta }) (record { term = Delta }) (slotsFrom 0 (d .terms)) n (omega arith) (slots-more n 0 (d .terms) h)
-    ∙ slot-from 0 n (d .terms) h ∙ ap (λ (m : ℕ). record { term = termFor m (D.termAt d n) }) e
-  where
-    slots-more : (i k : ℕ) (ts : List D.Term) → i < length ts → i < length (slotsFrom k ts)
-    slots-more i k [] h = absurd (omega arith)
-    slots-more zero k (t ∷ ts) h = omega arith
-    slots-more (suc i) k (t ∷ ts) h = let ih = slots-more i (suc k) ts (omega arith) in omega arith
+    let l = slots-length 0 (d .terms) in
+    getD-filled 96 0 0 (slotsFrom 0 (d .terms)) n (omega arith) (omega arith)
+    ∙ slot-from 0 n (d .terms) h ∙ ap (λ (m : ℕ). termWord (termFor m (D.termAt d n))) e
+
+pub term-of : (d : D.Description) (o : D.Order) (n : ℕ) → Legal d o → n < D.termCount d → wordTerm (getD (tableOf d .slots) n 0) ≡ termFor n (D.termAt d n)
+term-of d o n l h =
+    let few = l .termsCount .1 in
+    ap wordTerm (slot-of d n h few) ∙ term-back d (l .nameCount .1) (l .equationCount) n (omega arith) (D.termAt d n) (term-legal d o l n)
 
 pub body-of : (d : D.Description) (e : ℕ) → e < D.equations d → D.equations d ≤ 16 → getD (tableOf d .bodies) e 0 ≡ D.bodyAt d e
 unfolding tableOf

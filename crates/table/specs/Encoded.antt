@@ -9,10 +9,10 @@ use Rattle.table.specs.declared.Operator.{Operator}
 use Rattle.table.specs.declared.Operator.the-variants.{Block, Hide, Rename, Comm, Allow}
 use Rattle.table.specs.declared.Term.{Term}
 use Rattle.table.specs.declared.Term.the-variants.{Delta, Tau, Act, Ref, Sum, Cond, Choice, IfElse, Seq, Merge, LMerge, Sync, Wrap}
-use Rattle.table.specs.declared.Slot.{Slot}
 use Rattle.table.specs.declared.Order.{Order}
 use Rattle.table.specs.declared.Order.the-variants.{All, Only}
 use Rattle.table.specs.declared.Table.{Table}
+use Rattle.table.specs.Packed.{termWord}
 use Rattle.meaning.specs.Bytes.{Text}
 use Rattle.meaning.specs.Labels.{number}
 use Rattle.meaning.specs.Descriptions as D
@@ -94,9 +94,9 @@ termFor n (D.lmerge t u) = LMerge t u
 termFor n (D.sync t u) = Sync t u
 termFor n (D.wrap o t) = Wrap (operatorFor n o) t
 
-unfoldable pub slotsFrom : ℕ → List D.Term → List Slot
+unfoldable pub slotsFrom : ℕ → List D.Term → List ℕ
 slotsFrom n [] = []
-slotsFrom n (t ∷ ts) = record { term = termFor n t } ∷ slotsFrom (suc n) ts
+slotsFrom n (t ∷ ts) = termWord (termFor n t) ∷ slotsFrom (suc n) ts
 
 abbrev pub orderFor : D.Order → Order
 orderFor D.all = All
@@ -109,7 +109,7 @@ tableOf d =
       named = length (d .words);
       bodies = filled 16 0 (d .bodies);
       equations = length (d .bodies);
-      slots = filled 96 (record { term = Delta }) (slotsFrom 0 (d .terms));
+      slots = filled 96 0 (slotsFrom 0 (d .terms));
       terms = length (d .terms);
       root = d .root;
     }

@@ -2,4 +2,5 @@
 pub mod Decoded
 pub mod Encoded
 pub mod Terms
+pub mod Packed
 pub mod Areas

@@ -5,6 +5,7 @@
 
 pub mod areas;
 pub mod lists;
+pub mod packing;
 
 ghost use mathlib.Core.Path.{_≡_};
 ghost use Rattle.table.specs.Encoded.{blank, tableOf};
@@ -48,22 +49,19 @@ pub enum Term {
     Wrap(Operator, usize),
 }
 
-pub struct Slot {
-    pub term: Term,
-}
-
 pub enum Order {
     All,
     Only(Place),
 }
 
-// A name is at most eight bytes, packed in a word: the first byte lowest.
+// A name is at most eight bytes, packed in a word: the first byte lowest. A term is packed in a word too, since a table is moved
+// by value.
 pub struct Table {
     pub names: [u64; 12],
     pub named: usize,
     pub bodies: [usize; 16],
     pub equations: usize,
-    pub slots: [Slot; 96],
+    pub slots: [u64; 96],
     pub terms: usize,
     pub root: usize,
 }
@@ -77,7 +75,7 @@ pub fn empty() -> Table
         named: 0,
         bodies: [0usize; 16],
         equations: 0,
-        slots: [Slot { term: Term::Delta }; 96],
+        slots: [0u64; 96],
         terms: 0,
         root: 0,
     }

@@ -12,7 +12,7 @@ enum-known-x : tie.Need-enum-known-x
 enum-known-x c = c .match .keys1
 
 returns : tie.Need-returns
-returns c = fit-other (c .before .args .x) (map bareSlot (c .before .args .slots)) (c .match .keys2)
+returns c = fit-other (c .before .before .args .x) (map bareSlot (c .before .before .args .slots .now)) (c .match .keys2)
 
 returns-2 : tie.Need-returns-2
 returns-2 c = rw (c .before .before .before .before .x .given .1, sym (c .before .before .multi-at .ensures) ∙ c .before .if1 .taken) (c .multi-at2 .ensures)

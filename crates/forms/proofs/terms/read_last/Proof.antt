@@ -1,12 +1,13 @@
 -- `forms::terms::read_last` meets its contract: the last number, and the end of the line.
 -- Assumes nothing.
-use mathlib.Core.Path.{ap, _∙_}
+use mathlib.Core.Path.{sym, ap, subst, _∙_}
 use lib.ListN.{drop}
+use Rattle.table.specs.Terms.{IsPlain, bareTerm}
 use Rattle.forms.specs.Text.{onward}
 use Rattle.forms.specs.Terms.{madeOf}
 use Rattle.forms.proofs.Rests.{asks-nothing}
 use Rattle.forms.proofs.Steps.{went, stays}
-use Rattle.forms.proofs.Operands.{alone-with, one-seen, plain-become}
+use Rattle.forms.proofs.Operands.{plain-kind, alone-with, one-seen, plain-become}
 use Rattle.forms.proofs.terms.read_last.Statement.{statement}
 use Rattle.forms.proofs.terms.read_last.Tie as tie
 
@@ -25,12 +26,12 @@ returns-2 c =
     ∙ one-seen (madeOf (c .before .before .before .before .before .args .k) (c .before .before .before .before .before .args .t)) (drop (c .before .before .before .before .before .args .at) (c .before .before .before .before .before .args .line .now))
 
 finish-requires : tie.Need-finish-requires
-finish-requires c κs = (went (c .before .before .before .before .number-after .ensures) (c .before .before .last .given .1) .within, c .made-of .ensures .1)
+finish-requires c κs = (went (c .before .before .before .before .number-after .ensures) (c .before .before .last .given .1) .within, subst IsPlain (sym (c .plain .ensures)) (plain-kind (c .before .before .before .before .before .before .args .k) (c .before .before .before .before .before .before .args .t) (c .before .before .last .given .0 .0)))
 
 returns : tie.Need-returns
 returns c =
     plain-become (c .before .before .before .before .before .before .before .args .line .now) (c .finish .result)
-    (ap (λ x. alone-with x (drop (c .before .before .before .last .given .0 .1 .0) (c .before .before .before .before .before .before .before .args .line .now))) (c .before .made-of .ensures .0)
+    (ap (λ x. alone-with x (drop (c .before .before .before .last .given .0 .1 .0) (c .before .before .before .before .before .before .before .args .line .now))) (ap bareTerm (c .before .plain .ensures))
     ∙ ap (λ d. onward d (λ t q. alone-with (madeOf (c .before .before .before .before .before .before .before .args .k) (c .before .before .before .before .before .before .before .args .t) t) q)) (went (c .before .before .before .before .before .number-after .ensures) (c .before .before .before .last .given .1) .says)
     ∙ one-seen (madeOf (c .before .before .before .before .before .before .before .args .k) (c .before .before .before .before .before .before .before .args .t)) (drop (c .before .before .before .before .before .before .before .args .at) (c .before .before .before .before .before .before .before .args .line .now)))
     (c .finish .ensures)

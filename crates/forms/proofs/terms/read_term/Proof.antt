@@ -34,9 +34,9 @@ same-length c = search needs
 
 returns-4 : tie.Need-returns-4
 returns-4 c terms e i h j k =
-    let a = c .before .before .before .before .before .before .before .before .before .before .before .before .args in
+    let a = c .before .before .before .before .before .before .before .before .before .before .before .before .before .args in
     let l : length (c .before .before .before .before .read-line .last .1 .1 .1 .0) ≡ length (a .store .now) = search needs in
-    term-stays (map (nameOf 8) (a .names .now)) (a .equations) terms (a .slots) (omega arith) e (a .n) i (a .line .now) (a .store .now) (c .before .before .before .before .read-line .last .1 .1 .1 .0) l
+    term-stays (map (nameOf 8) (a .names .now)) (a .equations) terms (a .slots .now) (omega arith) e (a .n) i (a .line .now) (a .store .now) (c .before .before .before .before .read-line .last .1 .1 .1 .0) l
     (c .before .before .before .before .read-line .result) (c .enum-told .given .1) (c .before .before .before .before .read-line .ensures)
 
 same-length-2 : tie.Need-same-length-2
@@ -44,9 +44,9 @@ same-length-2 c = search needs
 
 returns-5 : tie.Need-returns-5
 returns-5 c terms e i h j k =
-    let a = c .before .before .before .before .before .before .before .before .before .before .before .before .before .before .args in
+    let a = c .before .before .before .before .before .before .before .before .before .before .before .before .before .before .before .args in
     let l : length (c .before .before .before .before .before .before .read-line .last .1 .1 .1 .0) ≡ length (a .store .now) = search needs in
-    term-taken (map (nameOf 8) (a .names .now)) (a .equations) terms (a .slots) (omega arith) e (a .n) i (a .line .now) (a .store .now) (c .before .before .before .before .before .before .read-line .last .1 .1 .1 .0) l
+    term-taken (map (nameOf 8) (a .names .now)) (a .equations) terms (a .slots .now) (omega arith) e (a .n) i (a .line .now) (a .store .now) (c .before .before .before .before .before .before .read-line .last .1 .1 .1 .0) l
     (c .before .before .said .given .1) (c .before .before .before .before .before .before .read-line .ensures) (c .joined-fault .ensures)
 
 pub read-term-spec : {M : Type 1} → statement M

@@ -3,13 +3,14 @@
 use borrow.Author.Needs.{needs}
 use mathlib.Core.Path.{sym, _∙_}
 use mathlib.Core.List.{map}
+use Prim.Native.Nat.{_*_}
 use native.Mathlib.Omega.{arith}
 use borrow.Author.Tests.{not-true, not-false}
 use Rattle.table.specs.Decoded.{nameOf}
 use Rattle.forms.specs.Forms.{space}
 use Rattle.forms.specs.Kinds.{wrapOf}
 use Rattle.forms.proofs.Rests.{asks-nothing, sign-within}
-use Rattle.forms.proofs.Wraps.{no-operand, no-space, no-list, no-end, wrap-line}
+use Rattle.forms.proofs.Wraps.{operator-wrapped, no-operand, no-space, no-list, no-end, wrap-line}
 use Rattle.forms.proofs.terms.read_wrap.Statement.{statement}
 use Rattle.forms.proofs.terms.read_wrap.Tie as tie
 
@@ -59,7 +60,7 @@ same-length-3 : tie.Need-same-length-3
 same-length-3 c = search needs
 
 returns-5 : tie.Need-returns-5
-returns-5 c = let a = c .before .before .before .before .before .before .before .before .before .before .before .before .before .before .before .before .before .before .before .args in wrap-line (wrapOf (a .k)) (map (nameOf 8) (a .names .now)) (a .line .now) (a .at) (c .before .before .before .before .before .before .before .before .before .before .before .before .before .before .before .number-after .ensures) (c .before .before .before .before .before .before .before .before .before .before .before .before .before .operand2 .given .1) (sym (c .before .before .before .before .before .before .before .before .before .before .before .sign-at .ensures) ∙ not-false _ (c .before .before .before .before .before .before .before .before .before .before .if1 .left)) (c .before .before .before .before .before .before .before .before .before .list-kind .ensures) (c .before .before .before .before .before .before .before .read-whole .ensures) (c .before .before .before .list2 .given .1) (a .n) (c .before .if2 .left) (c .wrapped .ensures)
+returns-5 c = let a = c .before .before .before .before .before .before .before .before .before .before .before .before .before .before .before .before .before .before .before .args in wrap-line (wrapOf (a .k)) (map (nameOf 8) (a .names .now)) (a .line .now) (a .at) (c .before .before .before .before .before .before .before .before .before .before .before .before .before .before .before .number-after .ensures) (c .before .before .before .before .before .before .before .before .before .before .before .before .before .operand2 .given .1) (sym (c .before .before .before .before .before .before .before .before .before .before .before .sign-at .ensures) ∙ not-false _ (c .before .before .before .before .before .before .before .before .before .before .if1 .left)) (c .before .before .before .before .before .before .before .before .before .list-kind .ensures) (c .before .before .before .before .before .before .before .read-whole .ensures) (c .before .before .before .list2 .given .1) (a .n) (c .before .if2 .left) (c .operator .ensures ∙ operator-wrapped (a .k) (record { at = 32 * a .n; entries = c .before .before .before .list2 .given .0 .0 .first }))
 
 pub read-wrap-spec : {M : Type 1} → statement M
 read-wrap-spec =

@@ -18,10 +18,10 @@ use Rattle.reading.proofs.terms.take_term.Statement.{statement}
 use Rattle.reading.proofs.terms.take_term.Tie as tie
 
 line-end-requires : tie.Need-line-end-requires
-line-end-requires c κs = c .before .before .before .pre .0 .within
+line-end-requires c κs = c .before .before .before .before .pre .0 .within
 
 returns : tie.Need-returns
-returns c = λ terms b. line-lacks _ (c .before .before .before .before .before .args .line) (c .before .line-end .ensures) (c .if1 .taken)
+returns c = λ terms b. line-lacks _ (c .before .before .before .before .before .before .args .line) (c .before .line-end .ensures) (c .if1 .taken)
 
 sub-read-term : tie.Need-sub-read-term
 sub-read-term c = search needs
@@ -33,9 +33,9 @@ part-read-term-end : tie.Need-part-read-term-end
 part-read-term-end c = search needs
 
 -- what the reader says of the line
-line-read : (c : tie.After-read-term) (terms : List D.Term) → TermsBefore terms (c .before .before .before .before .before .before .before .before .args .slots) (c .before .before .before .before .before .before .before .before .args .n)
-    → TermRead (map (nameOf 8) (c .before .before .before .before .before .before .before .before .args .names .now)) (c .before .before .before .before .before .before .before .before .args .equations) terms (take (c .before .before .before .before .line-end .result - c .before .before .before .before .before .before .before .before .args .at) (drop (c .before .before .before .before .before .before .before .before .args .at) (c .before .before .before .before .before .before .before .before .args .text .now))) (c .before .before .before .before .before .before .before .before .args .store .now) (c .read-term .last .1 .1 .1 .1 .1 .0) (c .read-term .result)
-line-read c terms b = c .read-term .ensures terms (b .kept) (b .counted) (c .before .before .before .before .before .before .before .before .pre .1) (c .before .before .before .before .before .before .before .before .pre .2) (part-short (c .before .before .before .before .before .before .before .before .args .text .now) (c .before .before .before .before .before .before .before .before .args .at) (c .before .before .before .before .line-end .result - c .before .before .before .before .before .before .before .before .args .at) (c .before .before .before .before .before .before .before .before .pre .0 .short))
+line-read : (c : tie.After-read-term) (terms : List D.Term) → TermsBefore terms (c .before .before .before .before .before .before .before .before .before .args .slots .now) (c .before .before .before .before .before .before .before .before .before .args .n)
+    → TermRead (map (nameOf 8) (c .before .before .before .before .before .before .before .before .before .args .names .now)) (c .before .before .before .before .before .before .before .before .before .args .equations) terms (take (c .before .before .before .before .line-end .result - c .before .before .before .before .before .before .before .before .before .args .at) (drop (c .before .before .before .before .before .before .before .before .before .args .at) (c .before .before .before .before .before .before .before .before .before .args .text .now))) (c .before .before .before .before .before .before .before .before .before .args .store .now) (c .read-term .last .1 .1 .1 .1 .1 .0) (c .read-term .result)
+line-read c terms b = c .read-term .ensures terms (b .kept) (b .counted) (c .before .before .before .before .before .before .before .before .before .pre .1) (c .before .before .before .before .before .before .before .before .before .pre .2) (part-short (c .before .before .before .before .before .before .before .before .before .args .text .now) (c .before .before .before .before .before .before .before .before .before .args .at) (c .before .before .before .before .line-end .result - c .before .before .before .before .before .before .before .before .before .args .at) (c .before .before .before .before .before .before .before .before .before .pre .0 .short))
 
 enum-known-step : tie.Need-enum-known-step
 enum-known-step c = c .match .keys1
@@ -50,13 +50,13 @@ returns-2 : tie.Need-returns-2
 returns-2 c = λ terms b.
     let t = line-read (c .before .before .before .before) terms b in
     let k = rw (c .enum-told .given .1) at t in
-    line-there _ (c .before .before .before .before .before .before .before .before .before .before .before .before .args .line) (c .before .before .before .before .before .before .before .before .line-end .ensures) (c .before .before .before .before .before .before .before .if1 .left) (term-stuck (map (nameOf 8) (c .before .before .before .before .before .before .before .before .before .before .before .before .args .names .now)) (c .before .before .before .before .before .before .before .before .before .before .before .before .args .equations) terms _ (k .0))
+    line-there _ (c .before .before .before .before .before .before .before .before .before .before .before .before .before .args .line) (c .before .before .before .before .before .before .before .before .line-end .ensures) (c .before .before .before .before .before .before .before .if1 .left) (term-stuck (map (nameOf 8) (c .before .before .before .before .before .before .before .before .before .before .before .before .before .args .names .now)) (c .before .before .before .before .before .before .before .before .before .before .before .before .before .args .equations) terms _ (k .0))
 
 add-next : tie.Need-add-next
 add-next c = omega arith
 
 add-after : tie.Need-add-after
-add-after c = omega (arith, c .before .before .before .before .before .before .before .before .before .before .before .before .before .pre .0 .numbered, c .before .before .before .before .before .before .before .before .before .before .before .before .before .pre .0 .within, c .before .before .before .before .before .before .before .before .before .before .before .before .before .pre .0 .short)
+add-after c = omega (arith, c .before .before .before .before .before .before .before .before .before .before .before .before .before .before .pre .0 .numbered, c .before .before .before .before .before .before .before .before .before .before .before .before .before .before .pre .0 .within, c .before .before .before .before .before .before .before .before .before .before .before .before .before .before .pre .0 .short)
 
 enum-told-2 : tie.Need-enum-told-2
 enum-told-2 c = search needs
@@ -72,11 +72,11 @@ returns-3 c = λ terms b.
     let t = line-read (c .before .before .before .before .before .before .before) terms b in
     let k = rw (c .before .before .before .step .given .1) at t in
     record {
-      term = termSaid (map (nameOf 8) (c .before .before .before .before .before .before .before .before .before .before .before .before .before .before .before .args .names .now)) (k .line);
+      term = termSaid (map (nameOf 8) (c .before .before .before .before .before .before .before .before .before .before .before .before .before .before .before .before .args .names .now)) (k .line);
       says =
           line-taken
-          (line-there _ (c .before .before .before .before .before .before .before .before .before .before .before .before .before .before .before .args .line) (c .before .before .before .before .before .before .before .before .before .before .before .line-end .ensures) (c .before .before .before .before .before .before .before .before .before .before .if1 .left) (term-fine (map (nameOf 8) (c .before .before .before .before .before .before .before .before .before .before .before .before .before .before .before .args .names .now)) (c .before .before .before .before .before .before .before .before .before .before .before .before .before .before .before .args .equations) terms _ k (c .enum-told2 .given .1)));
-      spot = next-spot (c .before .before .before .before .before .before .before .before .before .before .before .line-end .ensures) (c .before .before .before .before .before .before .before .before .before .before .before .before .before .before .before .pre .0) (c .before .before .before .before .before .before .before .before .before .before .if1 .left);
+          (line-there _ (c .before .before .before .before .before .before .before .before .before .before .before .before .before .before .before .before .args .line) (c .before .before .before .before .before .before .before .before .before .before .before .line-end .ensures) (c .before .before .before .before .before .before .before .before .before .before .if1 .left) (term-fine (map (nameOf 8) (c .before .before .before .before .before .before .before .before .before .before .before .before .before .before .before .before .args .names .now)) (c .before .before .before .before .before .before .before .before .before .before .before .before .before .before .before .before .args .equations) terms _ k (c .enum-told2 .given .1)));
+      spot = next-spot (c .before .before .before .before .before .before .before .before .before .before .before .line-end .ensures) (c .before .before .before .before .before .before .before .before .before .before .before .before .before .before .before .before .pre .0) (c .before .before .before .before .before .before .before .before .before .before .if1 .left);
       kept = k .term;
       stored = k .stored (sym (found-fine (k .faults) (c .enum-told2 .given .1)));
     }
@@ -88,7 +88,7 @@ returns-4 : tie.Need-returns-4
 returns-4 c = λ terms b.
     let t = line-read (c .before .before .before .before .before .before .before .before) terms b in
     let k = rw (c .before .before .before .before .step .given .1) at t in
-    line-there _ (c .before .before .before .before .before .before .before .before .before .before .before .before .before .before .before .before .args .line) (c .before .before .before .before .before .before .before .before .before .before .before .before .line-end .ensures) (c .before .before .before .before .before .before .before .before .before .before .before .if1 .left) (term-faulty (map (nameOf 8) (c .before .before .before .before .before .before .before .before .before .before .before .before .before .before .before .before .args .names .now)) (c .before .before .before .before .before .before .before .before .before .before .before .before .before .before .before .before .args .equations) terms _ k (c .before .found .given .1))
+    line-there _ (c .before .before .before .before .before .before .before .before .before .before .before .before .before .before .before .before .before .args .line) (c .before .before .before .before .before .before .before .before .before .before .before .before .line-end .ensures) (c .before .before .before .before .before .before .before .before .before .before .before .if1 .left) (term-faulty (map (nameOf 8) (c .before .before .before .before .before .before .before .before .before .before .before .before .before .before .before .before .before .args .names .now)) (c .before .before .before .before .before .before .before .before .before .before .before .before .before .before .before .before .before .args .equations) terms _ k (c .before .found .given .1))
 
 pub take-term-spec : {M : Type 1} → statement M
 take-term-spec =

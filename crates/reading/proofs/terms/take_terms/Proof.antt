@@ -53,8 +53,11 @@ part-part-start c = omega (arith, long (c .before))
 part-part-end : tie.Need-part-part-end Inv-loop μ-loop
 part-part-end c = omega (arith, long (c .before), c .before .before .before .before .before .pre .1)
 
+slice-aggregate-take-term : tie.Need-slice-aggregate-take-term Inv-loop μ-loop
+slice-aggregate-take-term c = sym (ap length (c .before .before .before .loop .inv .2 .kept) ∙ filled-length 0 96 (slotsFrom 0 (c .before .before .before .loop .inv .0)))
+
 take-term-requires : tie.Need-take-term-requires Inv-loop μ-loop
-take-term-requires c κs = (c .before .before .loop .inv .3 .spot, omega (arith, c .before .before .before .before .before .before .pre .1), c .before .before .before .before .before .before .pre .2)
+take-term-requires c κs = (c .before .before .before .loop .inv .3 .spot, omega (arith, c .before .before .before .before .before .before .before .pre .1), c .before .before .before .before .before .before .before .pre .2)
 
 enum-known-step : tie.Need-enum-known-step Inv-loop μ-loop
 enum-known-step c = c .match .keys1
@@ -63,48 +66,48 @@ enum-told : tie.Need-enum-told Inv-loop μ-loop
 enum-told c = c .match .keys2
 
 same-length : tie.Need-same-length Inv-loop μ-loop
-same-length c = c .before .before .before .before .store .given .1 ∙ long (c .before .before .before .before .before .before .before .before) ∙ sym (long-first (c .before .before .before .before .before .before .before .before .before .before .before .before))
+same-length c = c .before .before .before .before .store .given .1 ∙ long (c .before .before .before .before .before .before .before .before .before) ∙ sym (long-first (c .before .before .before .before .before .before .before .before .before .before .before .before .before))
 
 returns : tie.Need-returns Inv-loop μ-loop
 returns c =
-    let t = c .before .before .before .before .before .take-term .ensures (c .before .before .before .before .before .before .before .before .loop .inv .0) (record { kept = c .before .before .before .before .before .before .before .before .loop .inv .2 .kept; counted = c .before .before .before .before .before .before .before .before .loop .inv .1 }) in
+    let t = c .before .before .before .before .before .take-term .ensures (c .before .before .before .before .before .before .before .before .before .loop .inv .0) (record { kept = c .before .before .before .before .before .before .before .before .before .loop .inv .2 .kept; counted = c .before .before .before .before .before .before .before .before .before .loop .inv .1 }) in
     let k = rw (c .before .enum-told .given .1) at t in
-    rw (c .fault-of .ensures, c .before .enum-told .given .1) (lines-halt (c .before .before .before .before .before .before .before .before .loop .inv .3) (c .before .before .before .before .before .before .before .loop-test .taken) k)
+    rw (c .fault-of .ensures, c .before .enum-told .given .1) (lines-halt (c .before .before .before .before .before .before .before .before .before .loop .inv .3) (c .before .before .before .before .before .before .before .before .loop-test .taken) k)
 
 mul-slots : tie.Need-mul-slots Inv-loop μ-loop
-mul-slots c = omega (arith, c .before .before .before .before .before .before .before .before .before .before .before .before .pre .1)
+mul-slots c = omega (arith, c .before .before .before .before .before .before .before .before .before .before .before .before .before .before .pre .1)
 
-array-set-from-slots : tie.Need-array-set-from-slots Inv-loop μ-loop
-array-set-from-slots c = omega (arith, c .before .before .before .before .before .before .before .before .before .before .before .before .pre .1)
+array-write-slots : tie.Need-array-write-slots Inv-loop μ-loop
+array-write-slots c = omega (arith, c .before .before .before .before .before .before .before .before .before .before .before .before .before .before .pre .1)
 
 add-n : tie.Need-add-n Inv-loop μ-loop
-add-n c = omega (arith, c .before .before .before .before .before .before .before .before .before .before .before .before .pre .1)
+add-n c = omega (arith, c .before .before .before .before .before .before .before .before .before .before .before .before .before .before .pre .1)
 
 loop-less : tie.Need-loop-less Inv-loop μ-loop
 loop-less c = omega arith
 
 -- the term that was read
 gone : (c : tie.After-known-told Inv-loop μ-loop)
-    → TermTo (c .before .before .before .before .before .before .before .before .loop .inv .0) (c .before .before .before .before .before .before .before .before .before .before .before .before .args .text .now)
-    (oneLine (takeTerm (map (nameOf 8) (c .before .before .before .before .before .before .before .before .before .before .before .before .args .names .now)) (c .before .before .before .before .before .before .before .before .before .before .before .before .args .equations) (c .before .before .before .before .before .before .before .before .loop .inv .0)) (c .before .before .before .before .before .before .before .before .loop .number) (drop (c .before .before .before .before .before .before .before .before .loop .from) (c .before .before .before .before .before .before .before .before .before .before .before .before .args .text .now)))
-    (take (32 * c .before .before .before .before .before .before .before .before .loop .n + 32 - 32 * c .before .before .before .before .before .before .before .before .loop .n) (drop (32 * c .before .before .before .before .before .before .before .before .loop .n) (c .before .before .before .before .before .before .before .before .loop .store))) (c .before .before .before .before .before .take-term .last .1 .1 .1 .1 .1 .1 .1 .0)
+    → TermTo (c .before .before .before .before .before .before .before .before .before .loop .inv .0) (c .before .before .before .before .before .before .before .before .before .before .before .before .before .args .text .now)
+    (oneLine (takeTerm (map (nameOf 8) (c .before .before .before .before .before .before .before .before .before .before .before .before .before .args .names .now)) (c .before .before .before .before .before .before .before .before .before .before .before .before .before .args .equations) (c .before .before .before .before .before .before .before .before .before .loop .inv .0)) (c .before .before .before .before .before .before .before .before .before .loop .number) (drop (c .before .before .before .before .before .before .before .before .before .loop .from) (c .before .before .before .before .before .before .before .before .before .before .before .before .before .args .text .now)))
+    (take (32 * c .before .before .before .before .before .before .before .before .before .loop .n + 32 - 32 * c .before .before .before .before .before .before .before .before .before .loop .n) (drop (32 * c .before .before .before .before .before .before .before .before .before .loop .n) (c .before .before .before .before .before .before .before .before .before .loop .store))) (c .before .before .before .before .before .take-term .last .1 .1 .1 .1 .1 .1 .1 .0)
     (c .before .step .given .0 .0) (c .before .step .given .0 .1 .0) (c .before .step .given .0 .1 .1 .0)
 gone c =
-    let t = c .before .before .before .before .before .take-term .ensures (c .before .before .before .before .before .before .before .before .loop .inv .0) (record { kept = c .before .before .before .before .before .before .before .before .loop .inv .2 .kept; counted = c .before .before .before .before .before .before .before .before .loop .inv .1 }) in
+    let t = c .before .before .before .before .before .take-term .ensures (c .before .before .before .before .before .before .before .before .before .loop .inv .0) (record { kept = c .before .before .before .before .before .before .before .before .before .loop .inv .2 .kept; counted = c .before .before .before .before .before .before .before .before .before .loop .inv .1 }) in
     rw (c .before .step .given .1) at t
 
 loop-again : tie.Need-loop-again Inv-loop μ-loop
 loop-again c =
-    let e = c .before .before .before .before .before .before .before .before .loop .inv .1 in
-    let g = gone c in (
-      c .before .before .before .before .before .before .before .before .loop .inv .0 ++ (g .term ∷ []),
-      one-more (c .before .before .before .before .before .before .before .before .loop .inv .0) (g .term) e,
+    let e = c .before .before .before .before .before .before .before .before .before .before .loop .inv .1 in
+    let g = gone (c .before) in (
+      c .before .before .before .before .before .before .before .before .before .before .loop .inv .0 ++ (g .term ∷ []),
+      one-more (c .before .before .before .before .before .before .before .before .before .before .loop .inv .0) (g .term) e,
       record {
-        kept = slot-more (c .before .before .before .before .before .before .before .before .loop .inv .0) (g .term) (c .before .before .before .before .before .before .before .before .loop .inv .2 .kept) e (g .kept);
+        kept = slot-more (c .before .before .before .before .before .before .before .before .before .before .loop .inv .0) (g .term) (c .before .before .before .before .before .before .before .before .before .before .loop .inv .2 .kept) e (c .pack .ensures) (g .kept);
         stored =
-            store-more (c .before .before .before .before .before .before .before .before .loop .inv .0) (c .before .before .before .before .before .before .before .before .loop .n) (32 * c .before .before .before .before .before .before .before .before .loop .n + 32 - 32 * c .before .before .before .before .before .before .before .before .loop .n) (c .before .before .before .before .before .before .before .before .loop .store) (omega (arith, c .before .before .before .before .before .before .before .before .before .before .before .before .pre .1)) e (omega arith) (c .before .before .before .before .before .before .before .before .loop .inv .2 .stored) (g .term) (g .stored);
+            store-more (c .before .before .before .before .before .before .before .before .before .before .loop .inv .0) (c .before .before .before .before .before .before .before .before .before .before .loop .n) (32 * c .before .before .before .before .before .before .before .before .before .before .loop .n + 32 - 32 * c .before .before .before .before .before .before .before .before .before .before .loop .n) (c .before .before .before .before .before .before .before .before .before .before .loop .store) (omega (arith, c .before .before .before .before .before .before .before .before .before .before .before .before .before .before .pre .1)) e (omega arith) (c .before .before .before .before .before .before .before .before .before .before .loop .inv .2 .stored) (g .term) (g .stored);
       },
-      lines-more (c .before .before .before .before .before .before .before .before .loop .inv .3) (c .before .before .before .before .before .before .before .loop-test .taken) (g .says) (g .spot),
+      lines-more (c .before .before .before .before .before .before .before .before .before .before .loop .inv .3) (c .before .before .before .before .before .before .before .before .before .loop-test .taken) (g .says) (g .spot),
     )
 
 same-length-2 : tie.Need-same-length-2 Inv-loop μ-loop
@@ -123,5 +126,5 @@ returns-2 c =
 pub take-terms-spec : {M : Type 1} → statement M
 take-terms-spec =
     tie.close
-    (tie.spec Inv-loop μ-loop loop-holds mul-first add-last mul-part sub-part part-part-start part-part-end take-term-requires enum-known-step
-    enum-told asks-nothing same-length returns mul-slots array-set-from-slots add-n loop-less loop-again same-length-2 returns-2)
+    (tie.spec Inv-loop μ-loop loop-holds mul-first add-last mul-part sub-part part-part-start part-part-end slice-aggregate-take-term take-term-requires enum-known-step
+    enum-told asks-nothing same-length returns asks-nothing mul-slots array-write-slots add-n loop-less loop-again same-length-2 returns-2)

@@ -17,20 +17,23 @@ abbrev μ-loop : tie.MeasureT-loop
 loop-holds : tie.Need-loop-holds Inv-loop μ-loop
 loop-holds c = progress-start (c .before .before .before .before .before .args .t1) (c .before .before .before .before .before .args .store .now) (c .before .before .before .before .before .args .older .now) (c .before .before .before .before .before .args .before .now) (c .before .before .before .before .before .args .work .now) (c .before .before .before .before .before .pre .0) (c .before .before .before .before .before .pre .1) (c .before .before .before .before .before .pre .2)
 
-mul-slot : tie.Need-mul-slot Inv-loop μ-loop
-mul-slot c = omega arith
+mul-word : tie.Need-mul-word Inv-loop μ-loop
+mul-word c = omega arith
 
-element-copy-out-slot : tie.Need-element-copy-out-slot Inv-loop μ-loop
-element-copy-out-slot c = search needs
+element-copy-out-word : tie.Need-element-copy-out-word Inv-loop μ-loop
+element-copy-out-word c = search needs
+
+unpack-requires : tie.Need-unpack-requires Inv-loop μ-loop
+unpack-requires c κs = tt
 
 slice-aggregate-next-term : tie.Need-slice-aggregate-next-term Inv-loop μ-loop
 slice-aggregate-next-term c = search needs
 
 slice-aggregate-next-term-2 : tie.Need-slice-aggregate-next-term-2 Inv-loop μ-loop
-slice-aggregate-next-term-2 c = sym (c .before .before .before .before .loop .inv .size)
+slice-aggregate-next-term-2 c = sym (c .before .before .before .before .before .loop .inv .size)
 
 next-term-requires : tie.Need-next-term-requires Inv-loop μ-loop
-next-term-requires c κs = (c .before .before .before .before .before .loop .inv .lowBefore, c .before .before .before .before .before .loop .inv .low, omega (arith, c .before .before .before .before .before .loop .inv .room, c .before .before .before .before .before .loop .inv .long))
+next-term-requires c κs = (c .before .before .before .before .before .before .loop .inv .lowBefore, c .before .before .before .before .before .before .loop .inv .low, omega (arith, c .before .before .before .before .before .before .loop .inv .room, c .before .before .before .before .before .before .loop .inv .long))
 
 enum-known-built : tie.Need-enum-known-built Inv-loop μ-loop
 enum-known-built c = search needs
@@ -39,22 +42,22 @@ enum-told : tie.Need-enum-told Inv-loop μ-loop
 enum-told c = search needs
 
 same-length : tie.Need-same-length Inv-loop μ-loop
-same-length c = c .before .before .before .before .next-term .kept .1 .1 .1 .1 .1 .1 .1 .0 ∙ c .before .before .before .before .before .before .before .before .before .before .loop .inv .long
+same-length c = c .before .before .before .before .next-term .kept .1 .1 .1 .1 .1 .1 .1 .0 ∙ c .before .before .before .before .before .before .before .before .before .before .before .loop .inv .long
 
 returns : tie.Need-returns Inv-loop μ-loop
-returns c = progress-large (c .before .before .before .before .before .before .before .before .before .before .before .before .before .before .before .before .args .t1) (c .before .before .before .before .before .before .before .before .before .before .before .before .before .before .before .before .args .store .now) (c .before .before .before .before .before .before .before .before .before .before .before .before .before .before .before .before .args .older .now) (c .before .before .before .before .before .before .before .before .before .before .before .before .before .before .before .before .args .before .now) (c .before .before .before .before .before .before .before .before .before .before .before .before .before .before .before .before .args .work .now) (c .before .before .before .before .before .before .before .before .before .before .loop .work) (c .before .before .before .before .before .before .before .before .before .before .loop .this) (c .before .before .before .before .before .before .before .before .before .before .loop .n) (c .before .before .before .before .before .before .before .before .before .before .loop .inv) _ (c .before .before .before .before .before .before .before .before .before .loop-test .taken) (rw (c .enum-told .given .1) at (c .before .before .before .before .next-term .ensures))
+returns c = progress-large (c .before .before .before .before .before .before .before .before .before .before .before .before .before .before .before .before .before .args .t1) (c .before .before .before .before .before .before .before .before .before .before .before .before .before .before .before .before .before .args .store .now) (c .before .before .before .before .before .before .before .before .before .before .before .before .before .before .before .before .before .args .older .now) (c .before .before .before .before .before .before .before .before .before .before .before .before .before .before .before .before .before .args .before .now) (c .before .before .before .before .before .before .before .before .before .before .before .before .before .before .before .before .before .args .work .now) (c .before .before .before .before .before .before .before .before .before .before .before .loop .work) (c .before .before .before .before .before .before .before .before .before .before .before .loop .this) (c .before .before .before .before .before .before .before .before .before .before .before .loop .n) (c .before .before .before .before .before .before .before .before .before .before .before .loop .inv) _ (c .before .before .before .before .before .before .before .before .before .before .loop-test .taken) (rw (c .enum-told .given .1, c .before .before .before .before .before .before .before .before .unpack .ensures) at (c .before .before .before .before .next-term .ensures))
 
 slice-aggregate-left-of : tie.Need-slice-aggregate-left-of Inv-loop μ-loop
-slice-aggregate-left-of c = sym (c .before .before .before .before .before .before .before .before .before .before .before .before .loop .inv .size)
+slice-aggregate-left-of c = sym (c .before .before .before .before .before .before .before .before .before .before .before .before .before .loop .inv .size)
 
 left-of-requires : tie.Need-left-of-requires Inv-loop μ-loop
-left-of-requires c κs = c .before .before .before .before .before .before .before .before .before .before .before .before .loop .inv .low
+left-of-requires c κs = c .before .before .before .before .before .before .before .before .before .before .before .before .before .loop .inv .low
 
 same-length-2 : tie.Need-same-length-2 Inv-loop μ-loop
-same-length-2 c = c .before .before .before .before .before .before .before .before .next-term .kept .1 .1 .1 .1 .1 .1 .1 .0 ∙ c .before .before .before .before .before .before .before .before .before .before .before .before .before .before .loop .inv .long
+same-length-2 c = c .before .before .before .before .before .before .before .before .next-term .kept .1 .1 .1 .1 .1 .1 .1 .0 ∙ c .before .before .before .before .before .before .before .before .before .before .before .before .before .before .before .loop .inv .long
 
 returns-2 : tie.Need-returns-2 Inv-loop μ-loop
-returns-2 c = progress-over (c .before .before .before .before .before .before .before .before .before .before .before .before .before .before .before .before .before .before .before .before .args .t1) (c .before .before .before .before .before .before .before .before .before .before .before .before .before .before .before .before .before .before .before .before .args .store .now) (c .before .before .before .before .before .before .before .before .before .before .before .before .before .before .before .before .before .before .before .before .args .older .now) (c .before .before .before .before .before .before .before .before .before .before .before .before .before .before .before .before .before .before .before .before .args .before .now) (c .before .before .before .before .before .before .before .before .before .before .before .before .before .before .before .before .before .before .before .before .args .work .now) (c .before .before .before .before .before .before .before .before .before .before .before .before .before .before .loop .work) (c .before .before .before .before .before .before .before .before .before .before .before .before .before .before .loop .this) (c .before .before .before .before .before .before .before .before .before .before .before .before .before .before .loop .n) (c .before .before .before .before .before .before .before .before .before .before .before .before .before .before .loop .inv) _ (c .before .before .before .before .built .given .0 .0) (c .before .before .before .before .before .before .before .before .before .before .before .before .before .loop-test .taken) (rw (c .before .before .before .before .built .given .1) at (c .before .before .before .before .before .before .before .before .next-term .ensures)) (omega arith)
+returns-2 c = progress-over (c .before .before .before .before .before .before .before .before .before .before .before .before .before .before .before .before .before .before .before .before .before .args .t1) (c .before .before .before .before .before .before .before .before .before .before .before .before .before .before .before .before .before .before .before .before .before .args .store .now) (c .before .before .before .before .before .before .before .before .before .before .before .before .before .before .before .before .before .before .before .before .before .args .older .now) (c .before .before .before .before .before .before .before .before .before .before .before .before .before .before .before .before .before .before .before .before .before .args .before .now) (c .before .before .before .before .before .before .before .before .before .before .before .before .before .before .before .before .before .before .before .before .before .args .work .now) (c .before .before .before .before .before .before .before .before .before .before .before .before .before .before .before .loop .work) (c .before .before .before .before .before .before .before .before .before .before .before .before .before .before .before .loop .this) (c .before .before .before .before .before .before .before .before .before .before .before .before .before .before .before .loop .n) (c .before .before .before .before .before .before .before .before .before .before .before .before .before .before .before .loop .inv) _ (c .before .before .before .before .built .given .0 .0) (c .before .before .before .before .before .before .before .before .before .before .before .before .before .before .loop-test .taken) (rw (c .before .before .before .before .built .given .1, c .before .before .before .before .before .before .before .before .before .before .before .before .unpack .ensures) at (c .before .before .before .before .before .before .before .before .next-term .ensures)) (omega arith)
 
 mul-this : tie.Need-mul-this Inv-loop μ-loop
 mul-this c = search needs
@@ -63,7 +66,7 @@ array-read-this : tie.Need-array-read-this Inv-loop μ-loop
 array-read-this c = search needs
 
 add-this : tie.Need-add-this Inv-loop μ-loop
-add-this c = omega (arith, c .before .before .before .before .before .before .before .before .before .before .before .before .before .before .loop .inv .low (c .before .before .before .before .before .before .before .before .before .before .before .before .before .before .loop .n))
+add-this c = omega (arith, c .before .before .before .before .before .before .before .before .before .before .before .before .before .before .before .loop .inv .low (c .before .before .before .before .before .before .before .before .before .before .before .before .before .before .before .loop .n))
 
 add-this-2 : tie.Need-add-this-2 Inv-loop μ-loop
 add-this-2 c = search needs
@@ -81,7 +84,7 @@ loop-less : tie.Need-loop-less Inv-loop μ-loop
 loop-less c = omega arith
 
 loop-again : tie.Need-loop-again Inv-loop μ-loop
-loop-again c = progress-step (c .before .before .before .before .before .before .before .before .before .before .before .before .before .before .before .before .before .before .before .before .args .t1) (c .before .before .before .before .before .before .before .before .before .before .before .before .before .before .before .before .before .before .before .before .args .store .now) (c .before .before .before .before .before .before .before .before .before .before .before .before .before .before .before .before .before .before .before .before .args .older .now) (c .before .before .before .before .before .before .before .before .before .before .before .before .before .before .before .before .before .before .before .before .args .before .now) (c .before .before .before .before .before .before .before .before .before .before .before .before .before .before .before .before .before .before .before .before .args .work .now) (c .before .before .before .before .before .before .before .before .before .before .before .before .before .before .loop .work) (c .before .before .before .before .before .before .before .before .before .before .before .before .before .before .loop .this) (c .before .before .before .before .before .before .before .before .before .before .before .before .before .before .loop .n) (c .before .before .before .before .before .before .before .before .before .before .before .before .before .before .loop .inv) _ (c .before .before .before .before .built .given .0 .0) (c .before .before .before .before .before .before .before .before .before .before .before .before .before .loop-test .taken) (rw (c .before .before .before .before .built .given .1) at (c .before .before .before .before .before .before .before .before .next-term .ensures)) (omega arith) (c .before .before .before .before .before .before .before .before .next-term .kept .1 .1 .1 .1 .1 .1 .1 .0)
+loop-again c = progress-step (c .before .before .before .before .before .before .before .before .before .before .before .before .before .before .before .before .before .before .before .before .before .args .t1) (c .before .before .before .before .before .before .before .before .before .before .before .before .before .before .before .before .before .before .before .before .before .args .store .now) (c .before .before .before .before .before .before .before .before .before .before .before .before .before .before .before .before .before .before .before .before .before .args .older .now) (c .before .before .before .before .before .before .before .before .before .before .before .before .before .before .before .before .before .before .before .before .before .args .before .now) (c .before .before .before .before .before .before .before .before .before .before .before .before .before .before .before .before .before .before .before .before .before .args .work .now) (c .before .before .before .before .before .before .before .before .before .before .before .before .before .before .before .loop .work) (c .before .before .before .before .before .before .before .before .before .before .before .before .before .before .before .loop .this) (c .before .before .before .before .before .before .before .before .before .before .before .before .before .before .before .loop .n) (c .before .before .before .before .before .before .before .before .before .before .before .before .before .before .before .loop .inv) _ (c .before .before .before .before .built .given .0 .0) (c .before .before .before .before .before .before .before .before .before .before .before .before .before .before .loop-test .taken) (rw (c .before .before .before .before .built .given .1, c .before .before .before .before .before .before .before .before .before .before .before .before .unpack .ensures) at (c .before .before .before .before .before .before .before .before .next-term .ensures)) (omega arith) (c .before .before .before .before .before .before .before .before .next-term .kept .1 .1 .1 .1 .1 .1 .1 .0)
 
 same-length-3 : tie.Need-same-length-3 Inv-loop μ-loop
 same-length-3 c = c .before .loop .inv .long
@@ -92,6 +95,6 @@ returns-3 c = progress-end (c .before .before .before .before .before .before .b
 pub pass-spec : {M : Type 1} → statement M
 pass-spec =
     tie.close
-    (tie.spec Inv-loop μ-loop loop-holds mul-slot element-copy-out-slot slice-aggregate-next-term slice-aggregate-next-term-2 next-term-requires
+    (tie.spec Inv-loop μ-loop loop-holds mul-word element-copy-out-word unpack-requires slice-aggregate-next-term slice-aggregate-next-term-2 next-term-requires
     enum-known-built enum-told same-length returns slice-aggregate-left-of left-of-requires same-length-2 returns-2 mul-this array-read-this
     add-this add-this-2 mul-this-2 array-write-this add-n loop-less loop-again same-length-3 returns-3)
