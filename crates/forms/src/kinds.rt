@@ -65,10 +65,11 @@ pub fn find_kind(line: &[u8], at: usize) -> KindStep
     requires { ⌜ (1 ≤ at) × (at ≤ length (now line)) ⌝ }
     ensures { λ r. ⌜ KindRead (now (line .entry)) (ofKind kinds (drop at (now (line .entry)))) r ⌝ }
 {
+    let words = KINDS;
     let mut far = 0;
     let mut k = 0;
     while k < 17 {
-        let word = read_packed(line, at, KINDS[k]);
+        let word = read_packed(line, at, words[k]);
         match word {
             Step::To(_, next) => {
                 return KindStep::To(k, next, far);

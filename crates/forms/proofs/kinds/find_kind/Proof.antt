@@ -8,10 +8,10 @@ use Rattle.forms.proofs.kinds.find_kind.Statement.{statement}
 use Rattle.forms.proofs.kinds.find_kind.Tie as tie
 
 abbrev Inv-loop : tie.InvT-loop
-Inv-loop line at far₀ k₀ far k = Sought line at far k
+Inv-loop line at words far₀ k₀ far k = Sought line at far k
 
 abbrev μ-loop : tie.MeasureT-loop
-μ-loop line at far₀ k₀ far k = 17 - k
+μ-loop line at words far₀ k₀ far k = 17 - k
 
 loop-holds : tie.Need-loop-holds Inv-loop μ-loop
 loop-holds c = sought-none _ _
