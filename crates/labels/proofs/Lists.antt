@@ -4,7 +4,7 @@ use mathlib.Core.Path.{_≡_, refl, sym, ap, ap₂, subst, _∙_}
 use mathlib.Core.Bool.{true, false}
 use mathlib.Core.List.{List, [], _∷_, map}
 use Prim.Native.Nat.{ℕ, zero, suc, _+_, _*_, _-_, _/_, _%_, _^_, _≤_, _<_, zero-le}
-use native.Mathlib.Nat.{le-refl, one-mul, mul-zero, mul-le-mul, pow-le-pow-right}
+use native.Mathlib.Nat.{le-refl, one-mul, zero-mul, mul-zero, mul-le-mul, pow-le-pow-right}
 use native.Mathlib.Numerals.{add-one}
 use native.Mathlib.Omega.{arith}
 use borrow.Author.Tests.{eq-eqb, ne-eqb}
@@ -165,13 +165,24 @@ moved-more {to} {w} {i} {rest} {word} x h =
     let e = rw (more, moved-step to i (12 - (i + 1)) rest, ← add-one i) at (x .moved) in
     record { within = omega arith; fits = let k = weight-fits (to i) (rest % 32) (omega arith) in let l = x .fits in omega arith; moved = omega arith }
 
-renamed-none : (to : ℕ → ℕ) (rest : ℕ) → number (renamedFrom 12 12 to (labelOf 0 rest)) ≡ 0
+renamed-none : (to : ℕ → ℕ) (i rest : ℕ) → number (renamedFrom i 12 to (labelOf 0 rest)) ≡ 0
 unfolding renamedFrom labelOf number
-renamed-none to rest = refl
+renamed-none to i rest = refl
 
 pub moved-all : {to : ℕ → ℕ} {w i rest word : ℕ} → Moved to w i rest word → 12 ≤ i → word ≡ number (renamed 12 to (labelOf 12 w))
 moved-all {to} {w} {i} {rest} {word} x h =
     let t : i ≡ 12 = let l = x .within in omega arith in
     let e = rw t at (x .moved) in
-    let z = renamed-none to rest in
+    let z = renamed-none to 12 rest in
+    omega arith
+
+renamed-zero : (to : ℕ → ℕ) (i more : ℕ) → number (renamedFrom i 12 to (labelOf more 0)) ≡ 0
+renamed-zero to i zero = renamed-none to i 0
+renamed-zero to i (suc more) = moved-step to i more 0 ∙ ap₂ _+_ (zero-mul (number (several 12 (to i) 1))) (renamed-zero to (suc i) more)
+
+-- nothing is left to be moved
+pub moved-early : {to : ℕ → ℕ} {w i rest word : ℕ} → Moved to w i rest word → rest ≡ 0 → word ≡ number (renamed 12 to (labelOf 12 w))
+moved-early {to} {w} {i} {rest} {word} x e =
+    let m = rw e at (x .moved) in
+    let z = renamed-zero to i (12 - i) in
     omega arith

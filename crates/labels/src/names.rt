@@ -79,7 +79,7 @@ pub fn renaming(pairs: &[u64]) -> [u64; 12]
     to
 }
 
-// Every name goes where the map sends it, all at once.
+// Every name goes where the map sends it, all at once; names past the last that occurs need no look.
 pub fn rename(a: Label, to: [u64; 12]) -> Label
     ensures { λ r. ⌜ r ≡ packed (number (renamed 12 (λ n. getD to n 0) (labelOf 12 (code a)))) ⌝ }
 {
@@ -87,6 +87,9 @@ pub fn rename(a: Label, to: [u64; 12]) -> Label
     let mut word = 0u64;
     let mut i = 0;
     while i < NAMES {
+        if rest == 0 {
+            return Label { word };
+        }
         word += (rest % 32) * single(to[i]).word;
         rest /= 32;
         i += 1;

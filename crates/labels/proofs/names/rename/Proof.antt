@@ -6,7 +6,7 @@ use native.Mathlib.Omega.{arith}
 use borrow.Author.Needs.{needs}
 use lib.ListN.{getD}
 use Rattle.labels.specs.Packing.{packed}
-use Rattle.labels.proofs.Lists.{Moved, moved-start, moved-more, moved-all, weight-fits}
+use Rattle.labels.proofs.Lists.{Moved, moved-start, moved-more, moved-early, moved-all, weight-fits}
 use Rattle.labels.proofs.names.rename.Statement.{statement}
 use Rattle.labels.proofs.names.rename.Tie as tie
 
@@ -19,6 +19,9 @@ abbrev μ-loop : tie.MeasureT-loop
 loop-holds : tie.Need-loop-holds Inv-loop μ-loop
 loop-holds c = moved-start (λ n. getD (c .args .t2) n 0) (c .args .a .word)
 
+returns : tie.Need-returns Inv-loop μ-loop
+returns c = ap packed (moved-early (c .before .before .loop .inv) (c .if1 .taken))
+
 mul-single : tie.Need-mul-single Inv-loop μ-loop
 mul-single c = omega arith
 
@@ -29,16 +32,16 @@ single-requires : tie.Need-single-requires Inv-loop μ-loop
 single-requires c κs = search needs
 
 -- what the i-th name adds
-added : (c : tie.After-struct-known Inv-loop μ-loop) → c .before .before .before .loop .rest % 32 * c .before .single .result .word ≤ 31 * 2 ^ 55
+added : (c : tie.After-struct-known Inv-loop μ-loop) → c .before .before .before .before .loop .rest % 32 * c .before .single .result .word ≤ 31 * 2 ^ 55
 added c =
     rw (ap (λ x. x .word) (c .before .single .ensures))
-    (weight-fits (getD (c .before .before .before .before .args .t2) (c .before .before .before .loop .i) 0) (c .before .before .before .loop .rest % 32) (omega arith))
+    (weight-fits (getD (c .before .before .before .before .before .args .t2) (c .before .before .before .before .loop .i) 0) (c .before .before .before .before .loop .rest % 32) (omega arith))
 
 mul-word : tie.Need-mul-word Inv-loop μ-loop
 mul-word c = omega (arith, added c)
 
 add-word : tie.Need-add-word Inv-loop μ-loop
-add-word c = omega (arith, added c, c .before .before .before .loop .inv .fits)
+add-word c = omega (arith, added c, c .before .before .before .before .loop .inv .fits)
 
 add-i : tie.Need-add-i Inv-loop μ-loop
 add-i c = omega arith
@@ -47,12 +50,12 @@ loop-less : tie.Need-loop-less Inv-loop μ-loop
 loop-less c = omega arith
 
 loop-again : tie.Need-loop-again Inv-loop μ-loop
-loop-again c = rw (ap (λ x. x .word) (c .before .single .ensures)) (moved-more (c .before .before .before .loop .inv) (c .before .before .loop-test .taken))
+loop-again c = rw (ap (λ x. x .word) (c .before .single .ensures)) (moved-more (c .before .before .before .before .loop .inv) (c .before .before .before .loop-test .taken))
 
-returns : tie.Need-returns Inv-loop μ-loop
-returns c = ap packed (moved-all (c .before .loop .inv) (c .loop-test .left))
+returns-2 : tie.Need-returns-2 Inv-loop μ-loop
+returns-2 c = ap packed (moved-all (c .before .loop .inv) (c .loop-test .left))
 
 pub rename-spec : {M : Type 1} → statement M
 rename-spec =
     tie.close
-    (tie.spec Inv-loop μ-loop loop-holds mul-single array-read-single single-requires mul-word add-word add-i loop-less loop-again returns)
+    (tie.spec Inv-loop μ-loop loop-holds returns mul-single array-read-single single-requires mul-word add-word add-i loop-less loop-again returns-2)
