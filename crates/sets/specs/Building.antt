@@ -115,6 +115,16 @@ offerOf Rename list w = Next (packed (number (renamed 12 (λ n. getD (targets (p
 offerOf Comm list w = Next (packed w)
 offerOf Allow list w = pickOffer (eqb w 0 || listedIn w (held list)) (Next (packed w))
 
+-- the map that a renaming goes by
+abbrev pub MapFor : Way → (list map : List ℕ) → Type 0
+MapFor Rename list map = map ≡ targets (pairsIn list)
+MapFor Copy list map = Unit {0}
+MapFor (Plus a) list map = Unit {0}
+MapFor Block list map = Unit {0}
+MapFor Hide list map = Unit {0}
+MapFor Comm list map = Unit {0}
+MapFor Allow list map = Unit {0}
+
 abbrev pub depthOf : Way → ℕ
 depthOf Copy = 0
 depthOf (Plus a) = 0

@@ -24,9 +24,8 @@ ghost use Prim.Native.Nat.{_-_, _≤_};
 ghost use lib.Dec.{eqb};
 ghost use lib.ListN.{length};
 ghost use Rattle.labels.specs.Packing.{held, code};
-ghost use Rattle.labels.specs.Names.{targets, pairsIn};
 ghost use Rattle.sets.specs.Parts.{roomAt, partBefore};
-ghost use Rattle.sets.specs.Building.{Grown, each, imaged, listedIn, offerOf, depthOf, taken, closed, exchangesIn};
+ghost use Rattle.sets.specs.Building.{Grown, each, imaged, listedIn, MapFor, offerOf, depthOf, taken, closed, exchangesIn};
 
 // Whether a label is in a list of labels, or is tau.
 fn allowed(list: &[u64], label: Label) -> bool
@@ -45,9 +44,19 @@ fn allowed(list: &[u64], label: Label) -> bool
     false
 }
 
-// What a way makes of a label. The map of a renaming is made of the list once for the part.
+// The map of a renaming, made of the list once for the part; the other ways have none.
+fn map_for(way: Way, list: &[u64]) -> [u64; 12]
+    ensures { λ r. ⌜ MapFor way (now (list .entry)) r ⌝ }
+{
+    match way {
+        Way::Rename => renaming(list),
+        _ => [0u64; 12],
+    }
+}
+
+// What a way makes of a label.
 fn made(way: Way, list: &[u64], map: [u64; 12], label: Label) -> Offer
-    requires { ⌜ map ≡ targets (pairsIn (now list)) ⌝ }
+    requires { ⌜ MapFor way (now list) map ⌝ }
     ensures { λ r. ⌜ r ≡ offerOf way (now (list .entry)) (code label) ⌝ }
 {
     match way {
@@ -130,7 +139,7 @@ pub fn add_image(
 {
     let mut count = reach(words, at, len);
     let end = end_before(words, to, at);
-    let map = renaming(list);
+    let map = map_for(way, list);
     let mut i = from;
     while i < end {
         let label = read_label(words, i);

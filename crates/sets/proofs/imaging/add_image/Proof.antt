@@ -26,8 +26,8 @@ reach-requires c κs = search needs
 end-before-requires : tie.Need-end-before-requires Inv-loop μ-loop
 end-before-requires c κs = search needs
 
-renaming-requires : tie.Need-renaming-requires Inv-loop μ-loop
-renaming-requires c κs = search needs
+map-for-requires : tie.Need-map-for-requires Inv-loop μ-loop
+map-for-requires c κs = search needs
 
 loop-holds : tie.Need-loop-holds Inv-loop μ-loop
 loop-holds c =
@@ -39,7 +39,7 @@ read-label-requires : tie.Need-read-label-requires Inv-loop μ-loop
 read-label-requires c κs = search needs
 
 made-requires : tie.Need-made-requires Inv-loop μ-loop
-made-requires c κs = c .before .before .before .before .before .renaming .ensures
+made-requires c κs = c .before .before .before .before .before .map-for .ensures
 
 depth-requires : tie.Need-depth-requires Inv-loop μ-loop
 depth-requires c κs = search needs
@@ -89,5 +89,5 @@ returns-2 c =
 pub add-image-spec : {M : Type 1} → statement M
 add-image-spec =
     tie.close
-    (tie.spec Inv-loop μ-loop reach-requires end-before-requires renaming-requires loop-holds read-label-requires made-requires depth-requires
+    (tie.spec Inv-loop μ-loop reach-requires end-before-requires map-for-requires loop-holds read-label-requires made-requires depth-requires
     take-requires enum-known-step enum-told same-length returns add-i loop-less loop-again same-length-2 returns-2)

@@ -70,7 +70,7 @@ returns-6 : tie.Need-returns-6
 returns-6 c = rw (c .before .enum-told4 .given .1) (ap Next (c .hide .ensures))
 
 returns-7 : tie.Need-returns-7
-returns-7 c = rw (c .before .enum-told5 .given .1) (ap Next (c .rename .ensures ∙ ap (λ to. packed (number (renamed 12 (λ n. getD to n 0) (labelOf 12 (c .before .before .before .before .args .label .word))))) (c .before .before .before .before .pre)))
+returns-7 c = rw (c .before .enum-told5 .given .1) (ap Next (c .rename .ensures ∙ ap (λ to. packed (number (renamed 12 (λ n. getD to n 0) (labelOf 12 (c .before .before .before .before .args .label .word))))) (rw (c .before .enum-told5 .given .1) at (c .before .before .before .before .pre))))
 
 returns-8 : tie.Need-returns-8
 returns-8 c = rw (c .enum-told6 .given .1)
