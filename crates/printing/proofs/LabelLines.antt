@@ -2,7 +2,7 @@
 -- Assumes nothing.
 use mathlib.Core.Path.{_≡_, sym, ap, _∙_}
 use mathlib.Core.List.{List, [], _∷_, _++_, map}
-use Prim.Native.Nat.{ℕ, _+_, _<_}
+use Prim.Native.Nat.{ℕ, _+_, _*_, _≤_, _<_, zero-le}
 use native.Mathlib.Numerals.{add-one}
 use native.Mathlib.Omega.{arith}
 use lib.ListN.{length, drop, getD, length-append}
@@ -11,6 +11,7 @@ use Rattle.meaning.specs.Bytes.{Text, ascii}
 use Rattle.printing.specs.Printed.{line, labelText, labelLines}
 use Rattle.printing.specs.Areas.{wordsOf, countsOf}
 use Rattle.printing.proofs.Line.{length-line}
+use Rattle.printing.proofs.Tau.{length-label}
 
 abbrev pub labelLine : List ℕ → ℕ → Text
 labelLine names label = line (ascii "label=") (labelText (wordsOf names) (countsOf label))
@@ -33,3 +34,12 @@ pub length-lines : (names labels : List ℕ) (i : ℕ) → i < length labels →
 length-lines names labels i h =
     let value = labelText (wordsOf names) (countsOf (getD labels i 0)) in
     rw (lines-step names labels i h, length-append (line (ascii "label=") value) (linesFrom names labels (i + 1)), length-line (ascii "label=") value) (omega arith)
+
+-- no line is longer than 151 bytes
+pub lines-short : (names labels : List ℕ) → length (labelLines (wordsOf names) (map countsOf labels)) ≤ 151 * length labels
+unfolding labelLines
+lines-short names [] = zero-le
+lines-short names (l ∷ labels) =
+    let value = labelText (wordsOf names) (countsOf l) in
+    rw (length-append (line (ascii "label=") value) (labelLines (wordsOf names) (map countsOf labels)), length-line (ascii "label=") value)
+    (omega (arith, length-label names l, lines-short names labels))

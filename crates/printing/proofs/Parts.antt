@@ -3,7 +3,7 @@
 use mathlib.Core.Path.{_≡_, refl, sym, ap, _∙_}
 use mathlib.Core.Bool.{true, false}
 use mathlib.Core.List.{List, [], _∷_, _++_}
-use Prim.Native.Nat.{ℕ, suc, _+_, _-_, _/_, _%_, _≤_, _<_}
+use Prim.Native.Nat.{ℕ, zero, suc, _+_, _-_, _/_, _%_, _≤_, _<_}
 use native.Mathlib.Nat.{add-zero}
 use native.Mathlib.Numerals.{add-one}
 use native.Mathlib.Omega.{arith}
@@ -93,6 +93,13 @@ parts-step written names i rest h e =
     rw (more, name)
     (parts-next written (nameOf 8 (getD names i 0)) (wordsOf (drop (i + 1) names)) (rest % 32) (labelOf (12 - (i + 1)) (rest / 32)))
 
+-- Where nothing is left of the word, nothing is to come.
+parts-none : (ws : List Text) (n : ℕ) → partsText ws (labelOf n 0) ≡ []
+unfolding labelOf partsText
+parts-none ws zero = refl
+parts-none [] (suc n) = refl
+parts-none (w ∷ ws) (suc n) = parts-none ws n
+
 -- A turn of the writer's loop, and its end.
 module _ {goal before mid : Text} {k : ℕ} (names : List ℕ) (i rest : ℕ) (u : Underway goal (onward k (partsFrom names i rest)) before mid k) where
   pub parts-room : i < 12 → length names ≡ 12 → length (nextText k (nameOf 8 (getD names i 0)) (rest % 32)) ≤ length (lent k mid)
@@ -104,6 +111,9 @@ module _ {goal before mid : Text} {k : ℕ} (names : List ℕ) (i rest : ℕ) (u
       Written (nextText k (nameOf 8 (getD names i 0)) (rest % 32)) (lent k mid) part r →
       Underway goal (onward (k + r) (partsFrom names (i + 1) (rest / 32))) before (back k mid part) (k + r)
   parts-again h e v = step (rw (rw (← v .size) at (parts-step k names i rest h e)) at u) v
+
+  pub parts-early : rest ≡ 0 → Written goal before mid k
+  parts-early e = end (rw (ap (λ (r : ℕ). onward k (partsFrom names i r)) e ∙ ap (onward k) (parts-none (wordsOf (drop i names)) (12 - i)) ∙ onward-nil k) at u)
 
   pub parts-end : i ≡ 12 → Written goal before mid k
   unfolding labelOf partsText

@@ -49,7 +49,7 @@ fn write_next(text: &mut [u8], written: usize, name: u64, times: usize) -> usize
     1 + write_part(&mut text[1..], name, times)
 }
 
-// A label's counts are the digits of its number to base 32.
+// A label's counts are the digits of its number to base 32; past the last that is not 0 nothing is written.
 fn write_parts(text: &mut [u8], names: [u64; NAMES], label: u64) -> usize
     requires { ⌜ length (partsText (wordsOf names) (countsOf label)) ≤ length (now text) ⌝ }
     ensures { λ r. ⌜ Written (partsText (wordsOf names) (countsOf label)) (now (text .entry)) (now (text .exit)) r ⌝ }
@@ -58,6 +58,9 @@ fn write_parts(text: &mut [u8], names: [u64; NAMES], label: u64) -> usize
     let mut at = 0;
     let mut i = 0;
     while i < NAMES {
+        if rest == 0 {
+            return at;
+        }
         let times = (rest % 32) as usize;
         at += write_next(&mut text[at..], at, names[i], times);
         rest = rest / 32;

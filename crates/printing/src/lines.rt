@@ -74,10 +74,17 @@ pub(crate) fn write_label_lines(text: &mut [u8], names: [u64; NAMES], labels: &[
     at
 }
 
-// The room goes down line by line: the lengths of all lines together could pass a word.
+// A label of the longest, with the bytes around it.
+const LONGEST_LINE: usize = 151;
+
+// Where the longest lines would fit, no length is worked out. Else the room goes down line by line: the lengths of all lines
+// together could pass a word.
 pub(crate) fn label_lines_fit(names: [u64; NAMES], labels: &[u64], room: usize) -> bool
     ensures { λ r. ⌜ r ≡ leb (length (labelLines (wordsOf names) (map countsOf (now (labels .entry))))) room ⌝ }
 {
+    if labels.len() <= room / LONGEST_LINE {
+        return true;
+    }
     let mut left = room;
     let mut i = 0;
     while i < labels.len() {

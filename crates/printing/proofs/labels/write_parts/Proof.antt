@@ -7,7 +7,7 @@ use native.Mathlib.Omega.{arith}
 use Rattle.printing.specs.Printed.{partsText}
 use Rattle.printing.specs.Areas.{wordsOf, countsOf}
 use Rattle.printing.proofs.Writing.{Underway, start, kept, room}
-use Rattle.printing.proofs.Parts.{onward, partsFrom, parts-start, parts-room, parts-again, parts-end}
+use Rattle.printing.proofs.Parts.{onward, partsFrom, parts-start, parts-room, parts-again, parts-early, parts-end}
 use Rattle.printing.proofs.labels.write_parts.Statement.{statement}
 use Rattle.printing.proofs.labels.write_parts.Tie as tie
 
@@ -21,8 +21,14 @@ abbrev μ-loop : tie.MeasureT-loop
 loop-holds : tie.Need-loop-holds Inv-loop μ-loop
 loop-holds c = (start (parts-start (partsText (wordsOf (c .before .args .t2)) (countsOf (c .before .args .label)))) (c .before .pre), omega arith)
 
+same-length : tie.Need-same-length Inv-loop μ-loop
+same-length c = kept (c .before .before .loop .inv .0)
+
+returns : tie.Need-returns Inv-loop μ-loop
+returns c = parts-early (c .before .before .before .before .args .t2) (c .before .before .loop .i) (c .before .before .loop .rest) (c .before .before .loop .inv .0) (c .if1 .taken)
+
 sub-write-next : tie.Need-sub-write-next Inv-loop μ-loop
-sub-write-next c = omega (arith, room (c .before .loop .inv .0))
+sub-write-next c = omega (arith, room (c .before .before .loop .inv .0))
 
 part-write-next-start : tie.Need-part-write-next-start Inv-loop μ-loop
 part-write-next-start c = sub-write-next c
@@ -38,13 +44,13 @@ array-read-write-next c = omega arith
 
 write-next-requires : tie.Need-write-next-requires Inv-loop μ-loop
 write-next-requires c κs =
-    let l = c .before .before .loop in
-    parts-room (c .before .before .before .before .args .t2) (l .i) (l .rest) (l .inv .0) (omega arith) (omega arith)
+    let l = c .before .before .before .loop in
+    parts-room (c .before .before .before .before .before .args .t2) (l .i) (l .rest) (l .inv .0) (omega arith) (omega arith)
 
 loop-again : tie.Need-loop-again Inv-loop μ-loop
 loop-again c =
-    let l = c .before .before .before .before .before .loop in
-    (parts-again (c .before .before .before .before .before .before .before .args .t2) (l .i) (l .rest) (l .inv .0) (omega arith) (omega arith) (c .before .before .write-next .ensures), omega arith)
+    let l = c .before .before .before .before .before .before .loop in
+    (parts-again (c .before .before .before .before .before .before .before .before .args .t2) (l .i) (l .rest) (l .inv .0) (omega arith) (omega arith) (c .before .before .write-next .ensures), omega arith)
 
 add-at : tie.Need-add-at Inv-loop μ-loop
 add-at c = omega (arith, room (loop-again c .0), kept (loop-again c .0))
@@ -55,14 +61,14 @@ add-i c = omega arith
 loop-less : tie.Need-loop-less Inv-loop μ-loop
 loop-less c = omega arith
 
-same-length : tie.Need-same-length Inv-loop μ-loop
-same-length c = kept (c .before .loop .inv .0)
+same-length-2 : tie.Need-same-length-2 Inv-loop μ-loop
+same-length-2 c = kept (c .before .loop .inv .0)
 
-returns : tie.Need-returns Inv-loop μ-loop
-returns c = parts-end (c .before .before .before .args .t2) (c .before .loop .i) (c .before .loop .rest) (c .before .loop .inv .0) (omega arith)
+returns-2 : tie.Need-returns-2 Inv-loop μ-loop
+returns-2 c = parts-end (c .before .before .before .args .t2) (c .before .loop .i) (c .before .loop .rest) (c .before .loop .inv .0) (omega arith)
 
 pub write-parts-spec : {M : Type 1} → statement M
 write-parts-spec =
     tie.close
-    (tie.spec Inv-loop μ-loop loop-holds sub-write-next part-write-next-start part-write-next-end mul-write-next array-read-write-next
-    write-next-requires add-at add-i loop-less loop-again same-length returns)
+    (tie.spec Inv-loop μ-loop loop-holds same-length returns sub-write-next part-write-next-start part-write-next-end mul-write-next array-read-write-next
+    write-next-requires add-at add-i loop-less loop-again same-length-2 returns-2)

@@ -2,11 +2,11 @@
 -- The measure is the number of labels to come.
 -- Assumes nothing.
 use mathlib.Core.Path.{_≡_, sym, ap}
-use Prim.Native.Nat.{_-_, _+_, _≤_}
+use Prim.Native.Nat.{_-_, _+_, _*_, _≤_}
 use native.Mathlib.Omega.{arith}
 use borrow.Author.Tests.{le-leb, lt-leb}
 use lib.ListN.{length, getD}
-use Rattle.printing.proofs.LabelLines.{linesFrom, length-lines, lines-end}
+use Rattle.printing.proofs.LabelLines.{linesFrom, length-lines, lines-end, lines-short}
 use Rattle.printing.proofs.Tau.{length-label}
 use Rattle.printing.proofs.lines.label_lines_fit.Statement.{statement}
 use Rattle.printing.proofs.lines.label_lines_fit.Tie as tie
@@ -17,6 +17,12 @@ Inv-loop names labels room left₀ i₀ left i =
 
 abbrev μ-loop : tie.MeasureT-loop
 μ-loop names labels room left₀ i₀ left i = length labels - i
+
+returns : tie.Need-returns Inv-loop μ-loop
+returns c =
+    let a = c .before .before .args in
+    let k : 151 * length (a .labels .now) ≤ a .room = omega arith in
+    sym (le-leb (length (linesFrom (a .names) (a .labels .now) 0)) (a .room) (omega (arith, lines-short (a .names) (a .labels .now))))
 
 loop-holds : tie.Need-loop-holds Inv-loop μ-loop
 loop-holds c = omega arith
@@ -31,11 +37,11 @@ label-length-requires : tie.Need-label-length-requires Inv-loop μ-loop
 label-length-requires c κs = tt
 
 add-size : tie.Need-add-size Inv-loop μ-loop
-add-size c = omega (arith, length-label (c .before .before .before .before .before .args .names) (getD (c .before .before .before .before .before .args .labels .now) (c .before .before .before .loop .i) 0))
+add-size c = omega (arith, length-label (c .before .before .before .before .before .before .args .names) (getD (c .before .before .before .before .before .before .args .labels .now) (c .before .before .before .loop .i) 0))
 
-returns : tie.Need-returns Inv-loop μ-loop
-returns c =
-    let a = c .before .before .before .before .before .before .args in
+returns-2 : tie.Need-returns-2 Inv-loop μ-loop
+returns-2 c =
+    let a = c .before .before .before .before .before .before .before .args in
     let i = c .before .before .before .before .loop .i in
     sym (lt-leb (length (linesFrom (a .names) (a .labels .now) 0)) (a .room) (omega (arith, length-lines (a .names) (a .labels .now) i (omega arith))))
 
@@ -47,17 +53,17 @@ loop-less c = omega arith
 
 loop-again : tie.Need-loop-again Inv-loop μ-loop
 loop-again c =
-    let a = c .before .before .before .before .before .before .args in
+    let a = c .before .before .before .before .before .before .before .args in
     let i = c .before .before .before .before .loop .i in
     omega (arith, length-lines (a .names) (a .labels .now) i (omega arith))
 
-returns-2 : tie.Need-returns-2 Inv-loop μ-loop
-returns-2 c =
-    let a = c .before .before .before .args in
+returns-3 : tie.Need-returns-3 Inv-loop μ-loop
+returns-3 c =
+    let a = c .before .before .before .before .args in
     sym (le-leb (length (linesFrom (a .names) (a .labels .now) 0)) (a .room) (omega (arith, ap length (lines-end (a .names) (a .labels .now) (c .before .loop .i) (omega arith)))))
 
 pub label-lines-fit-spec : {M : Type 1} → statement M
 label-lines-fit-spec =
     tie.close
-    (tie.spec Inv-loop μ-loop loop-holds mul-label-length shared-slice-read-label-length label-length-requires add-size returns add-i loop-less
-    loop-again returns-2)
+    (tie.spec Inv-loop μ-loop returns loop-holds mul-label-length shared-slice-read-label-length label-length-requires add-size returns-2 add-i loop-less
+    loop-again returns-3)
