@@ -8,12 +8,11 @@ use native.Mathlib.Omega.{arith}
 use lib.Dec.{leb}
 use lib.ListN.{length}
 use borrow.Author.Tests.{leb-true}
-use Rattle.labels.specs.Packing.{packed}
 use Rattle.sets.specs.declared.Way.{Way}
-use Rattle.sets.specs.declared.Way.the-variants.{Copy, Plus}
+use Rattle.sets.specs.declared.Way.the-variants.{Copy}
 use Rattle.sets.specs.Building.{Building, goesOn, next, imaged, row, multiplied}
 use Rattle.sets.specs.Joining.{joined, ascent, fitting, united}
-use Rattle.sets.proofs.Steps.{Steady, steady-each, steady-enter, steady-imaged}
+use Rattle.sets.proofs.Steps.{Steady, steady-each, steady-enter, steady-imaged, steady-row}
 use Rattle.shapes.specs.Making.{leafBuilt, throughBuilt, eitherBuilt, jointBuilt, bothBuilt}
 use Rattle.rounds.specs.Terms.{fitted, copyBuilt, eitherAdded, jointAdded, bothAdded, madeOr}
 use Rattle.shapes.proofs.Filling.{length-zeros}
@@ -34,7 +33,7 @@ module _ (room : ℕ) where
   product-stays : (a b : List ℕ) → Stays (multiplied room a b)
   unfolding Steady
   product-stays a b s l =
-      let h = steady-each room (row room b) a (λ w. steady-each room (imaged room (Plus (packed w)) []) b (steady-imaged room (Plus (packed w)) [])) s in
+      let h = steady-each room (row room b) a (steady-row room b) s in
       omega arith
 
   pub joint-fits : (a b : List ℕ) → length (jointBuilt room a b [] .set) ≤ room

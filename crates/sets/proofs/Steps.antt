@@ -10,6 +10,7 @@ use borrow.Author.Tests.{ltb-true}
 use lib.Dec.{ltb}
 use lib.ListN.{length, length-append, length-take, length-drop}
 use Rattle.labels.specs.Packing.{code}
+use Rattle.labels.specs.Bags.{sumOf}
 use Rattle.sets.specs.declared.Inserted.{Inserted}
 use Rattle.sets.specs.declared.Inserted.the-variants.{Full, Present, Added}
 use Rattle.sets.specs.declared.Built.{Built}
@@ -19,7 +20,7 @@ use Rattle.sets.specs.declared.Offer.the-variants.{Nothing, TooLong, Nex
 use Rattle.sets.specs.declared.Way.{Way}
 use Rattle.sets.specs.Parts.{setAt, laid, roomAt}
 use Rattle.sets.specs.Inserting.{present, putIn, pickInserted, inserted, Entered}
-use Rattle.sets.specs.Building.{Building, done, stopped, pickBuilt, answerOf, goesOn, next, each, followed, enter, taken, Exchange, exchangesIn, exchangeOf, eachRule, closed, offerOf, depthOf, imaged, Grown}
+use Rattle.sets.specs.Building.{Building, done, stopped, pickBuilt, answerOf, goesOn, next, each, followed, enter, taken, summed, Exchange, exchangesIn, exchangeOf, eachRule, closed, offerOf, depthOf, imaged, added, row, Grown}
 use Rattle.sets.proofs.Laid.{Fits, length-setAt, laid-self, length-laid, setAt-laid, laid-laid}
 
 -- The length of a set under each step.
@@ -88,6 +89,12 @@ module _ (room : ℕ) where
 
   pub steady-imaged : (way : Way) (list : List ℕ) (w : ℕ) → Steady room (imaged room way list w)
   steady-imaged way list w = steady-taken (closed room (exchangesIn list) (depthOf way)) (offerOf way list w) (steady-closed (exchangesIn list) (depthOf way))
+
+  pub steady-added : (a w : ℕ) → Steady room (added room a w)
+  steady-added a w = steady-taken (enter room) (summed (sumOf a w)) steady-enter
+
+  pub steady-row : (b : List ℕ) (a : ℕ) → Steady room (row room b a)
+  steady-row b a = steady-each (added room a) b (steady-added a)
 
 -- What an answer says of the set.
 pub built-holds : (t : Bool) (m n : ℕ) → Holds n ≡ pickBuilt t m → (t ≡ true) × (n ≡ m)

@@ -9,14 +9,10 @@ use native.Mathlib.Numerals.{add-one}
 use native.Mathlib.Omega.{arith}
 use lib.ListN.{length, getD, take, drop, length-take, drop-of-length-le}
 use lib.Seq.{take-take, take-all, slice-cons}
-use Rattle.labels.specs.declared.Label.{Label}
 use Rattle.sets.specs.declared.Built.{Built}
 use Rattle.sets.specs.declared.Built.the-variants.{TooLarge, Holds}
-use Rattle.sets.specs.declared.Offer.{Offer}
-use Rattle.sets.specs.declared.Offer.the-variants.{Nothing, TooLong, Next}
-use Rattle.sets.specs.declared.Way.the-variants.{Plus}
 use Rattle.sets.specs.Parts.{setAt, laid, partBefore, roomAt, reachOf}
-use Rattle.sets.specs.Building.{Building, goesOn, next, answerOf, each, taken, Exchange, exchangesIn, closed, offerOf, imaged, Grown}
+use Rattle.sets.specs.Building.{Building, goesOn, next, answerOf, each, Grown}
 use Rattle.sets.proofs.Laid.{setAt-reach, getD-laid, take-laid, take-min}
 use Rattle.sets.proofs.Steps.{Steady, Going, going-start, going-end, going-as, going-holds, going-large}
 
@@ -86,15 +82,3 @@ each-as f g (w ∷ ws) s h = goes (f w s) (g w s) (h w s) (λ t. each-as f g ws 
         same : (t : Bool) → goesOn t b (each f ws) ≡ goesOn t b (each g ws)
         same true = k (b .set)
         same false = refl
-
--- A label is added to each of a part: no list is looked at.
-taken-as : (room : ℕ) (rs qs : List Exchange) (o : Offer) (s : List ℕ) → taken (closed room rs 0) o s ≡ taken (closed room qs 0) o s
-unfolding closed
-taken-as room rs qs Nothing s = refl
-taken-as room rs qs TooLong s = refl
-taken-as room rs qs (Next a) s = refl
-
-pub row-as : (room : ℕ) (a : Label) (list ps qs s : List ℕ) → ps ≡ qs → each (imaged room (Plus a) list) ps s ≡ each (imaged room (Plus a) []) qs s
-row-as room a list ps qs s e =
-    each-as (imaged room (Plus a) list) (imaged room (Plus a) []) ps s (λ w t. taken-as room (exchangesIn list) (exchangesIn []) (offerOf (Plus a) list w) t)
-    ∙ ap (λ (l : List ℕ). each (imaged room (Plus a) []) l s) e

@@ -19,7 +19,7 @@ use Rattle.sets.specs.declared.Built.the-variants.{TooLarge, Holds}
 use Rattle.sets.specs.declared.Offer.{Offer}
 use Rattle.sets.specs.declared.Offer.the-variants.{Nothing, TooLong, Next}
 use Rattle.sets.specs.declared.Way.{Way}
-use Rattle.sets.specs.declared.Way.the-variants.{Copy, Plus, Block, Hide, Rename, Comm, Allow}
+use Rattle.sets.specs.declared.Way.the-variants.{Copy, Block, Hide, Rename, Comm, Allow}
 use Rattle.sets.specs.Parts.{setAt, laid}
 use Rattle.sets.specs.Inserting.{putIn, inserted}
 
@@ -108,7 +108,6 @@ listedIn w (v ∷ vs) = eqb w v || listedIn w vs
 
 abbrev pub offerOf : Way → List ℕ → ℕ → Offer
 offerOf Copy list w = Next (packed w)
-offerOf (Plus a) list w = summed (sumOf (code a) w)
 offerOf Block list w = pickOffer (clear list (bag w)) (Next (packed w))
 offerOf Hide list w = Next (packed (number (without list (bag w))))
 offerOf Rename list w = Next (packed (number (renamed 12 (λ n. getD (targets (pairsIn list)) n 0) (labelOf 12 w))))
@@ -119,7 +118,6 @@ offerOf Allow list w = pickOffer (eqb w 0 || listedIn w (held list)) (Next (pack
 abbrev pub MapFor : Way → (list map : List ℕ) → Type 0
 MapFor Rename list map = map ≡ targets (pairsIn list)
 MapFor Copy list map = Unit {0}
-MapFor (Plus a) list map = Unit {0}
 MapFor Block list map = Unit {0}
 MapFor Hide list map = Unit {0}
 MapFor Comm list map = Unit {0}
@@ -127,7 +125,6 @@ MapFor Allow list map = Unit {0}
 
 abbrev pub depthOf : Way → ℕ
 depthOf Copy = 0
-depthOf (Plus a) = 0
 depthOf Block = 0
 depthOf Hide = 0
 depthOf Rename = 0
@@ -138,8 +135,11 @@ abbrev pub imaged : ℕ → Way → List ℕ → ℕ → List ℕ → Building
 imaged room way list w = taken (closed room (exchangesIn (held list)) (depthOf way)) (offerOf way list w)
 
 -- The product of two lists: each label of the first added to each of the second.
+abbrev pub added : ℕ → ℕ → ℕ → List ℕ → Building
+added room a w = taken (enter room) (summed (sumOf a w))
+
 abbrev pub row : ℕ → List ℕ → ℕ → List ℕ → Building
-row room bs a = each (imaged room (Plus (packed a)) []) bs
+row room bs a = each (added room a) bs
 
 abbrev pub multiplied : ℕ → List ℕ → List ℕ → List ℕ → Building
 multiplied room ls bs = each (row room bs) ls

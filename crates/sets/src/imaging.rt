@@ -8,8 +8,6 @@ use crate::following::enter;
 use crate::placing::end_before;
 use crate::placing::reach;
 use labels::Label;
-use labels::Sum;
-use labels::bags::sum;
 use labels::names::clear;
 use labels::names::hide;
 use labels::names::rename;
@@ -61,13 +59,6 @@ fn made(way: Way, list: &[u64], map: [u64; 12], label: Label) -> Offer
 {
     match way {
         Way::Copy => Offer::Next(label),
-        Way::Plus(other) => {
-            let result = sum(other, label);
-            match result {
-                Sum::Over => Offer::TooLong,
-                Sum::Of(total) => Offer::Next(total),
-            }
-        }
         Way::Block => {
             if clear(label, list) {
                 Offer::Next(label)

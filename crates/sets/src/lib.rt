@@ -36,11 +36,9 @@ pub enum Built {
     Holds(usize),
 }
 
-// What is made of the labels of a part: they are copied, are added to a label, or go through one of the five operators with
-// its list.
+// What is made of the labels of a part: they are copied, or go through one of the five operators with its list.
 pub enum Way {
     Copy,
-    Plus(Label),
     Block,
     Hide,
     Rename,

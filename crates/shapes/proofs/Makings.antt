@@ -9,19 +9,14 @@ use borrow.Author.Tests.{leb-true}
 use lib.Dec.{leb}
 use lib.ListN.{length}
 use lib.Seq.{paste-zero}
-use Rattle.labels.specs.Packing.{packed}
 use Rattle.sets.specs.declared.Built.{Built}
 use Rattle.sets.specs.declared.Built.the-variants.{TooLarge, Holds}
-use Rattle.sets.specs.declared.Way.the-variants.{Plus}
 use Rattle.sets.specs.Parts.{setAt, laid, partBefore, roomAt}
-use Rattle.sets.specs.Building.{Building, done, answerOf, imaged, row, multiplied, Grown}
+use Rattle.sets.specs.Building.{Building, done, answerOf, row, multiplied, Grown}
 use Rattle.sets.specs.Joining.{joined, ascent, fitting, united}
-use Rattle.sets.proofs.Steps.{Steady, steady-each, steady-imaged, Going, going-last, grown-as, next-holds, next-large, built-holds}
+use Rattle.sets.proofs.Steps.{Steady, steady-each, steady-row, Going, going-last, grown-as, next-holds, next-large, built-holds}
 use Rattle.sets.proofs.Walking.{part-stays}
 use Rattle.shapes.specs.Making.{bothBuilt}
-
-pub steady-row : (room : ℕ) (b : List ℕ) (w : ℕ) → Steady room (row room b w)
-steady-row room b w = steady-each room (imaged room (Plus (packed w)) []) b (steady-imaged room (Plus (packed w)) [])
 
 pub steady-multiplied : (room : ℕ) (a b : List ℕ) → Steady room (multiplied room a b)
 steady-multiplied room a b = steady-each room (row room b) a (steady-row room b)

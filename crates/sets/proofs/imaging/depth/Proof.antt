@@ -5,20 +5,19 @@ use types.Run.{OneOf, miss}
 use denote.Enum.Declared.{tagOf}
 use borrow.Author.Needs.{needs}
 use Rattle.sets.specs.declared.Way.{Way}
-use Rattle.sets.specs.declared.Way.the-variants.{Copy, Plus, Block, Hide, Rename, Comm, Allow}
+use Rattle.sets.specs.declared.Way.the-variants.{Copy, Block, Hide, Rename, Comm, Allow}
 use Rattle.sets.specs.Building.{depthOf}
 use Rattle.sets.proofs.Way.{the-type}
 use Rattle.sets.proofs.imaging.depth.Statement.{statement}
 use Rattle.sets.proofs.imaging.depth.Tie as tie
 
 -- on every way but comm no rule is applied
-others : (way : Way) → OneOf (0 ∷ 1 ∷ 2 ∷ 3 ∷ 4 ∷ 6 ∷ []) (tagOf the-type way) → 0 ≡ depthOf way
+others : (way : Way) → OneOf (0 ∷ 1 ∷ 2 ∷ 3 ∷ 5 ∷ []) (tagOf the-type way) → 0 ≡ depthOf way
 others Copy h = refl
-others (Plus a) h = refl
 others Block h = refl
 others Hide h = refl
 others Rename h = refl
-others Comm h = absurd (miss (0 ∷ 1 ∷ 2 ∷ 3 ∷ 4 ∷ 6 ∷ []) 5 tt h)
+others Comm h = absurd (miss (0 ∷ 1 ∷ 2 ∷ 3 ∷ 5 ∷ []) 4 tt h)
 others Allow h = refl
 
 enum-told : tie.Need-enum-told

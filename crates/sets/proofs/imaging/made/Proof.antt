@@ -5,48 +5,36 @@ use lib.ListN.{getD}
 use Rattle.meaning.specs.Labels.{number, labelOf, renamed}
 use Rattle.labels.specs.Packing.{packed}
 use Rattle.sets.specs.declared.Offer.the-variants.{Next}
-use Rattle.sets.specs.Building.{summed, pickOffer}
+use Rattle.sets.specs.Building.{pickOffer}
 use Rattle.sets.proofs.imaging.made.Statement.{statement}
 use Rattle.sets.proofs.imaging.made.Tie as tie
 
 enum-told : tie.Need-enum-told
 enum-told c = search needs
 
-enum-known-way : tie.Need-enum-known-way
-enum-known-way c = search needs
-
-sum-requires : tie.Need-sum-requires
-sum-requires c κs = search needs
-
 enum-told-2 : tie.Need-enum-told-2
 enum-told-2 c = search needs
-
-enum-known-result : tie.Need-enum-known-result
-enum-known-result c = search needs
-
-enum-told-3 : tie.Need-enum-told-3
-enum-told-3 c = search needs
 
 clear-requires : tie.Need-clear-requires
 clear-requires c κs = search needs
 
-enum-told-4 : tie.Need-enum-told-4
-enum-told-4 c = search needs
+enum-told-3 : tie.Need-enum-told-3
+enum-told-3 c = search needs
 
 hide-requires : tie.Need-hide-requires
 hide-requires c κs = search needs
 
-enum-told-5 : tie.Need-enum-told-5
-enum-told-5 c = search needs
+enum-told-4 : tie.Need-enum-told-4
+enum-told-4 c = search needs
 
 rename-requires : tie.Need-rename-requires
 rename-requires c κs = search needs
 
+enum-told-5 : tie.Need-enum-told-5
+enum-told-5 c = search needs
+
 enum-told-6 : tie.Need-enum-told-6
 enum-told-6 c = search needs
-
-enum-told-7 : tie.Need-enum-told-7
-enum-told-7 c = search needs
 
 allowed-requires : tie.Need-allowed-requires
 allowed-requires c κs = search needs
@@ -55,35 +43,27 @@ returns : tie.Need-returns
 returns c = rw (c .enum-told .given .1)
 
 returns-2 : tie.Need-returns-2
-returns-2 c = rw (c .before .before .before .before .way .given .1) (ap summed (sym (c .enum-told2 .given .1) ∙ c .before .before .sum .ensures))
+returns-2 c = rw (c .before .before .enum-told2 .given .1) (ap (λ t. pickOffer t (Next (c .before .before .before .before .before .args .label))) (sym (c .if1 .taken) ∙ c .before .clear .ensures))
 
 returns-3 : tie.Need-returns-3
-returns-3 c = rw (c .before .before .before .before .before .way .given .1) (ap summed (sym (c .before .result .given .1) ∙ c .before .before .before .sum .ensures))
+returns-3 c = rw (c .before .before .enum-told2 .given .1) (ap (λ t. pickOffer t (Next (c .before .before .before .before .before .args .label))) (sym (c .if1 .left) ∙ c .before .clear .ensures))
 
 returns-4 : tie.Need-returns-4
-returns-4 c = rw (c .before .before .enum-told3 .given .1) (ap (λ t. pickOffer t (Next (c .before .before .before .before .before .args .label))) (sym (c .if1 .taken) ∙ c .before .clear .ensures))
+returns-4 c = rw (c .before .enum-told3 .given .1) (ap Next (c .hide .ensures))
 
 returns-5 : tie.Need-returns-5
-returns-5 c = rw (c .before .before .enum-told3 .given .1) (ap (λ t. pickOffer t (Next (c .before .before .before .before .before .args .label))) (sym (c .if1 .left) ∙ c .before .clear .ensures))
+returns-5 c = rw (c .before .enum-told4 .given .1) (ap Next (c .rename .ensures ∙ ap (λ to. packed (number (renamed 12 (λ n. getD to n 0) (labelOf 12 (c .before .before .before .before .args .label .word))))) (rw (c .before .enum-told4 .given .1) at (c .before .before .before .before .pre))))
 
 returns-6 : tie.Need-returns-6
-returns-6 c = rw (c .before .enum-told4 .given .1) (ap Next (c .hide .ensures))
+returns-6 c = rw (c .enum-told5 .given .1)
 
 returns-7 : tie.Need-returns-7
-returns-7 c = rw (c .before .enum-told5 .given .1) (ap Next (c .rename .ensures ∙ ap (λ to. packed (number (renamed 12 (λ n. getD to n 0) (labelOf 12 (c .before .before .before .before .args .label .word))))) (rw (c .before .enum-told5 .given .1) at (c .before .before .before .before .pre))))
+returns-7 c = rw (c .before .before .enum-told6 .given .1) (ap (λ t. pickOffer t (Next (c .before .before .before .before .before .args .label))) (sym (c .if2 .taken) ∙ c .before .allowed .ensures))
 
 returns-8 : tie.Need-returns-8
-returns-8 c = rw (c .enum-told6 .given .1)
-
-returns-9 : tie.Need-returns-9
-returns-9 c = rw (c .before .before .enum-told7 .given .1) (ap (λ t. pickOffer t (Next (c .before .before .before .before .before .args .label))) (sym (c .if2 .taken) ∙ c .before .allowed .ensures))
-
-returns-10 : tie.Need-returns-10
-returns-10 c = rw (c .before .before .enum-told7 .given .1) (ap (λ t. pickOffer t (Next (c .before .before .before .before .before .args .label))) (sym (c .if2 .left) ∙ c .before .allowed .ensures))
+returns-8 c = rw (c .before .before .enum-told6 .given .1) (ap (λ t. pickOffer t (Next (c .before .before .before .before .before .args .label))) (sym (c .if2 .left) ∙ c .before .allowed .ensures))
 
 pub made-spec : {M : Type 1} → statement M
 made-spec =
     tie.close
-    (tie.spec enum-told enum-known-way sum-requires enum-told-2 enum-known-result enum-told-3 clear-requires enum-told-4 hide-requires enum-told-5
-    rename-requires enum-told-6 enum-told-7 allowed-requires returns returns-2 returns-3 returns-4 returns-5 returns-6 returns-7 returns-8
-    returns-9 returns-10)
+    (tie.spec enum-told enum-told-2 clear-requires enum-told-3 hide-requires enum-told-4 rename-requires enum-told-5 enum-told-6 allowed-requires returns returns-2 returns-3 returns-4 returns-5 returns-6 returns-7 returns-8)

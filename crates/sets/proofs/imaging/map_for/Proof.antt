@@ -6,19 +6,18 @@ use denote.Enum.Declared.{tagOf}
 use borrow.Author.Needs.{needs}
 use lib.ListN.{replicate}
 use Rattle.sets.specs.declared.Way.{Way}
-use Rattle.sets.specs.declared.Way.the-variants.{Copy, Plus, Block, Hide, Rename, Comm, Allow}
+use Rattle.sets.specs.declared.Way.the-variants.{Copy, Block, Hide, Rename, Comm, Allow}
 use Rattle.sets.specs.Building.{MapFor}
 use Rattle.sets.proofs.Way.{the-type}
 use Rattle.sets.proofs.imaging.map_for.Statement.{statement}
 use Rattle.sets.proofs.imaging.map_for.Tie as tie
 
 -- every way but rename goes without
-others : (way : Way) (list map : List ℕ) → OneOf (0 ∷ 1 ∷ 2 ∷ 3 ∷ 5 ∷ 6 ∷ []) (tagOf the-type way) → MapFor way list map
+others : (way : Way) (list map : List ℕ) → OneOf (0 ∷ 1 ∷ 2 ∷ 4 ∷ 5 ∷ []) (tagOf the-type way) → MapFor way list map
 others Copy list map h = tt
-others (Plus a) list map h = tt
 others Block list map h = tt
 others Hide list map h = tt
-others Rename list map h = absurd (miss (0 ∷ 1 ∷ 2 ∷ 3 ∷ 5 ∷ 6 ∷ []) 4 tt h)
+others Rename list map h = absurd (miss (0 ∷ 1 ∷ 2 ∷ 4 ∷ 5 ∷ []) 3 tt h)
 others Comm list map h = tt
 others Allow list map h = tt
 

@@ -1,27 +1,25 @@
 -- `sets::multiplying::add_product` meets its contract. The loop's invariant: what the labels from the i-th on give with those of
 -- the second part is to come; the measure is how many they are. Assumes nothing.
 use mathlib.Core.Path.{ap, _∙_}
-use mathlib.Core.List.{[], _∷_}
-use Prim.Native.Nat.{_-_}
+use mathlib.Core.List.{List}
+use Prim.Native.Nat.{ℕ, _-_}
 use native.Mathlib.Omega.{arith}
 use borrow.Author.Needs.{needs}
 use lib.ListN.{length}
-use Rattle.labels.specs.Packing.{packed}
-use Rattle.sets.specs.declared.Way.the-variants.{Plus}
 use Rattle.sets.specs.Parts.{setAt, partBefore, roomAt}
-use Rattle.sets.specs.Building.{imaged, row, multiplied}
-use Rattle.sets.proofs.Steps.{steady-each, steady-imaged, going-length, grown-as}
-use Rattle.sets.proofs.Walking.{Walk, walk-start, walk-end, walk-holds, walk-large, part-stays, row-as}
+use Rattle.sets.specs.Building.{each, added, row, multiplied}
+use Rattle.sets.proofs.Steps.{steady-row, going-length, grown-as}
+use Rattle.sets.proofs.Walking.{Walk, walk-start, walk-end, walk-holds, walk-large, part-stays}
 use Rattle.sets.proofs.multiplying.add_product.Statement.{statement}
 use Rattle.sets.proofs.multiplying.add_product.Tie as tie
 
 abbrev Inv-loop : tie.InvT-loop
-Inv-loop words₀ from to by-from by-to at len most none count₀ end i₀ words count i =
+Inv-loop words₀ from to by-from by-to at len most count₀ end i₀ words count i =
     Walk at words₀ end (row (roomAt at most (length words₀)) (partBefore at by-from by-to words₀))
     (multiplied (roomAt at most (length words₀)) (partBefore at from to words₀) (partBefore at by-from by-to words₀) (setAt at len words₀)) words count i
 
 abbrev μ-loop : tie.MeasureT-loop
-μ-loop words₀ from to by-from by-to at len most none count₀ end i₀ words count i = end - i
+μ-loop words₀ from to by-from by-to at len most count₀ end i₀ words count i = end - i
 
 reach-requires : tie.Need-reach-requires Inv-loop μ-loop
 reach-requires c κs = search needs
@@ -38,11 +36,8 @@ loop-holds c =
 read-label-requires : tie.Need-read-label-requires Inv-loop μ-loop
 read-label-requires c κs = search needs
 
-slice-aggregate-add-image : tie.Need-slice-aggregate-add-image Inv-loop μ-loop
-slice-aggregate-add-image c = search needs
-
-add-image-requires : tie.Need-add-image-requires Inv-loop μ-loop
-add-image-requires c κs = search needs
+add-row-requires : tie.Need-add-row-requires Inv-loop μ-loop
+add-row-requires c κs = search needs
 
 enum-known-step : tie.Need-enum-known-step Inv-loop μ-loop
 enum-known-step c = search needs
@@ -51,14 +46,13 @@ enum-told : tie.Need-enum-told Inv-loop μ-loop
 enum-told c = search needs
 
 same-length : tie.Need-same-length Inv-loop μ-loop
-same-length c = c .before .before .before .before .add-image .kept .0 ∙ going-length (c .before .before .before .before .before .before .before .before .before .before .loop .inv) .0
+same-length c = c .before .before .before .before .add-row .kept .0 ∙ going-length (c .before .before .before .before .before .before .before .before .before .loop .inv) .0
 
 returns : tie.Need-returns Inv-loop μ-loop
 returns c =
-    let a = c .before .before .before .before .before .before .before .before .before .before .before .before .before .before .before .before .args in
-    let p = walk-large (a .most) (a .to) (λ room. row room (partBefore (a .at) (a .by-from) (a .by-to) (a .words .now))) (λ room w. steady-each room (imaged room (Plus (packed w)) []) (partBefore (a .at) (a .by-from) (a .by-to) (a .words .now)) (steady-imaged room (Plus (packed w)) [])) (c .before .before .before .before .before .before .before .before .before .before .loop .inv) (c .before .before .before .before .before .before .before .before .before .before .before .end-before .ensures) (c .before .before .before .before .before .before .before .before .before .loop-test .taken) (c .before .before .before .before .before .before .before .read-label .result .word)
-    (ap (λ x. x .word) (c .before .before .before .before .before .before .before .read-label .ensures)) (grown-as (λ s. row-as (roomAt (a .at) (a .most) (length (c .before .before .before .before .before .before .before .before .before .before .loop .words))) (c .before .before .before .before .before .before .before .read-label .result) (0 ∷ []) (partBefore (a .at) (a .by-from) (a .by-to) (c .before .before .before .before .before .before .before .before .before .before .loop .words))
-    (partBefore (a .at) (a .by-from) (a .by-to) (a .words .now)) s (part-stays (a .by-from) (a .by-to) (c .before .before .before .before .before .before .before .before .before .before .loop .inv))) (c .before .before .before .before .add-image .ensures)) (c .enum-told .given .1) in
+    let a = c .before .before .before .before .before .before .before .before .before .before .before .before .before .before .before .args in
+    let p = walk-large (a .most) (a .to) (λ room. row room (partBefore (a .at) (a .by-from) (a .by-to) (a .words .now))) (λ room. steady-row room (partBefore (a .at) (a .by-from) (a .by-to) (a .words .now))) (c .before .before .before .before .before .before .before .before .before .loop .inv) (c .before .before .before .before .before .before .before .before .before .before .end-before .ensures) (c .before .before .before .before .before .before .before .before .loop-test .taken) (c .before .before .before .before .before .before .read-label .result .word)
+    (ap (λ x. x .word) (c .before .before .before .before .before .before .read-label .ensures)) (grown-as (λ s. ap (λ (ps : List ℕ). each (added (roomAt (a .at) (a .most) (length (c .before .before .before .before .before .before .before .before .before .loop .words))) (c .before .before .before .before .before .before .read-label .result .word)) ps s) (part-stays (a .by-from) (a .by-to) (c .before .before .before .before .before .before .before .before .before .loop .inv))) (c .before .before .before .before .add-row .ensures)) (c .enum-told .given .1) in
     record { answer = p .0; words = p .1 }
 
 add-i : tie.Need-add-i Inv-loop μ-loop
@@ -69,10 +63,9 @@ loop-less c = omega arith
 
 loop-again : tie.Need-loop-again Inv-loop μ-loop
 loop-again c =
-    let a = c .before .before .before .before .before .before .before .before .before .before .before .before .before .before .before .before .before .args in
-    walk-holds (a .most) (a .to) (λ room. row room (partBefore (a .at) (a .by-from) (a .by-to) (a .words .now))) (λ room w. steady-each room (imaged room (Plus (packed w)) []) (partBefore (a .at) (a .by-from) (a .by-to) (a .words .now)) (steady-imaged room (Plus (packed w)) [])) (c .before .before .before .before .before .before .before .before .before .before .before .loop .inv) (c .before .before .before .before .before .before .before .before .before .before .before .before .end-before .ensures) (c .before .before .before .before .before .before .before .before .before .before .loop-test .taken) (c .before .before .before .before .before .before .before .before .read-label .result .word)
-    (ap (λ x. x .word) (c .before .before .before .before .before .before .before .before .read-label .ensures)) (grown-as (λ s. row-as (roomAt (a .at) (a .most) (length (c .before .before .before .before .before .before .before .before .before .before .before .loop .words))) (c .before .before .before .before .before .before .before .before .read-label .result) (0 ∷ []) (partBefore (a .at) (a .by-from) (a .by-to) (c .before .before .before .before .before .before .before .before .before .before .before .loop .words))
-    (partBefore (a .at) (a .by-from) (a .by-to) (a .words .now)) s (part-stays (a .by-from) (a .by-to) (c .before .before .before .before .before .before .before .before .before .before .before .loop .inv))) (c .before .before .before .before .before .add-image .ensures)) (c .before .step .given .0 .0) (c .before .step .given .1)
+    let a = c .before .before .before .before .before .before .before .before .before .before .before .before .before .before .before .before .args in
+    walk-holds (a .most) (a .to) (λ room. row room (partBefore (a .at) (a .by-from) (a .by-to) (a .words .now))) (λ room. steady-row room (partBefore (a .at) (a .by-from) (a .by-to) (a .words .now))) (c .before .before .before .before .before .before .before .before .before .before .loop .inv) (c .before .before .before .before .before .before .before .before .before .before .before .end-before .ensures) (c .before .before .before .before .before .before .before .before .before .loop-test .taken) (c .before .before .before .before .before .before .before .read-label .result .word)
+    (ap (λ x. x .word) (c .before .before .before .before .before .before .before .read-label .ensures)) (grown-as (λ s. ap (λ (ps : List ℕ). each (added (roomAt (a .at) (a .most) (length (c .before .before .before .before .before .before .before .before .before .before .loop .words))) (c .before .before .before .before .before .before .before .read-label .result .word)) ps s) (part-stays (a .by-from) (a .by-to) (c .before .before .before .before .before .before .before .before .before .before .loop .inv))) (c .before .before .before .before .before .add-row .ensures)) (c .before .step .given .0 .0) (c .before .step .given .1)
 
 same-length-2 : tie.Need-same-length-2 Inv-loop μ-loop
 same-length-2 c = going-length (c .before .loop .inv) .0
@@ -86,5 +79,5 @@ returns-2 c =
 pub add-product-spec : {M : Type 1} → statement M
 add-product-spec =
     tie.close
-    (tie.spec Inv-loop μ-loop reach-requires end-before-requires loop-holds read-label-requires slice-aggregate-add-image add-image-requires
+    (tie.spec Inv-loop μ-loop reach-requires end-before-requires loop-holds read-label-requires add-row-requires
     enum-known-step enum-told same-length returns add-i loop-less loop-again same-length-2 returns-2)
