@@ -78,21 +78,6 @@ fn read_part(line: &[u8], at: usize, names: &[u64]) -> SaidStep
     }
 }
 
-const POWERS: [u64; 12] = [
-    1,
-    32,
-    1024,
-    32768,
-    1048576,
-    33554432,
-    1073741824,
-    34359738368,
-    1099511627776,
-    35184372088832,
-    1125899906842624,
-    36028797018963968,
-];
-
 // The number of a label with a part more, as long as there is no fault.
 fn added(number: u64, found: Found, name: u64, times: u64) -> u64
     requires { ⌜ Room (foundOf found) number name times ⌝ }
@@ -101,8 +86,7 @@ fn added(number: u64, found: Found, name: u64, times: u64) -> u64
     let Found::Fine = found else {
         return 0;
     };
-    let n = name as usize;
-    number + times * POWERS[n]
+    number + (times << (5 * name))
 }
 
 pub fn read_label(line: &[u8], at: usize, names: &[u64]) -> SaidStep

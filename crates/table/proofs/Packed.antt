@@ -1,15 +1,21 @@
 -- A term packed in a word and taken out again: its kind is kept, and a term of small numbers comes back whole.
 -- Assumes nothing.
-use mathlib.Core.Path.{_≡_, refl}
+use mathlib.Core.Path.{_≡_, refl, ap, _∙_}
 use mathlib.Core.List.{List, [], _∷_, map}
-use Prim.Native.Nat.{ℕ, suc, _+_, _*_, _/_, _%_, _≤_, _<_, zero-le}
+use Prim.Native.Nat.{ℕ, suc, _+_, _*_, _/_, _%_, _^_, _≤_, _<_, zero-le}
+use native.Mathlib.Nat.{mod-eq-of-lt}
 use native.Mathlib.Omega.{arith}
 use lib.ListN.{length, length-map}
 use Rattle.meaning.specs.Sets.{Rising}
 use Rattle.meaning.specs.Descriptions as D
 use Rattle.meaning.specs.Legal.{Each, LegalPair, LegalOperator, LegalTerm}
+use Rattle.labels.proofs.Words.{power}
 use Rattle.table.specs.Encoded.{operatorFor, termFor}
 use Rattle.table.specs.Packed.{packed, termWord, kindTerm, wordTerm}
+
+-- a count that is moved up five bits for each name before its own
+pub count-moved : (times n : ℕ) → times * 32 ^ n < 2 ^ 64 → (times * 2 ^ (5 * n)) % 2 ^ 64 ≡ times * 32 ^ n
+count-moved times n h = ap (λ (p : ℕ). (times * p) % 2 ^ 64) (power n) ∙ mod-eq-of-lt h
 
 -- the numbers of a packed word
 module _ (k t u entries : ℕ) (h : k < 32) where
