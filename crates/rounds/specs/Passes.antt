@@ -4,13 +4,11 @@ use mathlib.Core.Path.{_≡_}
 use mathlib.Core.Bool.{Bool, true, false}
 use mathlib.Core.List.{List}
 use Prim.Native.Nat.{ℕ, _<_}
-use lib.ListN.{length}
+use lib.ListN.{getD}
 use Rattle.meaning.specs.Descriptions as D
 use Rattle.table.specs.declared.Term.{Term}
-use Rattle.table.specs.declared.Table.{Table}
 use Rattle.table.specs.Encoded.{termFor, storeOf, tableOf}
 use Rattle.sets.specs.declared.Built.{Built}
-use Rattle.rounds.specs.declared.passes.Round.{Round}
 use Rattle.rounds.specs.Working.{Ready, Worked, RoundDone, RoundOver, Between}
 use Rattle.rounds.specs.Terms.{Low}
 
@@ -24,8 +22,12 @@ abbrev pub RoundEnds : Bool → D.Description → ℕ → (before starts work wo
 RoundEnds true d k before starts work work′ = RoundDone d k before starts work work′
 RoundEnds false d k before starts work work′ = RoundOver d k work work′
 
-pub record Passed (table : Table) (store older before work work′ : List ℕ) (r : Round) : Type 0 where
-  pub size : length (r .starts) ≡ 97
-  pub low : Low (r .starts)
-  pub right : (d : D.Description) (o : D.Order) (k : ℕ) → table ≡ tableOf d → store ≡ storeOf d o → Between d k older before work
-      → RoundEnds (r .fits) d k before (r .starts) work work′
+-- what a round reads of the table of a description
+abbrev pub Read : D.Description → (slots bodies : List ℕ) → ℕ → Type 0
+Read d slots bodies terms = (slots ≡ tableOf d .slots) × (bodies ≡ tableOf d .bodies) × (terms ≡ D.termCount d)
+
+pub record Passed (slots bodies : List ℕ) (terms : ℕ) (store older before work this′ work′ : List ℕ) (fits : Bool) : Type 0 where
+  pub low : Low this′
+  pub first : getD this′ 0 0 ≡ 0
+  pub right : (d : D.Description) (o : D.Order) (k : ℕ) → Read d slots bodies terms → store ≡ storeOf d o → Between d k older before work
+      → RoundEnds fits d k before this′ work work′

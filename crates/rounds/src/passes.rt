@@ -6,22 +6,15 @@ use crate::starts::place_of;
 use crate::terms::work_out;
 use sets::Built;
 use shapes::sameness::unchanged;
-use table::Table;
 use table::Term;
 use table::packing::unpack;
 ghost use mathlib.Core.Path.{_≡_};
 ghost use Prim.Native.Nat.{_≤_};
-ghost use lib.ListN.{length};
+ghost use lib.ListN.{length, getD};
 ghost use Rattle.sets.specs.Parts.{roomAt};
 ghost use Rattle.sets.specs.Building.{Grown};
 ghost use Rattle.rounds.specs.Terms.{Low, partIn, placeIn, leftIn, copyBuilt};
 ghost use Rattle.rounds.specs.Passes.{TermWorked, Passed};
-
-// Where the sets of a round begin, and whether they pass no limit.
-pub struct Round {
-    pub fits: bool,
-    pub starts: [usize; 97],
-}
 
 // The set of a term as it was in the round before.
 fn copied(n: usize, before: &[usize], this: &[usize], work: &mut [u64]) -> Built
@@ -56,41 +49,33 @@ fn next_term(
     work_out(term, store, bodies, n, before, this, work)
 }
 
-// A round after the one whose sets begin at `before`.
+// A round after the one whose sets begin at `before`. Where its own sets begin is written into `this`, over what an earlier
+// round left there; whether they pass no limit is returned.
 pub fn pass(
-    table: Table,
+    slots: &[u64],
+    bodies: &[usize],
+    terms: usize,
     store: &[u64],
     older: &[usize],
     before: &[usize],
+    this: &mut [usize],
     work: &mut [u64],
-) -> Round
-    requires { ⌜ Low (now before) × (4096 ≤ length (now work)) × (table .terms ≤ 96) ⌝ }
-    ensures { λ r. ⌜ Passed table (now (store .entry)) (now (older .entry)) (now (before .entry)) (now (work .entry)) (now (work .exit)) r ⌝ }
+) -> bool
+    requires { ⌜ Low (now before) × Low (now this) × (getD (now this) 0 0 ≡ 0) × (length (now this) ≡ 97) × (length (now slots) ≡ 96) × (terms ≤ 96) × (4096 ≤ length (now work)) ⌝ }
+    ensures { λ r. ⌜ Passed (now (slots .entry)) (now (bodies .entry)) terms (now (store .entry)) (now (older .entry)) (now (before .entry)) (now (work .entry)) (now (this .exit)) (now (work .exit)) r ⌝ }
 {
-    let bodies = table.bodies;
-    let mut this = [0usize; 97];
     let mut n = 0;
-    while n < table.terms {
-        let word = table.slots[n];
-        let term = unpack(word);
-        let built = next_term(term, store, &bodies, n, older, before, &this, work);
+    while n < terms {
+        let term = unpack(slots[n]);
+        let built = next_term(term, store, bodies, n, older, before, this, work);
         let Built::Holds(count) = built else {
-            return Round {
-                fits: false,
-                starts: this,
-            };
+            return false;
         };
-        if left_of(&this, n) < count {
-            return Round {
-                fits: false,
-                starts: this,
-            };
+        if left_of(this, n) < count {
+            return false;
         }
         this[n + 1] = this[n] + count;
         n += 1;
     }
-    Round {
-        fits: true,
-        starts: this,
-    }
+    true
 }

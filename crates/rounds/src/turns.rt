@@ -23,15 +23,26 @@ pub fn until_stable(table: Table, store: &[u64], work: &mut [u64]) -> Found
     requires { ⌜ (4096 ≤ length (now work)) × (table .terms ≤ 96) × (table .equations ≤ 16) ⌝ }
     ensures { λ r. ⌜ Reached table (now (store .entry)) (now (work .entry)) (now (work .exit)) r ⌝ }
 {
+    // A table goes by value; these are lent to each round.
+    let slots = table.slots;
     let bodies = table.bodies;
+    let terms = table.terms;
     let equations = table.equations;
     let mut older = [0usize; 97];
     let mut before = [0usize; 97];
+    let mut this = [0usize; 97];
     let mut k = 0;
     while k < MOST_ROUNDS {
-        let round = pass(table, store, &older, &before, work);
-        let this = round.starts;
-        if !round.fits {
+        if !pass(
+            &slots,
+            &bodies,
+            terms,
+            store,
+            &older,
+            &before,
+            &mut this,
+            work,
+        ) {
             return Found::TooLarge;
         }
         k += 1;
@@ -39,7 +50,7 @@ pub fn until_stable(table: Table, store: &[u64], work: &mut [u64]) -> Found
             let root = part_at(&this, table.root, HALF);
             return Found::At(k, root.from, root.to);
         }
-        carry(work, HALF, 0, start_of(&this, table.terms));
+        carry(work, HALF, 0, start_of(&this, terms));
         older = before;
         before = this;
     }

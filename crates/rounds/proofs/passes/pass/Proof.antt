@@ -9,31 +9,25 @@ use Rattle.rounds.proofs.passes.pass.Statement.{statement}
 use Rattle.rounds.proofs.passes.pass.Tie as tie
 
 abbrev Inv-loop : tie.InvT-loop
-Inv-loop store older before work₀ table bodies this₀ n₀ work this n = Progress table store older before work₀ work this n
+Inv-loop slots bodies terms store older before this₀ work₀ n₀ this work n = Progress slots bodies terms store older before work₀ work this n
 
 abbrev μ-loop : tie.MeasureT-loop
-μ-loop store older before work₀ table bodies this₀ n₀ work this n = table .terms - n
+μ-loop slots bodies terms store older before this₀ work₀ n₀ this work n = terms - n
 
 loop-holds : tie.Need-loop-holds Inv-loop μ-loop
-loop-holds c = progress-start (c .before .before .before .before .before .args .t1) (c .before .before .before .before .before .args .store .now) (c .before .before .before .before .before .args .older .now) (c .before .before .before .before .before .args .before .now) (c .before .before .before .before .before .args .work .now) (c .before .before .before .before .before .pre .0) (c .before .before .before .before .before .pre .1) (c .before .before .before .before .before .pre .2)
+loop-holds c = progress-start _ _ _ _ _ _ _ _ (c .before .before .before .before .before .before .before .pre)
 
-mul-word : tie.Need-mul-word Inv-loop μ-loop
-mul-word c = omega arith
+mul-unpack : tie.Need-mul-unpack Inv-loop μ-loop
+mul-unpack c = search needs
 
-element-copy-out-word : tie.Need-element-copy-out-word Inv-loop μ-loop
-element-copy-out-word c = search needs
+shared-slice-read-unpack : tie.Need-shared-slice-read-unpack Inv-loop μ-loop
+shared-slice-read-unpack c = search needs
 
 unpack-requires : tie.Need-unpack-requires Inv-loop μ-loop
 unpack-requires c κs = tt
 
-slice-aggregate-next-term : tie.Need-slice-aggregate-next-term Inv-loop μ-loop
-slice-aggregate-next-term c = search needs
-
-slice-aggregate-next-term-2 : tie.Need-slice-aggregate-next-term-2 Inv-loop μ-loop
-slice-aggregate-next-term-2 c = sym (c .before .before .before .before .before .loop .inv .size)
-
 next-term-requires : tie.Need-next-term-requires Inv-loop μ-loop
-next-term-requires c κs = (c .before .before .before .before .before .before .loop .inv .lowBefore, c .before .before .before .before .before .before .loop .inv .low, omega (arith, c .before .before .before .before .before .before .loop .inv .room, c .before .before .before .before .before .before .loop .inv .long))
+next-term-requires c κs = (c .before .before .before .before .before .loop .inv .lowBefore, c .before .before .before .before .before .loop .inv .low, omega (arith, c .before .before .before .before .before .loop .inv .room, c .before .before .before .before .before .loop .inv .long))
 
 enum-known-built : tie.Need-enum-known-built Inv-loop μ-loop
 enum-known-built c = search needs
@@ -42,28 +36,31 @@ enum-told : tie.Need-enum-told Inv-loop μ-loop
 enum-told c = search needs
 
 same-length : tie.Need-same-length Inv-loop μ-loop
-same-length c = c .before .before .before .before .next-term .kept .1 .1 .1 .1 .1 .1 .1 .0 ∙ c .before .before .before .before .before .before .before .before .before .before .before .loop .inv .long
-
-returns : tie.Need-returns Inv-loop μ-loop
-returns c = progress-large (c .before .before .before .before .before .before .before .before .before .before .before .before .before .before .before .before .before .args .t1) (c .before .before .before .before .before .before .before .before .before .before .before .before .before .before .before .before .before .args .store .now) (c .before .before .before .before .before .before .before .before .before .before .before .before .before .before .before .before .before .args .older .now) (c .before .before .before .before .before .before .before .before .before .before .before .before .before .before .before .before .before .args .before .now) (c .before .before .before .before .before .before .before .before .before .before .before .before .before .before .before .before .before .args .work .now) (c .before .before .before .before .before .before .before .before .before .before .before .loop .work) (c .before .before .before .before .before .before .before .before .before .before .before .loop .this) (c .before .before .before .before .before .before .before .before .before .before .before .loop .n) (c .before .before .before .before .before .before .before .before .before .before .before .loop .inv) _ (c .before .before .before .before .before .before .before .before .before .before .loop-test .taken) (rw (c .enum-told .given .1, c .before .before .before .before .before .before .before .before .unpack .ensures) at (c .before .before .before .before .next-term .ensures))
-
-slice-aggregate-left-of : tie.Need-slice-aggregate-left-of Inv-loop μ-loop
-slice-aggregate-left-of c = sym (c .before .before .before .before .before .before .before .before .before .before .before .before .before .loop .inv .size)
-
-left-of-requires : tie.Need-left-of-requires Inv-loop μ-loop
-left-of-requires c κs = c .before .before .before .before .before .before .before .before .before .before .before .before .before .loop .inv .low
+same-length c = c .before .before .before .before .before .before .before .before .before .before .loop .inv .size ∙ sym (c .before .before .before .before .before .before .before .before .before .before .before .before .before .before .before .before .before .before .pre .3)
 
 same-length-2 : tie.Need-same-length-2 Inv-loop μ-loop
-same-length-2 c = c .before .before .before .before .before .before .before .before .next-term .kept .1 .1 .1 .1 .1 .1 .1 .0 ∙ c .before .before .before .before .before .before .before .before .before .before .before .before .before .before .before .loop .inv .long
+same-length-2 c = c .before .before .before .before .next-term .kept .1 .1 .1 .1 .1 .1 .1 .0 ∙ c .before .before .before .before .before .before .before .before .before .before .loop .inv .long
+
+returns : tie.Need-returns Inv-loop μ-loop
+returns c = progress-large _ _ _ _ _ _ _ _ _ _ (c .before .before .before .before .before .before .before .before .before .before .loop .inv) _ (c .before .before .before .before .before .before .before .before .before .loop-test .taken) (rw (c .enum-told .given .1, c .before .before .before .before .before .before .before .unpack .ensures) at (c .before .before .before .before .next-term .ensures))
+
+left-of-requires : tie.Need-left-of-requires Inv-loop μ-loop
+left-of-requires c κs = c .before .before .before .before .before .before .before .before .before .before .before .before .loop .inv .low
+
+same-length-3 : tie.Need-same-length-3 Inv-loop μ-loop
+same-length-3 c = c .before .before .before .before .before .before .before .before .before .before .before .before .before .before .loop .inv .size ∙ sym (c .before .before .before .before .before .before .before .before .before .before .before .before .before .before .before .before .before .before .before .before .before .before .pre .3)
+
+same-length-4 : tie.Need-same-length-4 Inv-loop μ-loop
+same-length-4 c = c .before .before .before .before .before .before .before .before .next-term .kept .1 .1 .1 .1 .1 .1 .1 .0 ∙ c .before .before .before .before .before .before .before .before .before .before .before .before .before .before .loop .inv .long
 
 returns-2 : tie.Need-returns-2 Inv-loop μ-loop
-returns-2 c = progress-over (c .before .before .before .before .before .before .before .before .before .before .before .before .before .before .before .before .before .before .before .before .before .args .t1) (c .before .before .before .before .before .before .before .before .before .before .before .before .before .before .before .before .before .before .before .before .before .args .store .now) (c .before .before .before .before .before .before .before .before .before .before .before .before .before .before .before .before .before .before .before .before .before .args .older .now) (c .before .before .before .before .before .before .before .before .before .before .before .before .before .before .before .before .before .before .before .before .before .args .before .now) (c .before .before .before .before .before .before .before .before .before .before .before .before .before .before .before .before .before .before .before .before .before .args .work .now) (c .before .before .before .before .before .before .before .before .before .before .before .before .before .before .before .loop .work) (c .before .before .before .before .before .before .before .before .before .before .before .before .before .before .before .loop .this) (c .before .before .before .before .before .before .before .before .before .before .before .before .before .before .before .loop .n) (c .before .before .before .before .before .before .before .before .before .before .before .before .before .before .before .loop .inv) _ (c .before .before .before .before .built .given .0 .0) (c .before .before .before .before .before .before .before .before .before .before .before .before .before .before .loop-test .taken) (rw (c .before .before .before .before .built .given .1, c .before .before .before .before .before .before .before .before .before .before .before .before .unpack .ensures) at (c .before .before .before .before .before .before .before .before .next-term .ensures)) (omega arith)
+returns-2 c = progress-over _ _ _ _ _ _ _ _ _ _ (c .before .before .before .before .before .before .before .before .before .before .before .before .before .before .loop .inv) _ (c .before .before .before .before .built .given .0 .0) (c .before .before .before .before .before .before .before .before .before .before .before .before .before .loop-test .taken) (rw (c .before .before .before .before .built .given .1, c .before .before .before .before .before .before .before .before .before .before .before .unpack .ensures) at (c .before .before .before .before .before .before .before .before .next-term .ensures)) (omega arith)
 
 mul-this : tie.Need-mul-this Inv-loop μ-loop
 mul-this c = search needs
 
-array-read-this : tie.Need-array-read-this Inv-loop μ-loop
-array-read-this c = search needs
+slice-read-this : tie.Need-slice-read-this Inv-loop μ-loop
+slice-read-this c = search needs
 
 add-this : tie.Need-add-this Inv-loop μ-loop
 add-this c = omega (arith, c .before .before .before .before .before .before .before .before .before .before .before .before .before .before .before .loop .inv .low (c .before .before .before .before .before .before .before .before .before .before .before .before .before .before .before .loop .n))
@@ -74,8 +71,8 @@ add-this-2 c = search needs
 mul-this-2 : tie.Need-mul-this-2 Inv-loop μ-loop
 mul-this-2 c = search needs
 
-array-write-this : tie.Need-array-write-this Inv-loop μ-loop
-array-write-this c = search needs
+slice-write-this : tie.Need-slice-write-this Inv-loop μ-loop
+slice-write-this c = search needs
 
 add-n : tie.Need-add-n Inv-loop μ-loop
 add-n c = search needs
@@ -84,17 +81,18 @@ loop-less : tie.Need-loop-less Inv-loop μ-loop
 loop-less c = omega arith
 
 loop-again : tie.Need-loop-again Inv-loop μ-loop
-loop-again c = progress-step (c .before .before .before .before .before .before .before .before .before .before .before .before .before .before .before .before .before .before .before .before .before .args .t1) (c .before .before .before .before .before .before .before .before .before .before .before .before .before .before .before .before .before .before .before .before .before .args .store .now) (c .before .before .before .before .before .before .before .before .before .before .before .before .before .before .before .before .before .before .before .before .before .args .older .now) (c .before .before .before .before .before .before .before .before .before .before .before .before .before .before .before .before .before .before .before .before .before .args .before .now) (c .before .before .before .before .before .before .before .before .before .before .before .before .before .before .before .before .before .before .before .before .before .args .work .now) (c .before .before .before .before .before .before .before .before .before .before .before .before .before .before .before .loop .work) (c .before .before .before .before .before .before .before .before .before .before .before .before .before .before .before .loop .this) (c .before .before .before .before .before .before .before .before .before .before .before .before .before .before .before .loop .n) (c .before .before .before .before .before .before .before .before .before .before .before .before .before .before .before .loop .inv) _ (c .before .before .before .before .built .given .0 .0) (c .before .before .before .before .before .before .before .before .before .before .before .before .before .before .loop-test .taken) (rw (c .before .before .before .before .built .given .1, c .before .before .before .before .before .before .before .before .before .before .before .before .unpack .ensures) at (c .before .before .before .before .before .before .before .before .next-term .ensures)) (omega arith) (c .before .before .before .before .before .before .before .before .next-term .kept .1 .1 .1 .1 .1 .1 .1 .0)
+loop-again c = progress-step _ _ _ _ _ _ _ _ _ _ (c .before .before .before .before .before .before .before .before .before .before .before .before .before .before .before .loop .inv) _ (c .before .before .before .before .before .built .given .0 .0) (c .before .before .before .before .before .before .before .before .before .before .before .before .before .before .loop-test .taken) (rw (c .before .before .before .before .before .built .given .1, c .before .before .before .before .before .before .before .before .before .before .before .before .unpack .ensures) at (c .before .before .before .before .before .before .before .before .before .next-term .ensures)) (omega arith) (c .before .before .before .before .before .before .before .before .before .next-term .kept .1 .1 .1 .1 .1 .1 .1 .0)
 
-same-length-3 : tie.Need-same-length-3 Inv-loop μ-loop
-same-length-3 c = c .before .loop .inv .long
+same-length-5 : tie.Need-same-length-5 Inv-loop μ-loop
+same-length-5 c = c .before .loop .inv .size ∙ sym (c .before .before .before .before .before .before .before .before .before .pre .3)
+
+same-length-6 : tie.Need-same-length-6 Inv-loop μ-loop
+same-length-6 c = c .before .loop .inv .long
 
 returns-3 : tie.Need-returns-3 Inv-loop μ-loop
-returns-3 c = progress-end (c .before .before .before .before .before .before .before .args .t1) (c .before .before .before .before .before .before .before .args .store .now) (c .before .before .before .before .before .before .before .args .older .now) (c .before .before .before .before .before .before .before .args .before .now) (c .before .before .before .before .before .before .before .args .work .now) (c .before .loop .work) (c .before .loop .this) (c .before .loop .n) (c .before .loop .inv) (omega arith)
+returns-3 c = progress-end _ _ _ _ _ _ _ _ _ _ (c .before .loop .inv) (omega arith)
 
 pub pass-spec : {M : Type 1} → statement M
 pass-spec =
     tie.close
-    (tie.spec Inv-loop μ-loop loop-holds mul-word element-copy-out-word unpack-requires slice-aggregate-next-term slice-aggregate-next-term-2 next-term-requires
-    enum-known-built enum-told same-length returns slice-aggregate-left-of left-of-requires same-length-2 returns-2 mul-this array-read-this
-    add-this add-this-2 mul-this-2 array-write-this add-n loop-less loop-again same-length-3 returns-3)
+    (tie.spec Inv-loop μ-loop loop-holds mul-unpack shared-slice-read-unpack unpack-requires next-term-requires enum-known-built enum-told same-length same-length-2 returns left-of-requires same-length-3 same-length-4 returns-2 mul-this slice-read-this add-this add-this-2 mul-this-2 slice-write-this add-n loop-less loop-again same-length-5 same-length-6 returns-3)
