@@ -4,18 +4,21 @@ use mathlib.Core.Path.{_≡_, refl, ap, _∙_}
 use mathlib.Core.Bool.{Bool, true, false, _&&_, _||_}
 use mathlib.Core.List.{[], _∷_, _++_, append-nil}
 use Prim.Native.Nat.{ℕ, zero, suc, _+_, _*_, _-_, _/_, _%_, _^_, _≤_, _<_}
-use native.Mathlib.Nat.{pow-succ', one-le-pow, not-suc-le-zero, le-refl}
+use native.Mathlib.Nat.{pow-succ', pow-le-pow-right, mul-le-mul, le-refl, one-le-pow, not-suc-le-zero}
+use native.Mathlib.Numerals.{add-one}
 use native.Mathlib.Omega.{arith}
-use lib.Dec.{T, leb, leb→le}
+use lib.Dec.{T, leb, leb→le, lit<}
 use borrow.Author.Tests.{ne-eqb}
 use Rattle.meaning.proofs.Tests.{and-left, and-right}
 use Rattle.meaning.specs.Legal.{Each}
 use lib.ListN.{length, getD, take, drop, drop-of-length-le, length-drop}
-use lib.Seq.{take-suc, getD-drop, append-snoc}
+use lib.Seq.{take-suc, getD-drop, append-snoc, length-take-le}
 use Rattle.meaning.specs.Bytes.{Text}
 use Rattle.table.specs.Decoded.{nameOf}
 use Rattle.table.specs.Encoded.{wordOf}
+use Rattle.table.proofs.Packed.{moved-up}
 use Rattle.forms.specs.Text.{Past, past, stuck, onward, isLower, isDigit, wordOn, word}
+use Rattle.forms.specs.Places.{Stands}
 use Rattle.forms.proofs.Rests.{rest-cons}
 
 -- The name from a place on, letter by letter.
@@ -82,20 +85,11 @@ word-small (suc k) (x ∷ s) h b =
     let ih = word-small k s (omega arith) (λ i. b (suc i)) in
     rw (pow-succ' 256 k) (omega (arith, b 0))
 
--- Packing from the last byte to the first.
-pub packed-none : (s : Text) → 0 ≡ wordOf (drop (length s) s)
+-- a byte more stands above those before it
+packed-snoc : (s : Text) (b : ℕ) → wordOf (s ++ (b ∷ [])) ≡ wordOf s + b * 256 ^ length s
 unfolding wordOf
-packed-none s = rw (drop-of-length-le s (le-refl (length s)))
-
-pub packed-more : (s : Text) (i w : ℕ) → 0 < i → i ≤ length s → w ≡ wordOf (drop i s) → w * 256 + getD s (i - 1) 0 ≡ wordOf (drop (i - 1) s)
-unfolding wordOf
-packed-more s i w h k e =
-    let a : i - 1 < length s = omega arith in
-    let b : i - 1 + 1 ≡ i = omega arith in
-    rw (rest-cons s (i - 1) a, b, ← e) (omega arith)
-
-pub packed-all : (s : Text) (i w : ℕ) → i ≤ 0 → w ≡ wordOf (drop i s) → w ≡ wordOf s
-packed-all s i w h e = let z : i ≡ 0 = omega arith in e ∙ ap (λ n. wordOf (drop n s)) z
+packed-snoc [] b = omega arith
+packed-snoc (x ∷ s) b = let ih = packed-snoc s b in rw (pow-succ' 256 (length s)) (omega arith)
 
 -- A name that was read has at most eight bytes, none of them 0: its word gives it back.
 abbrev Proper : ℕ → Text → Type 0
@@ -163,3 +157,56 @@ name-word (suc k) (b ∷ w) h p =
 
 pub name-back : {w r : Text} (s : Text) → past w r ≡ word s → nameOf 8 (wordOf w) ≡ w
 name-back {w} s e = let p = named s e in name-word 8 w (p .0) (p .1)
+
+-- A name as far as it was read: so many bytes, packed, and what is to come.
+pub record Worded (line : Text) (at w bytes next : ℕ) : Type 0 where
+  pub some : 1 ≤ bytes
+  pub few : bytes ≤ 8
+  pub here : next ≡ at + bytes
+  pub within : next ≤ length line
+  pub packed : w ≡ wordOf (take (next - at) (drop at line))
+  pub small : w < 256 ^ bytes
+  pub ahead : onward (wordOn (8 - bytes) (drop next line)) (prefixed (take (next - at) (drop at line))) ≡ word (drop at line)
+
+module _ (line : Text) (at : ℕ) where
+  pub worded-start : at < length line → (leb 97 (getD line at 0) && leb (getD line at 0) 122) ≡ true → getD line at 0 < 256 → Worded line at (getD line at 0) 1 (at + 1)
+  unfolding wordOf
+  worded-start h e b =
+      let k : at + 1 - at ≡ 1 = omega arith in
+      record { some = omega arith; few = omega arith; here = refl; within = omega arith; packed = rw (k, rest-cons line at h) (omega arith); small = omega arith; ahead = word-start line at h e }
+
+  module _ {w bytes next : ℕ} (x : Worded line at w bytes next) where
+    -- nothing more belongs to it
+    pub worded-end : past (take (next - at) (drop at line)) (drop next line) ≡ onward (wordOn (8 - bytes) (drop next line)) (prefixed (take (next - at) (drop at line)))
+        → Stands line at next (past (nameOf 8 w) (drop next line)) (word (drop at line))
+    worded-end e =
+        let says = e ∙ x .ahead in
+        record { says = ap (λ (s : Text). past s (drop next line)) (ap (nameOf 8) (x .packed) ∙ name-back (drop at line) says) ∙ says; after = omega (arith, x .here); within = x .within }
+
+    -- a byte more, above those before it
+    byte-fits : (b : ℕ) → b < 256 → b * 256 ^ bytes ≤ 255 * 256 ^ bytes
+    byte-fits b l = mul-le-mul (omega arith) (le-refl (256 ^ bytes))
+
+    byte-moved : (b : ℕ) → b < 256 → bytes < 8 → (b * 2 ^ (8 * bytes)) % 2 ^ 64 ≡ b * 256 ^ bytes
+    byte-moved b l h =
+        let p : 256 ^ bytes ≤ 256 ^ 7 = pow-le-pow-right {n = 256} (lit< tt) {j = 7} (omega arith) in
+        let q = byte-fits b l in
+        moved-up 8 b bytes (omega arith)
+
+    pub worded-more : (b : ℕ) → b ≡ getD line next 0 → b < 256 → bytes < 8 → next < length line → (isLower b || isDigit b) ≡ true
+        → Worded line at (w + (b * 2 ^ (8 * bytes)) % 2 ^ 64) (bytes + 1) (next + 1)
+    worded-more b e l h k g =
+        let p = take (next - at) (drop at line) in
+        let snoc = take-snoc line at next (omega (arith, x .here)) k in
+        let long : length p ≡ bytes = length-take-le (next - at) (drop at line) (rw length-drop (omega (arith, x .here))) ∙ omega (arith, x .here) in
+        let left : 8 - bytes - 1 ≡ 8 - (bytes + 1) = omega arith in
+        let q = byte-fits b l in
+        record {
+          some = omega arith;
+          few = omega arith;
+          here = omega (arith, x .here);
+          within = omega arith;
+          packed = rw (byte-moved b l h, snoc, ← e, packed-snoc p b, long, ← x .packed);
+          small = rw (byte-moved b l h, add-one bytes, pow-succ' 256 bytes) (omega (arith, x .small));
+          ahead = rw (snoc, ← left) (on-more line next p (8 - bytes) (omega arith) k (rw e at g)) ∙ x .ahead;
+        }

@@ -2,13 +2,12 @@
 //
 // A line is read from a place on. An answer says how far a form went, or the place of the first byte with which nothing
 // that is due there goes on.
-ghost use Prim.Native.Nat.{_-_, _≤_};
-ghost use lib.ListN.{length, take, drop};
+ghost use Prim.Native.Nat.{_≤_};
+ghost use lib.ListN.{length, drop};
 ghost use mathlib.Core.Bool.{_&&_, _||_};
 ghost use mathlib.Core.Path.{_≡_};
 ghost use lib.Dec.{leb};
 ghost use Rattle.table.specs.Decoded.{nameOf};
-ghost use Rattle.table.specs.Encoded.{wordOf};
 ghost use Rattle.forms.specs.Text.{onward, literal, byte, starts, sameText, isLower, isDigit, number, word};
 ghost use Rattle.forms.specs.Places.{digitOf, Steps};
 use crate::Step;
@@ -78,10 +77,10 @@ fn goes_on(b: u8) -> bool
     between(b, 97, 122) || between(b, 48, 57)
 }
 
-// Where a name ends: a lower-case letter, then up to seven letters or digits.
-fn word_end(line: &[u8], at: usize) -> Step
+// A name: a lower-case letter, then up to seven letters or digits. It is packed in a word, its first byte lowest.
+pub fn read_word(line: &[u8], at: usize) -> Step
     requires { ⌜ at ≤ length (now line) ⌝ }
-    ensures { λ r. ⌜ Steps (λ v next. take (next - at) (drop at (now (line .entry)))) (now (line .entry)) at r (word (drop at (now (line .entry)))) ⌝ }
+    ensures { λ r. ⌜ Steps (λ w next. nameOf 8 w) (now (line .entry)) at r (word (drop at (now (line .entry)))) ⌝ }
 {
     if line.len() <= at {
         return Step::Stuck(at);
@@ -89,45 +88,22 @@ fn word_end(line: &[u8], at: usize) -> Step
     if !between(line[at], 97, 122) {
         return Step::Stuck(at);
     }
+    let mut w = line[at] as u64;
+    let mut bytes: u64 = 1;
     let mut next = at + 1;
-    let mut room: usize = 7;
-    while 0 < room {
+    while bytes < 8 {
         if line.len() <= next {
-            return Step::To(0, next);
+            return Step::To(w, next);
         }
-        if !goes_on(line[next]) {
-            return Step::To(0, next);
+        let b = line[next];
+        if !goes_on(b) {
+            return Step::To(w, next);
         }
+        w += (b as u64) << (8 * bytes);
+        bytes += 1;
         next += 1;
-        room -= 1;
     }
-    Step::To(0, next)
-}
-
-// Up to eight bytes in a word, the first byte lowest.
-fn packed(text: &[u8]) -> u64
-    requires { ⌜ length (now text) ≤ 8 ⌝ }
-    ensures { λ r. ⌜ r ≡ wordOf (now (text .entry)) ⌝ }
-{
-    let mut w: u64 = 0;
-    let mut i = text.len();
-    while 0 < i {
-        i -= 1;
-        let b = text[i] as u64;
-        w = w * 256 + b;
-    }
-    w
-}
-
-pub fn read_word(line: &[u8], at: usize) -> Step
-    requires { ⌜ at ≤ length (now line) ⌝ }
-    ensures { λ r. ⌜ Steps (λ w next. nameOf 8 w) (now (line .entry)) at r (word (drop at (now (line .entry)))) ⌝ }
-{
-    let end = word_end(line, at);
-    let Step::To(_, next) = end else {
-        return end;
-    };
-    Step::To(packed(&line[at..next]), next)
+    Step::To(w, next)
 }
 
 pub fn sign_at(line: &[u8], at: usize, sign: u8) -> bool

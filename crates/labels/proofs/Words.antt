@@ -4,7 +4,7 @@ use mathlib.Core.Path.{_≡_, refl, sym, ap, _∙_}
 use mathlib.Core.Bool.{Bool, true, false, _&&_}
 use mathlib.Core.List.{[], _∷_}
 use Prim.Native.Nat.{ℕ, zero, suc, _+_, _*_, _-_, _/_, _%_, _^_, _≤_, _<_, zero-le}
-use native.Mathlib.Nat.{pow-suc, pow-succ', mod-eq-of-lt, not-suc-le-zero, mul-comm, mul-assoc, mul-one, one-mul, div-div-eq-div-mul, le-of-suc-le-suc, div-one}
+use native.Mathlib.Nat.{mul-zero, mul-suc, pow-zero, pow-suc, pow-succ', mod-eq-of-lt, not-suc-le-zero, mul-comm, mul-assoc, mul-one, one-mul, div-div-eq-div-mul, le-of-suc-le-suc, div-one}
 use native.Mathlib.Omega.{arith}
 use borrow.Author.Tests.{lt-leb, le-leb}
 use lib.Dec.{leb, leb·zero, lit<}
@@ -18,12 +18,10 @@ use Rattle.labels.specs.Bags.{bag}
 pub number-bag : (w : ℕ) → w < 2 ^ 64 → number (bag w) ≡ w
 number-bag w h = number-labelOf 13 w (omega arith)
 
--- A shift by five bits is a factor of 32.
-pub power : (n : ℕ) → 2 ^ (5 * n) ≡ 32 ^ n
-power zero = refl
-power (suc n) =
-    let e : 5 * suc n ≡ 5 * n + 5 = omega arith in
-    rw e (pow-add 2 (5 * n) 5 ∙ ap (λ (x : ℕ). x * 32) (power n) ∙ sym (pow-suc 32 n))
+-- A shift by so many bits again and again is a factor: by five bits, of 32.
+pub power : (bits n : ℕ) → 2 ^ (bits * n) ≡ (2 ^ bits) ^ n
+power bits zero = rw (mul-zero bits, pow-zero (2 ^ bits))
+power bits (suc n) = rw (mul-suc bits n) (pow-add 2 (bits * n) bits ∙ ap (λ (x : ℕ). x * 2 ^ bits) (power bits n) ∙ sym (pow-suc (2 ^ bits) n))
 
 -- The number of some actions of one name.
 pub number-empty : (names : ℕ) → number (empty names) ≡ 0
@@ -84,7 +82,7 @@ pub word-cleared : (w n : ℕ) → w < 2 ^ 64 → n < 13 → number (set (bag w)
 word-cleared w n h k =
     let e = number-cleared (bag w) n (rw (length-labelOf 13 w) k) ∙ number-bag w h in
     let m : (count (bag w) n * 32 ^ n) % 2 ^ 64 ≡ count (bag w) n * 32 ^ n = mod-eq-of-lt (omega arith) in
-    rw (power n, m) e
+    rw (power 5 n, m) e
 
 -- Whether a word lies inside another, digit by digit.
 pub fewer-digits : (k w : ℕ) → w < 32 ^ suc k → w / 32 < 32 ^ k
@@ -132,7 +130,7 @@ compared-goes {small} {large} x n h =
 pub word-several : (n : ℕ) → n < 12 → number (several 12 n 1) ≡ (1 * 2 ^ (5 * n)) % 2 ^ 64
 word-several n h =
     let small : 2 ^ (5 * n) < 2 ^ 64 = pow-lt {j = 64} (omega arith) in
-    number-several 12 n 1 h ∙ ap (λ (x : ℕ). 1 * x) (sym (power n)) ∙ sym (mod-eq-of-lt (rw (one-mul (2 ^ (5 * n))) small))
+    number-several 12 n 1 h ∙ ap (λ (x : ℕ). 1 * x) (sym (power 5 n)) ∙ sym (mod-eq-of-lt (rw (one-mul (2 ^ (5 * n))) small))
 
 pub word-count : (w n : ℕ) → n < 13 → count (bag w) n ≡ w / 2 ^ (5 * n) % 32
-word-count w n h = count-labelOf 13 w n h ∙ ap (λ (x : ℕ). w / x % 32) (sym (power n))
+word-count w n h = count-labelOf 13 w n h ∙ ap (λ (x : ℕ). w / x % 32) (sym (power 5 n))

@@ -13,9 +13,9 @@ use Rattle.labels.proofs.Words.{power}
 use Rattle.table.specs.Encoded.{operatorFor, termFor}
 use Rattle.table.specs.Packed.{packed, termWord, kindTerm, wordTerm}
 
--- a count that is moved up five bits for each name before its own
-pub count-moved : (times n : ℕ) → times * 32 ^ n < 2 ^ 64 → (times * 2 ^ (5 * n)) % 2 ^ 64 ≡ times * 32 ^ n
-count-moved times n h = ap (λ (p : ℕ). (times * p) % 2 ^ 64) (power n) ∙ mod-eq-of-lt h
+-- what is moved up by so many bits again and again, as long as it stays in the word
+pub moved-up : (bits x n : ℕ) → x * (2 ^ bits) ^ n < 2 ^ 64 → (x * 2 ^ (bits * n)) % 2 ^ 64 ≡ x * (2 ^ bits) ^ n
+moved-up bits x n h = ap (λ (p : ℕ). (x * p) % 2 ^ 64) (power bits n) ∙ mod-eq-of-lt h
 
 -- the numbers of a packed word
 module _ (k t u entries : ℕ) (h : k < 32) where

@@ -1,43 +1,99 @@
--- `forms::bytes::read_word` meets its contract: the bytes up to the name's end, packed.
+-- `forms::bytes::read_word` meets its contract: byte by byte, each above those before it.
 -- Assumes nothing.
-use borrow.Author.Needs.{needs}
-use mathlib.Core.Path.{ap, _∙_}
-use Rattle.table.specs.Decoded.{nameOf}
-use Rattle.forms.proofs.Words.{named, name-back}
-use Rattle.forms.proofs.Steps.{went, stuck-still, otherwise}
+use mathlib.Core.Path.{refl, sym, _∙_}
+use Prim.Native.Nat.{_+_, _-_, _^_, _≤_}
+use native.Mathlib.Nat.{pow-le-pow-right}
+use native.Mathlib.Omega.{arith}
+use borrow.Author.Tests.{not-true, not-false}
+use lib.Dec.{lit<}
+use lib.ListN.{getD, take, drop}
+use Rattle.forms.proofs.Rests.{asks-nothing}
+use Rattle.forms.proofs.Words.{word-none, word-other, on-full, on-none, on-other, Worded, worded-start, worded-end, worded-more}
 use Rattle.forms.proofs.bytes.read_word.Statement.{statement}
 use Rattle.forms.proofs.bytes.read_word.Tie as tie
 
-word-end-requires : tie.Need-word-end-requires
-word-end-requires c κs = search needs
+abbrev Inv-loop : tie.InvT-loop
+Inv-loop line at w₀ bytes₀ next₀ w bytes next = Worded line at w bytes next
 
-enum-known-end : tie.Need-enum-known-end
-enum-known-end c = c .match .keys1
+abbrev μ-loop : tie.MeasureT-loop
+μ-loop line at w₀ bytes₀ next₀ w bytes next = 8 - bytes
 
-enum-told : tie.Need-enum-told
-enum-told c = c .match .keys2
+returns : tie.Need-returns Inv-loop μ-loop
+returns c = record { stands = record { says = word-none (c .before .before .args .line .now) (c .before .before .args .at) (omega arith); after = omega arith; within = omega arith } }
 
-returns : tie.Need-returns
-returns c = stuck-still (c .before .before .word-end .ensures) (c .enum-told .given .1)
+shared-slice-read-between : tie.Need-shared-slice-read-between Inv-loop μ-loop
+shared-slice-read-between c = omega arith
 
-sub-packed : tie.Need-sub-packed
-sub-packed c = went (c .before .before .before .word-end .ensures) (c .before .end .given .1) .after
+returns-2 : tie.Need-returns-2 Inv-loop μ-loop
+returns-2 c = record { stands = record { says = word-other (c .before .before .before .before .before .args .line .now) (c .before .before .before .before .before .args .at) (omega arith) (sym (c .before .between .ensures) ∙ not-true _ (c .if2 .taken)); after = omega arith; within = omega arith } }
 
-part-packed-start : tie.Need-part-packed-start
-part-packed-start c = went (c .before .before .before .word-end .ensures) (c .before .end .given .1) .after
+shared-slice-read-w : tie.Need-shared-slice-read-w Inv-loop μ-loop
+shared-slice-read-w c = omega arith
 
-part-packed-end : tie.Need-part-packed-end
-part-packed-end c = went (c .before .before .before .word-end .ensures) (c .before .end .given .1) .within
+cast-w : tie.Need-cast-w Inv-loop μ-loop
+cast-w c = omega (arith, c .shared-slice-known3 .given (c .before .before .before .before .before .before .args .at))
 
-packed-requires : tie.Need-packed-requires
-packed-requires c κs = named _ (went (c .before .before .before .before .word-end .ensures) (c .before .before .end .given .1) .says) .0
+add-next : tie.Need-add-next Inv-loop μ-loop
+add-next c = omega arith
 
-returns-2 : tie.Need-returns-2
-returns-2 c =
-    let s = went (c .before .before .before .before .before .word-end .ensures) (c .before .before .before .end .given .1) in
-    record { stands = otherwise s (ap (nameOf 8) (c .packed .ensures) ∙ name-back _ (s .says)) }
+loop-holds : tie.Need-loop-holds Inv-loop μ-loop
+loop-holds c =
+    let a = c .before .before .before .before .before .before .args in
+    worded-start (a .line .now) (a .at) (omega arith) (sym (c .before .before .between .ensures) ∙ not-false _ (c .before .if2 .left)) (omega (arith, c .shared-slice-known3 .given (a .at)))
+
+returns-3 : tie.Need-returns-3 Inv-loop μ-loop
+returns-3 c =
+    let a = c .before .before .before .before .before .before .before .before .before .args in
+    let l = c .before .before .loop in
+    record { stands = worded-end (a .line .now) (a .at) (l .inv) (on-none (a .line .now) (l .next) (take (l .next - a .at) (drop (a .at) (a .line .now))) (8 - l .bytes) (omega arith)) }
+
+shared-slice-read-b : tie.Need-shared-slice-read-b Inv-loop μ-loop
+shared-slice-read-b c = omega arith
+
+returns-4 : tie.Need-returns-4 Inv-loop μ-loop
+returns-4 c =
+    let a = c .before .before .before .before .before .before .before .before .before .before .before .before .args in
+    let l = c .before .before .before .before .before .loop in
+    record { stands = worded-end (a .line .now) (a .at) (l .inv) (on-other (a .line .now) (l .next) (take (l .next - a .at) (drop (a .at) (a .line .now))) (8 - l .bytes) (omega arith) (sym (c .before .goes-on .ensures) ∙ not-true _ (c .if4 .taken))) }
+
+cast-w-2 : tie.Need-cast-w-2 Inv-loop μ-loop
+cast-w-2 c = omega (arith, c .before .before .shared-slice-known4 .given (c .before .before .before .before .before .loop .next))
+
+mul-w : tie.Need-mul-w Inv-loop μ-loop
+mul-w c = omega arith
+
+shl-w : tie.Need-shl-w Inv-loop μ-loop
+shl-w c = omega arith
+
+loop-again : tie.Need-loop-again Inv-loop μ-loop
+loop-again c =
+    let a = c .before .before .before .before .before .before .before .before .before .before .before .before .args in
+    let l = c .before .before .before .before .before .loop in
+    worded-more (a .line .now) (a .at) (l .inv) (getD (a .line .now) (l .next) 0) refl (omega (arith, c .before .before .shared-slice-known4 .given (l .next))) (omega arith) (omega arith) (sym (c .before .goes-on .ensures) ∙ not-false _ (c .if4 .left))
+
+add-w : tie.Need-add-w Inv-loop μ-loop
+add-w c =
+    let l = c .before .before .before .before .before .loop in
+    let p : 256 ^ (l .bytes + 1) ≤ 256 ^ 8 = pow-le-pow-right {n = 256} (lit< tt) {j = 8} (omega arith) in
+    omega (arith, loop-again c .small)
+
+add-bytes : tie.Need-add-bytes Inv-loop μ-loop
+add-bytes c = omega arith
+
+add-next-2 : tie.Need-add-next-2 Inv-loop μ-loop
+add-next-2 c = omega (arith, c .before .before .before .before .before .loop .inv .within)
+
+loop-less : tie.Need-loop-less Inv-loop μ-loop
+loop-less c = omega arith
+
+returns-5 : tie.Need-returns-5 Inv-loop μ-loop
+returns-5 c =
+    let a = c .before .before .before .before .before .before .before .before .args in
+    let l = c .before .loop in
+    record { stands = worded-end (a .line .now) (a .at) (l .inv) (on-full (a .line .now) (l .next) (take (l .next - a .at) (drop (a .at) (a .line .now))) (8 - l .bytes) (omega arith)) }
 
 pub read-word-spec : {M : Type 1} → statement M
 read-word-spec =
     tie.close
-    (tie.spec word-end-requires enum-known-end enum-told returns sub-packed part-packed-start part-packed-end packed-requires returns-2)
+    (tie.spec Inv-loop μ-loop returns shared-slice-read-between asks-nothing returns-2 shared-slice-read-w cast-w add-next loop-holds returns-3
+    shared-slice-read-b asks-nothing returns-4 cast-w-2 mul-w shl-w add-w add-bytes add-next-2 loop-less loop-again returns-5)

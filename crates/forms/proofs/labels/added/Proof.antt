@@ -2,7 +2,7 @@
 -- Assumes nothing.
 use Prim.Native.Nat.{_*_, _+_, _^_, _<_}
 use native.Mathlib.Omega.{arith}
-use Rattle.table.proofs.Packed.{count-moved}
+use Rattle.table.proofs.Packed.{moved-up}
 use Rattle.forms.proofs.labels.added.Statement.{statement}
 use Rattle.forms.proofs.labels.added.Tie as tie
 
@@ -25,10 +25,10 @@ shl-result : tie.Need-shl-result
 shl-result c = omega (arith, room c .0)
 
 add-result : tie.Need-add-result
-add-result c = let r = room c in rw (count-moved (c .before .before .args .times) (c .before .before .args .name) (omega arith)) (omega arith)
+add-result c = let r = room c in rw (moved-up 5 (c .before .before .args .times) (c .before .before .args .name) (omega arith)) (omega arith)
 
 returns-2 : tie.Need-returns-2
-returns-2 c = let r = room c in rw (count-moved (c .before .before .args .times) (c .before .before .args .name) (omega arith), c .enum-told .given .1)
+returns-2 c = let r = room c in rw (moved-up 5 (c .before .before .args .times) (c .before .before .args .name) (omega arith), c .enum-told .given .1)
 
 pub added-spec : {M : Type 1} → statement M
 added-spec = tie.close (tie.spec enum-told enum-told-2 returns mul-result shl-result add-result returns-2)
