@@ -50,7 +50,7 @@ add-k : tie.Need-add-k Inv-loop μ-loop
 add-k c = omega arith
 
 slice-aggregate-all-stay : tie.Need-slice-aggregate-all-stay Inv-loop μ-loop
-slice-aggregate-all-stay c = sym (c .before .before .before .before .before .before .before .before .before .before .before .before .before .loop .inv .size)
+slice-aggregate-all-stay c = sym (omega (arith, c .before .before .before .before .before .before .before .before .before .before .before .before .before .loop .inv .size, c .before .before .before .before .before .pass .kept .1 .1 .1 .1 .1 .1 .0 ∙ c .before .before .before .before .before .before .before .before .before .before .before .before .before .loop .inv .sizeThis))
 
 slice-aggregate-all-stay-2 : tie.Need-slice-aggregate-all-stay-2 Inv-loop μ-loop
 slice-aggregate-all-stay-2 c = sym (c .before .before .before .before .before .before .pass .kept .1 .1 .1 .1 .1 .1 .0 ∙ c .before .before .before .before .before .before .before .before .before .before .before .before .before .before .loop .inv .sizeThis)
