@@ -12,40 +12,69 @@ struct Writer {
         memcpy(at, bytes.data(), bytes.size());
         at += bytes.size();
     }
-
-    void put_number(unsigned value) {
-        char digits[10];
-        char *first = digits + sizeof digits;
-        do {
-            *--first = '0' + value % 10;
-            value /= 10;
-        } while (value != 0);
-        put({first, size_t(digits + sizeof digits - first)});
-    }
-
-    void put_line(std::string_view key, unsigned value) {
-        put(key);
-        put_number(value);
-        *at++ = '\n';
-    }
-
-    void put_label(const Description &d, Label label) {
-        put("label=");
-        if (label == TAU) {
-            put("tau.");
-        }
-        for (unsigned n = 0; label >> shift_of(n) != 0; ++n) {
-            if (unsigned count = count_of(label, n)) {
-                put(d.names[n]);
-                *at++ = ':';
-                put_number(count);
-                *at++ = '.';
-            }
-        }
-        // The last part has no dot behind it, but the end of the line.
-        at[-1] = '\n';
-    }
+    void put(char byte) { *at++ = byte; }
+    void replace_last(char byte) { at[-1] = byte; }
 };
+
+// Counts what a writer would write.
+struct Counter {
+    size_t length = 0;
+
+    void put(std::string_view bytes) { length += bytes.size(); }
+    void put(char) { ++length; }
+    void replace_last(char) {}
+};
+
+template <class Out> void put_number(Out &out, unsigned value) {
+    char digits[10];
+    char *first = digits + sizeof digits;
+    do {
+        *--first = '0' + value % 10;
+        value /= 10;
+    } while (value != 0);
+    out.put({first, size_t(digits + sizeof digits - first)});
+}
+
+template <class Out> void put_line(Out &out, std::string_view key, unsigned value) {
+    out.put(key);
+    put_number(out, value);
+    out.put('\n');
+}
+
+template <class Out> void put_label(Out &out, const Description &d, Label label) {
+    out.put("label=");
+    if (label == TAU) {
+        out.put("tau.");
+    }
+    for (unsigned n = 0; label >> shift_of(n) != 0; ++n) {
+        if (unsigned count = count_of(label, n)) {
+            out.put(d.names[n]);
+            out.put(':');
+            put_number(out, count);
+            out.put('.');
+        }
+    }
+    // The last part has no dot behind it, but the end of the line.
+    out.replace_last('\n');
+}
+
+constexpr size_t LONGEST_REFUSAL = sizeof "answer=refused\nreason=7\nline=130\n";
+constexpr size_t LONGEST_HEAD = sizeof "answer=ok\nrounds=2049\nlabels=1024\n";
+constexpr size_t LONGEST_LABEL = sizeof "label=" + MOST_NAMES * sizeof "namename:31";
+
+// Puts a text that is no longer than `longest`. It is counted before only where the area might be too short for it.
+template <class Text> size_t write_if_it_fits(Text put_text, size_t longest, uint8_t *area, size_t area_length) {
+    if (area_length < longest) {
+        Counter counter;
+        put_text(counter);
+        if (area_length < counter.length) {
+            return 0;
+        }
+    }
+    Writer writer{area};
+    put_text(writer);
+    return writer.at - area;
+}
 
 void cut(const Description &d, std::vector<Label> &labels) {
     if (!d.has_order) {
@@ -57,18 +86,24 @@ void cut(const Description &d, std::vector<Label> &labels) {
 
 } // namespace
 
-size_t write_text(const Description &d, Answer answer, uint8_t *text) {
-    Writer writer{text};
-    if (answer.is_too_large) {
-        writer.put("answer=refused\nreason=7\nline=0\n");
-        return writer.at - text;
-    }
+size_t write_refusal(Refusal refusal, uint8_t *area, size_t area_length) {
+    auto put_refusal = [=](auto &out) {
+        out.put("answer=refused\n");
+        put_line(out, "reason=", unsigned(refusal.reason));
+        put_line(out, "line=", refusal.line);
+    };
+    return write_if_it_fits(put_refusal, LONGEST_REFUSAL, area, area_length);
+}
+
+size_t write_answer(const Description &d, Answer answer, uint8_t *area, size_t area_length) {
     cut(d, answer.labels);
-    writer.put("answer=ok\n");
-    writer.put_line("rounds=", answer.rounds);
-    writer.put_line("labels=", answer.labels.size());
-    for (Label label : answer.labels) {
-        writer.put_label(d, label);
-    }
-    return writer.at - text;
+    auto put_answer = [&](auto &out) {
+        out.put("answer=ok\n");
+        put_line(out, "rounds=", answer.rounds);
+        put_line(out, "labels=", answer.labels.size());
+        for (Label label : answer.labels) {
+            put_label(out, d, label);
+        }
+    };
+    return write_if_it_fits(put_answer, LONGEST_HEAD + answer.labels.size() * LONGEST_LABEL, area, area_length);
 }

@@ -7,7 +7,6 @@
 
 constexpr size_t MOST_LABELS_OF_A_SET = 1024;
 constexpr size_t MOST_LABELS_OF_ALL_SETS = 2048;
-constexpr unsigned MOST_ACTIONS = 31;
 
 struct Answer {
     bool is_too_large; // refusal 7
@@ -23,5 +22,6 @@ inline unsigned actions_of(Label label) {
     return rest == 0 && label != TAU ? 31 : rest;
 }
 
-// Writes the text from the start of an area that holds every text, and gives its length.
-size_t write_text(const Description &description, Answer answer, uint8_t *text);
+// Both write a text from the start of an area and give its length. If it does not fit, nothing is written and 0 is given.
+size_t write_refusal(Refusal refusal, uint8_t *area, size_t area_length);
+size_t write_answer(const Description &description, Answer answer, uint8_t *area, size_t area_length);

@@ -123,6 +123,6 @@ class BagsOfNames {
 
 } // namespace
 
-size_t alphabet_by_bags(const uint8_t *description, size_t length, uint8_t *text, size_t) {
-    return text_by<OrderedSets<BagsOfNames>>(description, length, text);
+size_t alphabet_by_bags(const uint8_t *description, size_t length, uint8_t *text, size_t text_length) {
+    return text_by<OrderedSets<BagsOfNames>>(description, length, text, text_length);
 }

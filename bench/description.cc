@@ -1,160 +1,156 @@
 #include "description.h"
 
+#include "list_reader.h"
+
 namespace {
 
-// What is left of the text, and where the next word of a list goes.
-struct Reader {
-    const char *at;
+constexpr std::string_view KIND_WORDS[] = {"act",   "tau",    "delta", "ref",   "sum",  "cond",   "choice", "ifelse", "seq",
+                                           "merge", "lmerge", "sync",  "block", "hide", "rename", "comm",   "allow"};
+
+using KindTable = WordTable<std::size(KIND_WORDS), 6>;
+
+constexpr KindTable table_of_kinds() {
+    KindTable table;
+    for (std::string_view word : KIND_WORDS) {
+        table.add(packed(word));
+    }
+    return table;
+}
+
+constexpr KindTable KINDS = table_of_kinds();
+
+bool is_multi_action(Kind kind) { return kind == Kind::act || kind == Kind::tau || kind == Kind::sync; }
+
+// The lines in the order in which they are due. Reading ends at the first that does not pass.
+class DescriptionReader : ListReader {
+    const char *end;
     Description &d;
-    Label *free_word;
 
-    void skip(size_t bytes) { at += bytes; }
-    void skip_key() {
-        while (*at++ != '=') {
+  public:
+    DescriptionReader(std::string_view text, Description &description)
+        : ListReader(text, description.words.data()), end(text.data() + text.size()), d(description) {}
+
+    Refusal read() {
+        bool is_read = read_names() && read_terms() && read_bodies() && passes(take_body("root=", d.root)) &&
+                       passes(take_order()) && passes(place() == end);
+        return is_read ? Refusal{Reason::none, 0} : refusal();
+    }
+
+  private:
+    bool read_names() {
+        bool is_read = passes(take_count("names=", 1, MOST_NAMES, d.name_count));
+        for (unsigned n = 0; is_read && n < d.name_count; ++n) {
+            is_read = passes(take("name=") && take_new_name(d.names[n]) && take('\n'));
+        }
+        return is_read;
+    }
+
+    bool read_terms() {
+        bool is_read = passes(take_count("equations=", 0, MOST_EQUATIONS, d.equation_count)) &&
+                       passes(take_count("terms=", 1, MOST_TERMS, d.term_count));
+        for (unsigned t = 0; is_read && t < d.term_count; ++t) {
+            is_read = passes(take("term=") && take_kind(d.terms[t].kind) && take_parts(d.terms[t], t));
+        }
+        return is_read;
+    }
+
+    bool read_bodies() {
+        bool is_read = true;
+        for (unsigned e = 0; is_read && e < d.equation_count; ++e) {
+            is_read = passes(take_body("equation=", d.bodies[e]));
+        }
+        return is_read;
+    }
+
+    template <size_t SIZE> bool take_count(const char (&key)[SIZE], unsigned least, unsigned most, unsigned &count) {
+        return take(key) && take_number(count) && least <= count && count <= most && take('\n');
+    }
+
+    template <size_t SIZE> bool take_body(const char (&key)[SIZE], uint8_t &term) {
+        return take(key) && take_number_below(d.term_count, term) && take('\n');
+    }
+
+    bool take_number_below(unsigned limit, uint8_t &value) {
+        unsigned number;
+        if (!take_number(number)) {
+            return false;
+        }
+        note(number >= limit, Reason::range);
+        value = number;
+        return true;
+    }
+
+    bool take_kind(Kind &kind) {
+        unsigned number = KINDS.find(take_word());
+        kind = Kind(number);
+        return number != KindTable::NOT_THERE;
+    }
+
+    // What follows the kind of term t, with the end of the line.
+    bool take_parts(Term &term, unsigned t) {
+        switch (term.kind) {
+        case Kind::tau:
+        case Kind::delta:
+            return take('\n');
+        case Kind::act:
+            return take(' ') && take_action(term.first) && take('\n');
+        case Kind::ref:
+            return take(' ') && take_number_below(d.equation_count, term.first) && take('\n');
+        case Kind::sum:
+        case Kind::cond:
+            return take(' ') && take_number_below(t, term.first) && take('\n');
+        default:
+            return take(' ') && take_number_below(t, term.first) && take(' ') &&
+                   (term.kind < Kind::block ? take_second(term, t) : take_list(term));
         }
     }
 
-    unsigned number() {
-        unsigned value = *at++ - '0';
-        if (*at >= '0' && *at <= '9') {
-            value = 10 * value + (*at++ - '0');
+    bool take_action(uint8_t &name) {
+        Label n;
+        bool has_form = take_name(n);
+        name = n;
+        return has_form;
+    }
+
+    bool take_second(Term &term, unsigned t) {
+        if (!take_number_below(t, term.second)) {
+            return false;
         }
-        return value;
-    }
-
-    std::string_view word() {
-        const char *first = at;
-        while ((*at >= 'a' && *at <= 'z') || (*at >= '0' && *at <= '9')) {
-            ++at;
+        // With an operand out of range there is no term to look at, and a smaller number to refuse with.
+        if (term.kind == Kind::sync && !has_faults()) {
+            bool are_multi_actions = is_multi_action(d.terms[term.first].kind) && is_multi_action(d.terms[term.second].kind);
+            note(!are_multi_actions, Reason::sync_operand);
         }
-        return {first, size_t(at - first)};
+        return take('\n');
     }
 
-    unsigned name() {
-        std::string_view searched = word();
-        unsigned n = 0;
-        while (d.names[n] != searched) {
-            ++n;
+    bool take_list(Term &term) {
+        switch (term.kind) {
+        case Kind::rename:
+            return take_pairs(term.list);
+        case Kind::comm:
+            return take_rules(term.list);
+        case Kind::allow:
+            return take_labels(term.list);
+        default:
+            return take_names(term.list);
         }
-        return n;
     }
 
-    Label label() {
-        Label sum = TAU;
-        do {
-            unsigned n = name();
-            skip(1);
-            sum += number() * single(n);
-        } while (*at == '.' && at++);
-        return sum;
-    }
-
-    // Entries up to the end of the line, each read by `entry`, which puts its words.
-    template <class Entry> List list(Entry entry) {
-        Label *first = free_word;
-        do {
-            entry();
-        } while (*at++ == ',');
-        return {first, free_word};
-    }
-
-    void put(Label word) { *free_word++ = word; }
-
-    List names() {
-        return list([&] { put(name()); });
-    }
-    List pairs() {
-        return list([&] { put(name()), skip(1), put(name()); });
-    }
-    List rules() {
-        return list([&] { put(label()), skip(1), put(single(name())); });
-    }
-    List labels() {
-        // `none` has no count, so no label begins with it and the end of the line.
-        if (std::string_view(at, 5) == "none\n") {
-            skip(5);
-            return {free_word, free_word};
+    bool take_order() {
+        if (!take("order=")) {
+            return false;
         }
-        return list([&] { put(label()); });
+        d.has_order = !take("all\n");
+        return !d.has_order || take_labels(d.order);
     }
 };
 
-Kind kind_of(std::string_view word) {
-    static constexpr std::string_view WORDS[] = {"act",   "tau",   "delta",  "ref",  "sum",   "cond", "choice", "ifelse", "seq",
-                                                 "merge", "lmerge", "sync", "block", "hide", "rename", "comm",   "allow"};
-    unsigned kind = 0;
-    while (WORDS[kind] != word) {
-        ++kind;
-    }
-    return Kind(kind);
-}
-
-List list_of(Reader &r, Kind kind) {
-    switch (kind) {
-    case Kind::rename:
-        return r.pairs();
-    case Kind::comm:
-        return r.rules();
-    case Kind::allow:
-        return r.labels();
-    default:
-        return r.names();
-    }
-}
-
-// The parts behind the kind, with the end of the line.
-void read_parts(Reader &r, Term &term) {
-    term.first = term.kind == Kind::act ? r.name() : r.number();
-    if (*r.at++ == '\n') {
-        return;
-    }
-    if (term.kind >= Kind::block) {
-        term.list = list_of(r, term.kind);
-        return;
-    }
-    term.second = r.number();
-    r.skip(1);
-}
-
-void read_term(Reader &r, Term &term) {
-    r.skip_key();
-    term.kind = kind_of(r.word());
-    if (*r.at++ != '\n') {
-        read_parts(r, term);
-    }
-}
-
-unsigned number_line(Reader &r) {
-    r.skip_key();
-    unsigned value = r.number();
-    r.skip(1);
-    return value;
-}
-
-void read_names(Reader &r) {
-    r.d.name_count = number_line(r);
-    for (unsigned n = 0; n < r.d.name_count; ++n) {
-        r.skip_key();
-        r.d.names[n] = r.word();
-        r.skip(1);
-    }
-}
-
 } // namespace
 
-void read_description(std::string_view text, Description &d) {
-    Reader r{text.data(), d, d.words.data()};
-    read_names(r);
-    d.equation_count = number_line(r);
-    d.term_count = number_line(r);
-    for (unsigned t = 0; t < d.term_count; ++t) {
-        read_term(r, d.terms[t]);
+Refusal read_description(std::string_view text, Description &description) {
+    if (text.size() > MOST_BYTES) {
+        return {Reason::too_long, 0};
     }
-    for (unsigned e = 0; e < d.equation_count; ++e) {
-        d.bodies[e] = number_line(r);
-    }
-    d.root = number_line(r);
-    r.skip_key();
-    d.has_order = std::string_view(r.at, 4) != "all\n";
-    d.order = d.has_order ? r.labels() : List{r.free_word, r.free_word};
+    return DescriptionReader(text, description).read();
 }

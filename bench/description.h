@@ -9,7 +9,10 @@
 constexpr unsigned MOST_NAMES = 12;
 constexpr unsigned MOST_EQUATIONS = 16;
 constexpr unsigned MOST_TERMS = 96;
-constexpr unsigned MOST_WORDS_OF_A_LIST = 32;
+constexpr unsigned MOST_RULES = 8;
+constexpr unsigned MOST_LABELS_OF_A_LIST = 32;
+constexpr unsigned MOST_ACTIONS = 31;
+constexpr size_t MOST_BYTES = 8192;
 
 // The number of a label: five bits for the count of each name.
 using Label = uint64_t;
@@ -49,13 +52,14 @@ struct Description {
     unsigned name_count;
     unsigned term_count;
     unsigned equation_count;
-    unsigned root;
+    uint8_t root;
     bool has_order;
     List order;
     std::array<std::string_view, MOST_NAMES> names;
     std::array<Term, MOST_TERMS> terms;
     std::array<uint8_t, MOST_EQUATIONS> bodies;
-    std::array<Label, (MOST_TERMS + 1) * MOST_WORDS_OF_A_LIST> words;
+    // A list over its maximum is read to its end, too. There is room, as a word takes two bytes of text or more.
+    std::array<Label, MOST_BYTES / 2> words;
 
     // Left as it comes: what is not read is not used either, and clearing it would cost more than reading a small description.
     Description() {}
@@ -63,5 +67,14 @@ struct Description {
     Description(const Description &) = delete;
 };
 
-// Reads a well-formed description; of any other nothing is promised.
-void read_description(std::string_view text, Description &description);
+// Why a description is refused, by number.
+enum class Reason : uint8_t { none, too_long, form, name, range, list, sync_operand, too_large };
+
+struct Refusal {
+    Reason reason;
+    unsigned line;
+};
+
+// Reads a description and checks every line. The reason is none if it is well-formed; if not, nothing is promised of what was
+// read.
+Refusal read_description(std::string_view text, Description &description);

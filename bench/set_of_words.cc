@@ -57,6 +57,6 @@ class PackedWords {
 
 } // namespace
 
-size_t alphabet_by_words(const uint8_t *description, size_t length, uint8_t *text, size_t) {
-    return text_by<OrderedSets<PackedWords>>(description, length, text);
+size_t alphabet_by_words(const uint8_t *description, size_t length, uint8_t *text, size_t text_length) {
+    return text_by<OrderedSets<PackedWords>>(description, length, text, text_length);
 }

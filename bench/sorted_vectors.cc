@@ -301,6 +301,6 @@ class SortedVectors {
 
 } // namespace
 
-size_t alphabet_by_vectors(const uint8_t *description, size_t length, uint8_t *text, size_t) {
-    return text_by<SortedVectors>(description, length, text);
+size_t alphabet_by_vectors(const uint8_t *description, size_t length, uint8_t *text, size_t text_length) {
+    return text_by<SortedVectors>(description, length, text, text_length);
 }
