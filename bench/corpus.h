@@ -14,7 +14,7 @@ struct Group {
     std::vector<Entry> entries;
 };
 
-// The examples that are well-formed, by what is expected of them.
+// All examples, those that are refused among them.
 Group read_examples(const std::string &folder);
 
 // The first records of the class `well-formed` among the generator's, which come with a file that names their classes.
