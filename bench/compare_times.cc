@@ -14,6 +14,9 @@ namespace {
 constexpr const char *UNIT_EXAMPLE = "dies-16-start-done-busy";
 constexpr size_t RECORDS_TAKEN = 300;
 
+// What the call's ratio to each peer should be at least.
+constexpr double AIMS[CONTENDERS] = {0, 10, 1, 1};
+
 // Of one entry: the call's time in units of the example's, and the time of each peer in units of the call's.
 using Ratios = std::array<double, CONTENDERS>;
 
@@ -87,22 +90,41 @@ void print_least(const std::vector<Measured> &entries) {
     }
 }
 
+// On how many entries the call does as well as it should beside each peer.
+void print_reached(const std::string &name, const std::vector<Measured> &entries) {
+    size_t reached[CONTENDERS] = {};
+    for (const Measured &entry : entries) {
+        for (unsigned peer = CALL + 1; peer < CONTENDERS; ++peer) {
+            reached[peer] += entry.ratios[peer] >= AIMS[peer];
+        }
+    }
+    std::printf("%s, %zu: 10 times as fast as (a) on %zu, as fast as (b) on %zu, as fast as (c) on %zu\n", name.c_str(), entries.size(),
+                reached[1], reached[2], reached[3]);
+}
+
 void compare(char **paths) {
     std::vector<Group> groups = {read_examples(paths[0]), read_well_formed(paths[2], paths[3], RECORDS_TAKEN)};
     double unit = unit_time(groups[0]);
+    size_t others = groups.size();
     for (Group &group : read_worst(paths[1])) {
         groups.push_back(std::move(group));
     }
     std::printf("| %-36s | %8s | %8s | %8s | %8s |\n", "descriptions", "call/968", "(a)/call", "(b)/call", "(c)/call");
     std::printf("|---|---|---|---|---|\n");
     std::vector<Measured> all;
-    for (const Group &group : groups) {
-        std::vector<Measured> entries = measure(group, unit);
-        print_group(group.name, entries);
+    std::vector<std::vector<Measured>> measured(others + 1);
+    for (size_t i = 0; i < groups.size(); ++i) {
+        std::vector<Measured> entries = measure(groups[i], unit);
+        print_group(groups[i].name, entries);
         std::fflush(stdout);
         all.insert(all.end(), entries.begin(), entries.end());
+        std::vector<Measured> &kind = measured[std::min(i, others)];
+        kind.insert(kind.end(), entries.begin(), entries.end());
     }
     std::printf("\n");
+    for (size_t i = 0; i <= others; ++i) {
+        print_reached(i < others ? groups[i].name : "worst", measured[i]);
+    }
     print_least(all);
 }
 

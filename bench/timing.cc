@@ -76,6 +76,10 @@ unsigned answers_of_a_turn(unsigned contender, const std::string &description, d
 double take_turns(const std::string &description, const std::array<unsigned, CONTENDERS> &answers, Times &least) {
     double spent = 0;
     for (unsigned contender = 0; contender < CONTENDERS; ++contender) {
+        if (answers[contender] > 1) {
+            // Untimed: what the contender before left to be tidied up in memory is not this one's to pay for.
+            text_of(contender, description);
+        }
         if (answers[contender] > 0) {
             double seconds = seconds_of(contender, description, answers[contender]);
             spent += seconds;
