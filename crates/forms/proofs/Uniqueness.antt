@@ -10,7 +10,6 @@ use Rattle.meaning.specs.Descriptions as D
 use Rattle.meaning.specs.Answers.{Fault, form, name, range, amount, operand}
 use Rattle.meaning.proofs.Alike.{alike, alike-through}
 use Rattle.table.specs.declared.Term.{Term}
-use Rattle.table.specs.declared.Term.the-variants.{Delta}
 use Rattle.table.specs.declared.Order.{Order}
 use Rattle.table.specs.Decoded.{nameOf}
 use Rattle.table.specs.Encoded.{wordOf, termWords, termFor, orderWords, orderFor, filled, slotsFrom}

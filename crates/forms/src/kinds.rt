@@ -65,6 +65,7 @@ pub fn find_kind(line: &[u8], at: usize) -> KindStep
     requires { ⌜ (1 ≤ at) × (at ≤ length (now line)) ⌝ }
     ensures { λ r. ⌜ KindRead (now (line .entry)) (ofKind kinds (drop at (now (line .entry)))) r ⌝ }
 {
+    // In a local of its own, or the whole table would be laid out again for each word.
     let words = KINDS;
     let mut far = 0;
     let mut k = 0;

@@ -47,7 +47,7 @@ fn finish(line: &[u8], at: usize, x: Term) -> TermStep
     TermStep::To(x, Found::Fine)
 }
 
-// The last number of a line, or the only one.
+// The last number of a line, or the only one. From ref on a kind has the same number here, by its word's place, as in the table.
 fn read_last(k: usize, t: usize, line: &[u8], at: usize) -> TermStep
     requires { ⌜ at ≤ length (now line) ⌝ }
     ensures { λ r. ⌜ PlainRead (now (line .entry)) (ofOne (madeOf k t) (drop at (now (line .entry)))) r ⌝ }

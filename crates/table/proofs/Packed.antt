@@ -10,7 +10,7 @@ use Rattle.meaning.specs.Sets.{Rising}
 use Rattle.meaning.specs.Descriptions as D
 use Rattle.meaning.specs.Legal.{Each, LegalPair, LegalOperator, LegalTerm}
 use Rattle.labels.proofs.Words.{power}
-use Rattle.table.specs.Encoded.{operatorFor, termFor}
+use Rattle.table.specs.Encoded.{termFor}
 use Rattle.table.specs.Packed.{packed, termWord, kindTerm, wordTerm}
 
 -- what is moved up by so many bits again and again, as long as it stays in the word
