@@ -76,7 +76,7 @@ unsigned answers_of_a_turn(unsigned contender, const std::string &description, d
 double take_turns(const std::string &description, const std::array<unsigned, CONTENDERS> &answers, Times &least) {
     double spent = 0;
     for (unsigned contender = 0; contender < CONTENDERS; ++contender) {
-        if (answers[contender] > 1) {
+        if (least[contender] < SECONDS_TO_TRUST) {
             // Untimed: what the contender before left to be tidied up in memory is not this one's to pay for.
             text_of(contender, description);
         }
