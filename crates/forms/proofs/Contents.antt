@@ -11,8 +11,8 @@ use Rattle.meaning.specs.Bytes.{Text}
 use Rattle.meaning.specs.Labels as L
 use Rattle.meaning.specs.Answers.{name, amount}
 use Rattle.table.specs.Encoded.{pairWord, ruleWords}
-use Rattle.forms.specs.Forms.{Parts, WordPair, WordRule}
-use Rattle.forms.specs.Faults.{Found, fine, fault, worse, unless, worst, rising, nameNumber, nameFault, partFault, labelFault, ruleFault, wordsFault, pairsFault, rulesFault, labelsFault, actions, numberSaid, labelSaid, pairSaid, ruleSaid}
+use Rattle.grammar.specs.Forms.{Parts, WordPair, WordRule}
+use Rattle.grammar.specs.Faults.{Found, fine, fault, worse, unless, worst, rising, nameNumber, nameFault, partFault, labelFault, ruleFault, wordsFault, pairsFault, rulesFault, labelsFault, actions, numberSaid, labelSaid, pairSaid, ruleSaid}
 use Rattle.forms.specs.Tallies.{Said, weightOf, allFaults}
 use Rattle.forms.specs.Entries.{nameEntry, pairEntry, ruleEntry, labelEntry, unlessFaulty}
 use Rattle.forms.specs.Lists.{listFaults, listWords}

@@ -7,7 +7,7 @@ use lib.Dec.{ltb}
 use lib.ListN.{length, drop, drop-of-length-le}
 use borrow.Author.Tests.{ltb-true, ltb-false}
 use Rattle.meaning.specs.Bytes.{Text}
-use Rattle.forms.specs.Text.{Past, past, onward, ended, literal}
+use Rattle.grammar.specs.Text.{Past, past, onward, ended, literal}
 use Rattle.forms.specs.Places.{Steps}
 use Rattle.forms.specs.Lines.{pastEnd, endedStep}
 use Rattle.forms.specs.declared.Step.{Step}

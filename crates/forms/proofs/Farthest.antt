@@ -10,8 +10,8 @@ use lib.Dec.{eqb, ltb}
 use lib.ListN.{length, drop, length-drop}
 use borrow.Author.Tests.{lt-ltb, le-ltb, ltb-true, ltb-false}
 use Rattle.meaning.specs.Bytes.{Text}
-use Rattle.forms.specs.Text.{Past, past, stuck, literal}
-use Rattle.forms.specs.Forms.{Line, farther}
+use Rattle.grammar.specs.Text.{Past, past, stuck, literal}
+use Rattle.grammar.specs.Forms.{Line, farther}
 use Rattle.forms.specs.Terms.{LineRead}
 use Rattle.forms.specs.Kinds.{fartherFrom, fartherStep}
 use Rattle.forms.specs.declared.TermStep.{TermStep}

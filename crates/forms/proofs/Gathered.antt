@@ -9,7 +9,7 @@ use native.Mathlib.Omega.{arith}
 use lib.ListN.{length, drop, length-drop}
 use lib.Seq.{append-snoc}
 use Rattle.meaning.specs.Bytes.{Text}
-use Rattle.forms.specs.Text.{Past, past, stuck, onward, literal, byte, starts, separatedOn, separated}
+use Rattle.grammar.specs.Text.{Past, past, stuck, onward, literal, byte, starts, separatedOn, separated}
 use Rattle.forms.specs.Tallies.{Said}
 use Rattle.forms.specs.Places.{Stands}
 use Rattle.forms.specs.Entries.{seen}

@@ -13,8 +13,8 @@ use lib.ListN.{length, getD, drop, drop-of-length-le}
 use borrow.Author.Tests.{lt-ltb, le-ltb, eqb-true, eqb-false, ne-eqb}
 use Rattle.meaning.specs.Bytes.{Text}
 use Rattle.table.specs.Decoded.{nameOf}
-use Rattle.forms.specs.Text.{Past, past, stuck, literal}
-use Rattle.forms.specs.Forms.{Line, Kind, kinds, farther, ofKind, alone, ofName, ofOne, ofTwo, ofList}
+use Rattle.grammar.specs.Text.{Past, past, stuck, literal}
+use Rattle.grammar.specs.Forms.{Line, Kind, kinds, farther, ofKind, alone, ofName, ofOne, ofTwo, ofList}
 use Rattle.meaning.specs.Descriptions.{tau, delta}
 use Rattle.table.specs.Packed.{either}
 use Rattle.forms.specs.Terms.{madeOf, WrapKind, Allow, contents, listed}

@@ -7,10 +7,10 @@ use native.Mathlib.Omega.{arith}
 use native.Mathlib.Nat.{le-refl}
 use lib.ListN.{length, set, length-append, drop-of-length-le}
 use Rattle.meaning.specs.Bytes.{Text}
-use Rattle.forms.specs.Text.{Past, past, stuck, onward, word}
-use Rattle.forms.specs.Forms.{label, pair, rule}
+use Rattle.grammar.specs.Text.{Past, past, stuck, onward, word}
+use Rattle.grammar.specs.Forms.{label, pair, rule}
 use borrow.Author.Tests.{le-leb}
-use Rattle.forms.specs.Faults.{fine, worst, rising}
+use Rattle.grammar.specs.Faults.{fine, worst, rising}
 use Rattle.forms.specs.Tallies.{Said, weightOf, allFaults}
 use Rattle.forms.specs.Entries.{nameEntry, pairEntry, ruleEntry, labelEntry}
 use Rattle.forms.specs.Lists.{entryOf, listFaults, weightFor, limitFor, wordCount, entryWord, entryWords, listWords, entryStored, over, ListRead}

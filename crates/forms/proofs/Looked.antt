@@ -13,8 +13,8 @@ use Rattle.meaning.specs.Bytes.{Text}
 use Rattle.meaning.proofs.Tests.{and-left, and-right}
 use Rattle.table.specs.Decoded.{nameOf}
 use Rattle.table.specs.Encoded.{wordOf}
-use Rattle.forms.specs.Text.{Past, past, stuck, sameText, literal}
-use Rattle.forms.specs.Faults.{nameNumber}
+use Rattle.grammar.specs.Text.{Past, past, stuck, sameText, literal}
+use Rattle.grammar.specs.Faults.{nameNumber}
 use Rattle.forms.proofs.Rests.{rest-cons}
 
 is-true : (b : Bool) → T b → b ≡ true

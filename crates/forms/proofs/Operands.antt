@@ -8,11 +8,11 @@ use lib.Dec.{eqb}
 use lib.ListN.{length, drop, drop-of-length-le}
 use Rattle.meaning.specs.Bytes.{Text}
 use Rattle.meaning.specs.Descriptions as D
-use Rattle.forms.specs.Text.{Past, past, stuck, onward, ended, starts, literal, number, word}
-use Rattle.forms.specs.Forms.{Line, plain, acts, space, ofName, ofOne, ofTwo}
+use Rattle.grammar.specs.Text.{Past, past, stuck, onward, ended, starts, literal, number, word}
+use Rattle.grammar.specs.Forms.{Line, plain, acts, space, ofName, ofOne, ofTwo}
 use Rattle.forms.specs.declared.TermStep.{TermStep}
 use Rattle.forms.specs.Terms.{PlainRead, LineTerm, LineRead}
-use Rattle.forms.specs.Faults.{wordsOfFault}
+use Rattle.grammar.specs.Faults.{wordsOfFault}
 use Rattle.forms.specs.Tallies.{foundOf}
 use Rattle.forms.specs.Places.{saidOf, Says}
 use Rattle.forms.specs.Entries.{seen, nameEntry}

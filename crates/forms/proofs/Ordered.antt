@@ -7,9 +7,9 @@ use Prim.Native.Nat.{ℕ, _≤_, _<_}
 use lib.ListN.{length, drop, length-map}
 use Rattle.meaning.specs.Bytes.{Text, ascii}
 use Rattle.table.specs.declared.Order.the-variants.{All, Only}
-use Rattle.forms.specs.Text.{Past, past, stuck, onward, sameText, literal, ended}
-use Rattle.forms.specs.Forms.{OrderLine, all, only, Parts, orderLine}
-use Rattle.forms.specs.Faults.{orderFault, labelSaid}
+use Rattle.grammar.specs.Text.{Past, past, stuck, onward, sameText, literal, ended}
+use Rattle.grammar.specs.Forms.{OrderLine, all, only, Parts, orderLine}
+use Rattle.grammar.specs.Faults.{orderFault, labelSaid}
 use Rattle.forms.specs.Entries.{labelEntry}
 use Rattle.forms.specs.Lists.{wholeList, over, ListRead}
 use Rattle.forms.specs.Terms.{Allow}

@@ -16,9 +16,9 @@ use Rattle.meaning.specs.Legal.{Each}
 use Rattle.meaning.specs.Answers.{Fault, name, amount, faultNumber}
 use Rattle.meaning.proofs.Tests.{and-right}
 use Rattle.meaning.proofs.Bags.{number-plus}
-use Rattle.forms.specs.Text.{Past, past, stuck, onward, sameText, byte, isDigit, secondDigit, number, word, separated}
-use Rattle.forms.specs.Forms.{Part, Parts, part, label, colon, dot}
-use Rattle.forms.specs.Faults.{Found, fine, fault, worse, smaller, unless, worst, rising, nameNumber, nameFault, labelSaid, actions, partFault, labelFault, numberSaid}
+use Rattle.grammar.specs.Text.{Past, past, stuck, onward, sameText, byte, isDigit, secondDigit, number, word, separated}
+use Rattle.grammar.specs.Forms.{Part, Parts, part, label, colon, dot}
+use Rattle.grammar.specs.Faults.{Found, fine, fault, worse, smaller, unless, worst, rising, nameNumber, nameFault, labelSaid, actions, partFault, labelFault, numberSaid}
 use Rattle.forms.specs.Tallies.{Said, weightOf, allFaults}
 use Rattle.forms.specs.Entries.{seen, partSaid, unlessFaulty, labelEntry, Room}
 use Rattle.forms.proofs.Tallied.{all-snoc}

@@ -9,7 +9,7 @@ use lib.Dec.{leb}
 use lib.ListN.{getD}
 use borrow.Author.Tests.{leb-true, leb-false, le-leb}
 use Rattle.meaning.specs.Answers.{Fault, form, name, range, amount, operand, faultNumber}
-use Rattle.forms.specs.Faults.{Found, fine, fault, smaller, worse, unless, worst}
+use Rattle.grammar.specs.Faults.{Found, fine, fault, smaller, worse, unless, worst}
 
 abbrev pub rank : Found → ℕ
 rank fine = 7

@@ -12,7 +12,7 @@ use native.Mathlib.Omega.{arith}
 use borrow.Author.Tests.{eq-eqb, ne-eqb, ltb-true, ltb-false}
 use Rattle.meaning.specs.Bytes.{Text}
 use Rattle.meaning.proofs.Tests.{and-left, and-right}
-use Rattle.forms.specs.Text.{past, stuck, starts, literal, isDigit, secondDigit, number}
+use Rattle.grammar.specs.Text.{past, stuck, starts, literal, isDigit, secondDigit, number}
 use Rattle.forms.specs.Places.{digitOf, Steps}
 use Rattle.forms.specs.declared.Step.{Step}
 use Rattle.forms.specs.declared.Step.the-variants.{To, Stuck}

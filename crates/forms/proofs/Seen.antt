@@ -12,9 +12,9 @@ use lib.ListN.{length, length-map}
 use Rattle.meaning.specs.Bytes.{Text}
 use Rattle.meaning.specs.Answers.{name, amount}
 use Rattle.table.specs.Decoded.{nameOf}
-use Rattle.forms.specs.Text.{Past, past, stuck, onward, literal, byte, number, word}
-use Rattle.forms.specs.Forms.{Parts, part, label, pair, rule, colon, greater}
-use Rattle.forms.specs.Faults.{Found, worse, unless, nameNumber, nameFault, actions}
+use Rattle.grammar.specs.Text.{Past, past, stuck, onward, literal, byte, number, word}
+use Rattle.grammar.specs.Forms.{Parts, part, label, pair, rule, colon, greater}
+use Rattle.grammar.specs.Faults.{Found, worse, unless, nameNumber, nameFault, actions}
 use Rattle.forms.specs.Tallies.{Said}
 use Rattle.forms.specs.Places.{Stands, Says}
 use Rattle.forms.specs.Sides.{withRight, rightSide, Sided, twoOrMore, Enough}

@@ -21,8 +21,8 @@ use Rattle.table.specs.declared.Term.the-variants.{Delta, Tau, Act, Ref, Sum, C
 use Rattle.table.specs.declared.Operator.the-variants.{Block, Hide, Rename, Comm, Allow}
 use Rattle.table.specs.Packed.{packed, termWord, kindTerm, wordTerm}
 use Rattle.table.proofs.Packed.{taken-out}
-use Rattle.forms.specs.Forms.{Line, termLine}
-use Rattle.forms.specs.Faults.{Found, fine, worse, unless, inRange, operandsFit, termSaid, wordsOfFault, termFault}
+use Rattle.grammar.specs.Forms.{Line, termLine}
+use Rattle.grammar.specs.Faults.{Found, fine, worse, unless, inRange, operandsFit, termSaid, wordsOfFault, termFault}
 use Rattle.forms.specs.Tallies.{foundOf}
 use Rattle.forms.specs.Terms.{LineTerm, LineRead, bareSlot, TermTaken, TermRead}
 use Rattle.forms.specs.declared.Found as G

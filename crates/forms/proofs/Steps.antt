@@ -8,7 +8,7 @@ use native.Mathlib.Omega.{arith}
 use native.Mathlib.Nat.{le-trans, le-refl}
 use lib.ListN.{length, drop}
 use Rattle.meaning.specs.Bytes.{Text}
-use Rattle.forms.specs.Text.{Past, past, stuck, onward, byte, starts, literal}
+use Rattle.grammar.specs.Text.{Past, past, stuck, onward, byte, starts, literal}
 use Rattle.forms.specs.declared.Step.{Step}
 use Rattle.forms.specs.declared.Step.the-variants.{To, Stuck}
 use Rattle.forms.specs.declared.labels.Said as C

@@ -9,7 +9,7 @@ use native.Mathlib.Omega.{arith}
 use lib.Dec.{leb, ltb}
 use borrow.Author.Tests.{le-leb, lt-leb, leb-true, leb-false}
 use Rattle.meaning.specs.Answers.{amount}
-use Rattle.forms.specs.Faults.{Found, fault, worse, unless, worst, rising}
+use Rattle.grammar.specs.Faults.{Found, fault, worse, unless, worst, rising}
 use Rattle.forms.specs.declared.Found.the-variants.{Fine}
 use Rattle.forms.specs.declared.faults.Tally.{Tally}
 use Rattle.forms.specs.Tallies.{foundOf, Said, floorOf, weightOf, allFaults, Counted}

@@ -13,9 +13,9 @@ use Rattle.table.specs.declared.Term.{Term}
 use Rattle.table.specs.declared.Order.{Order}
 use Rattle.table.specs.Decoded.{nameOf}
 use Rattle.table.specs.Encoded.{wordOf, termWords, termFor, orderWords, orderFor, filled, slotsFrom}
-use Rattle.forms.specs.Text.{Past, past, stuck}
-use Rattle.forms.specs.Forms.{termLine, orderLine}
-use Rattle.forms.specs.Faults.{Found, fine, fault, termSaid, termFault, orderSaid, orderFault}
+use Rattle.grammar.specs.Text.{Past, past, stuck}
+use Rattle.grammar.specs.Forms.{termLine, orderLine}
+use Rattle.grammar.specs.Faults.{Found, fine, fault, termSaid, termFault, orderSaid, orderFault}
 use Rattle.forms.specs.Tallies.{foundOf}
 use Rattle.forms.specs.Lists.{over}
 use Rattle.forms.specs.Places.{Steps, stepOf, placeOf}

@@ -17,7 +17,7 @@ use Rattle.meaning.specs.Bytes.{Text}
 use Rattle.table.specs.Decoded.{nameOf}
 use Rattle.table.specs.Encoded.{wordOf}
 use Rattle.table.proofs.Packed.{moved-up}
-use Rattle.forms.specs.Text.{Past, past, stuck, onward, isLower, isDigit, wordOn, word}
+use Rattle.grammar.specs.Text.{Past, past, stuck, onward, isLower, isDigit, wordOn, word}
 use Rattle.forms.specs.Places.{Stands}
 use Rattle.forms.proofs.Rests.{rest-cons}
 

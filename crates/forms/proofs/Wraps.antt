@@ -13,9 +13,9 @@ use Rattle.table.specs.declared.Operator.the-variants as O
 use Rattle.table.specs.declared.Term.the-variants.{Wrap}
 use Rattle.table.specs.Encoded.{operatorWords, operatorFor}
 use Rattle.table.specs.Packed.{either, operatorAt}
-use Rattle.forms.specs.Text.{Past, past, stuck, onward, sameText, ended, starts, literal, word}
-use Rattle.forms.specs.Forms.{Line, wraps, Parts, comma, space, pair, rule, label, labelList, ofList}
-use Rattle.forms.specs.Faults.{fine, wordsOfFault, worst, labelFault, ruleFault, rulesFault, labelsFault, listFault, operatorSaid, nameNumber, pairSaid, ruleSaid, labelSaid}
+use Rattle.grammar.specs.Text.{Past, past, stuck, onward, sameText, ended, starts, literal, word}
+use Rattle.grammar.specs.Forms.{Line, wraps, Parts, comma, space, pair, rule, label, labelList, ofList}
+use Rattle.grammar.specs.Faults.{fine, wordsOfFault, worst, labelFault, ruleFault, rulesFault, labelsFault, listFault, operatorSaid, nameNumber, pairSaid, ruleSaid, labelSaid}
 use Rattle.forms.specs.Tallies.{Said}
 use Rattle.forms.specs.Places.{Stands, Steps, saidOf}
 use Rattle.forms.specs.Entries.{nameEntry, pairEntry, ruleEntry, labelEntry}
@@ -143,7 +143,7 @@ module _ (w : WrapKind) where
 
   pub wrap-seen : (s : Text) → onward (operand s) after-operand ≡ ofList (contents w) (listed w) s
   unfolding ofList
-  wrap-seen s = regrouped (literal (space ∷ []) s) (λ _ q. Rattle.forms.specs.Text.number q) after-operand
+  wrap-seen s = regrouped (literal (space ∷ []) s) (λ _ q. Rattle.grammar.specs.Text.number q) after-operand
 
 -- The answers on a line of a kind with a list: by its operand, by the space after it, by its list, and by the end.
 module _ (w : WrapKind) (words : List Text) (line : Text) (at : ℕ) where

@@ -3,9 +3,9 @@
 use mathlib.Core.List.{List}
 use Prim.Native.Nat.{ℕ, _+_, _*_, _^_, _<_, min}
 use Rattle.meaning.specs.Bytes.{Text}
-use Rattle.forms.specs.Text.{Past, past, onward}
-use Rattle.forms.specs.Forms.{Part, Parts, WordPair, WordRule}
-use Rattle.forms.specs.Faults.{Found, fine, fault, nameNumber, nameFault, partFault, pairFault, ruleFault, actions, labelFault, numberSaid}
+use Rattle.grammar.specs.Text.{Past, past, onward}
+use Rattle.grammar.specs.Forms.{Part, Parts, WordPair, WordRule}
+use Rattle.grammar.specs.Faults.{Found, fine, fault, nameNumber, nameFault, partFault, pairFault, ruleFault, actions, labelFault, numberSaid}
 use Rattle.forms.specs.Tallies.{Said}
 
 -- an item, as what it says

@@ -6,8 +6,8 @@ use Prim.Native.Nat.{ℕ, zero, suc, _≤_, _<_, max}
 use lib.ListN.{length, getD, drop}
 use lib.Dec.{eqb}
 use Rattle.meaning.specs.Bytes.{Text}
-use Rattle.forms.specs.Text.{Past, stuck}
-use Rattle.forms.specs.Forms.{Line, Kind, kinds, farther}
+use Rattle.grammar.specs.Text.{Past, stuck}
+use Rattle.grammar.specs.Forms.{Line, Kind, kinds, farther}
 use Rattle.table.specs.Packed.{either}
 use Rattle.forms.specs.Terms.{WrapKind, Block, Hide, Rename, Comm, Allow}
 use Rattle.forms.specs.declared.TermStep.{TermStep}

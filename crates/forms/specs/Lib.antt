@@ -1,7 +1,4 @@
--- What form a line has, what it says, which faults it has, and what the readers' answers stand for.
-pub mod Text
-pub mod Forms
-pub mod Faults
+-- What the answers of the readers of one line stand for.
 pub mod Tallies
 pub mod Places
 pub mod Entries

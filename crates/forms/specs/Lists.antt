@@ -7,9 +7,9 @@ use Prim.Native.Nat.{ℕ, _+_, _*_}
 use lib.Dec.{eqb}
 use lib.ListN.{length, set}
 use Rattle.meaning.specs.Bytes.{Text, ascii}
-use Rattle.forms.specs.Text.{Past, past, onward, sameText, word, separated}
-use Rattle.forms.specs.Forms.{comma, label, pair, rule}
-use Rattle.forms.specs.Faults.{Found}
+use Rattle.grammar.specs.Text.{Past, past, onward, sameText, word, separated}
+use Rattle.grammar.specs.Forms.{comma, label, pair, rule}
+use Rattle.grammar.specs.Faults.{Found}
 use Rattle.forms.specs.Tallies.{Said, allFaults}
 use Rattle.forms.specs.Entries.{seen, labelEntry, nameEntry, pairEntry, ruleEntry}
 use Rattle.forms.specs.Places.{Says}

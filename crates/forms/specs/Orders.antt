@@ -8,9 +8,9 @@ use Rattle.meaning.specs.Bytes.{Text}
 use Rattle.table.specs.Decoded.{nameOf}
 use Rattle.table.specs.Encoded.{orderWords, orderFor}
 use Rattle.table.specs.declared.Order.{Order}
-use Rattle.forms.specs.Text.{Past, past, stuck, onward, ended}
-use Rattle.forms.specs.Forms.{OrderLine, only, labelList, orderLine}
-use Rattle.forms.specs.Faults.{fine, orderSaid, orderFault}
+use Rattle.grammar.specs.Text.{Past, past, stuck, onward, ended}
+use Rattle.grammar.specs.Forms.{OrderLine, only, labelList, orderLine}
+use Rattle.grammar.specs.Faults.{fine, orderSaid, orderFault}
 use Rattle.forms.specs.Tallies.{foundOf}
 use Rattle.forms.specs.Lists.{over}
 use Rattle.forms.specs.declared.Found as G

@@ -5,9 +5,9 @@ use mathlib.Core.List.{List}
 use lib.Dec.{leb}
 use Rattle.meaning.specs.Bytes.{Text}
 use Rattle.meaning.specs.Answers.{amount}
-use Rattle.forms.specs.Text.{Past, past, onward, byte, word}
-use Rattle.forms.specs.Forms.{greater}
-use Rattle.forms.specs.Faults.{worse, unless, nameNumber, nameFault}
+use Rattle.grammar.specs.Text.{Past, past, onward, byte, word}
+use Rattle.grammar.specs.Forms.{greater}
+use Rattle.grammar.specs.Faults.{worse, unless, nameNumber, nameFault}
 use Rattle.forms.specs.Tallies.{Said}
 use Rattle.forms.specs.Places.{saidPlace, saidStep, Stands}
 use Rattle.forms.specs.declared.labels.SaidStep.{SaidStep}

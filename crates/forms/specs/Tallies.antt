@@ -5,7 +5,7 @@ use mathlib.Core.List.{List, [], _∷_, map}
 use Prim.Native.Nat.{ℕ, suc, _+_, _≤_, _<_, _^_, min}
 use lib.Dec.{leb}
 use Rattle.meaning.specs.Answers.{Fault, form, name, range, amount, operand}
-use Rattle.forms.specs.Faults.{Found, fine, fault, worse, unless, worst, rising}
+use Rattle.grammar.specs.Faults.{Found, fine, fault, worse, unless, worst, rising}
 use Rattle.forms.specs.declared.Fault as F
 use Rattle.forms.specs.declared.Fault.the-variants.{Form, Name, Range, Amount, Operand}
 use Rattle.forms.specs.declared.Found as G

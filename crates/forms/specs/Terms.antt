@@ -8,14 +8,14 @@ use Rattle.meaning.specs.Bytes.{Text}
 use Rattle.meaning.specs.Descriptions as D
 use Rattle.table.specs.Terms.{IsPlain, bareTerm}
 use Rattle.table.specs.declared.Term.{Term}
-use Rattle.forms.specs.Text.{Past, past, stuck, separated}
-use Rattle.forms.specs.Forms as F
-use Rattle.forms.specs.Forms.{Line, plain, Listed, Parts, WordPair, WordRule, comma, wordList, pair, rule, labelList, termLine}
+use Rattle.grammar.specs.Text.{Past, past, stuck, separated}
+use Rattle.grammar.specs.Forms as F
+use Rattle.grammar.specs.Forms.{Line, plain, Listed, Parts, WordPair, WordRule, comma, wordList, pair, rule, labelList, termLine}
 use Rattle.table.specs.Packed.{plainOf, wordTerm}
 use Rattle.forms.specs.declared.lists.ListKind.{ListKind}
 use Rattle.forms.specs.declared.lists.ListKind.the-variants.{Names, Pairs, Rules, Labels}
 use Rattle.table.specs.Encoded.{termWords, termFor, filled, slotsFrom}
-use Rattle.forms.specs.Faults.{fine, termSaid, wordsOfFault, termFault}
+use Rattle.grammar.specs.Faults.{fine, termSaid, wordsOfFault, termFault}
 use Rattle.forms.specs.Tallies.{foundOf}
 use Rattle.forms.specs.Lists.{over}
 use Rattle.forms.specs.declared.Found.the-variants.{Fine}

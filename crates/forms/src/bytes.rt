@@ -8,7 +8,7 @@ ghost use mathlib.Core.Bool.{_&&_, _||_};
 ghost use mathlib.Core.Path.{_≡_};
 ghost use lib.Dec.{leb};
 ghost use Rattle.table.specs.Decoded.{nameOf};
-ghost use Rattle.forms.specs.Text.{onward, literal, byte, starts, sameText, isLower, isDigit, number, word};
+ghost use Rattle.grammar.specs.Text.{onward, literal, byte, starts, sameText, isLower, isDigit, number, word};
 ghost use Rattle.forms.specs.Places.{digitOf, Steps};
 use crate::Step;
 

@@ -2,7 +2,7 @@
 ghost use mathlib.Core.Path.{_≡_};
 ghost use Prim.Native.Nat.{min};
 ghost use Rattle.meaning.specs.Answers.{amount};
-ghost use Rattle.forms.specs.Faults.{unless, worse};
+ghost use Rattle.grammar.specs.Faults.{unless, worse};
 ghost use Rattle.forms.specs.Tallies.{faultOf, foundOf, Modest, Counted};
 use crate::Fault;
 use crate::Found;

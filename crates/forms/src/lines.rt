@@ -2,7 +2,7 @@
 ghost use mathlib.Core.Path.{_≡_};
 ghost use lib.ListN.{length};
 ghost use Rattle.table.specs.Decoded.{nameOf};
-ghost use Rattle.forms.specs.Forms.{countLine, nameLine};
+ghost use Rattle.grammar.specs.Forms.{countLine, nameLine};
 ghost use Rattle.forms.specs.Places.{Steps};
 ghost use Rattle.forms.specs.Lines.{endedStep};
 use crate::Step;

@@ -70,7 +70,7 @@ answerFrom (suc more) d o k before =
 unfoldable pub answer : Description → Order → Outcome
 answer d o = answerFrom 2049 d o 0 (roundSets d 0)
 
--- Refusals. 2 to 6 are faults of a line; 1 and 7 come with line 0, and so does 8, of the C call alone.
+-- Refusals. 2 to 6 are faults of a line; 1 and 7 come with line 0. (8 is the C call's alone, and is said where that call is.)
 pub data Fault : Type 0 where
   form name range amount operand : Fault
 
@@ -84,19 +84,17 @@ faultNumber operand = 6
 pub data Refusal : Type 0 where
   tooLong : Refusal
   inLine : Fault → (line : ℕ) → Refusal
-  large noRoom : Refusal
+  large : Refusal
 
 abbrev pub reasonOf : Refusal → ℕ
 reasonOf tooLong = 1
 reasonOf (inLine fault line) = faultNumber fault
 reasonOf large = 7
-reasonOf noRoom = 8
 
 abbrev pub lineOf : Refusal → ℕ
 lineOf tooLong = 0
 lineOf (inLine fault line) = line
 lineOf large = 0
-lineOf noRoom = 0
 
 -- What a call says: number 0 for an answer, with its rounds and number of labels; both 0 on a refusal.
 pub record Verdict : Type 0 where

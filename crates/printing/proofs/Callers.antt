@@ -14,7 +14,7 @@ use Rattle.meaning.specs.Legal.{Each}
 use Rattle.meaning.proofs.Digits.{Small}
 use Rattle.table.specs.Decoded.{nameOf}
 use Rattle.table.specs.Encoded.{filled, wordOf}
-use Rattle.printing.specs.Printed.{joint, partText, partsText, labelText, orTau, labelLines, line, answerText}
+use Rattle.grammar.specs.Printed.{joint, partText, partsText, labelText, orTau, labelLines, line, answerText}
 use Rattle.printing.specs.Areas.{wordsOf, countsOf}
 use Rattle.printing.proofs.Names.{first-byte}
 use Rattle.printing.proofs.Parts.{absent, occurs}

@@ -1,50 +1,14 @@
--- Texts of document 01 as one table of cases that the checker computes over the definitions: the listing, over a description's
--- own names and over the packed ones; a label of two parts, the empty one, numbers; a refusal.
+-- The listing of document 01 is printed the same over packed names and labels, which the checker computes.
 -- Assumes nothing.
 use mathlib.Core.Path.{_≡_, refl}
-use mathlib.Core.List.{List, [], _∷_, _++_, map}
-use Prim.Native.String.{String}
-use Rattle.meaning.specs.Bytes.{Text, ascii}
+use mathlib.Core.List.{[], _∷_, map}
 use Rattle.meaning.specs.Labels.{labelOf}
-use Rattle.meaning.specs.Legal.{Each}
+use Rattle.grammar.specs.Printed.{digits, partsText, labelText, labelLines, answerText}
+use Rattle.grammar.proofs.Cases.{lines, names, listing}
 use Rattle.table.specs.Decoded.{nameOf}
 use Rattle.table.specs.Encoded.{filled, wordOf}
-use Rattle.printing.specs.Printed.{digits, decimal, partsText, labelText, labelLines, answerText, refusedText}
 use Rattle.printing.specs.Areas.{wordsOf, countsOf}
 
-pub record Case : Type 0 where
-  pub printed : Text
-  pub expected : Text
-
--- lines, each with its end
-abbrev lines : List String → Text
-lines [] = []
-lines (l ∷ ls) = (ascii l ++ (10 ∷ [])) ++ lines ls
-
-abbrev prints : Text → List String → Case
-prints s ls = record { printed = s ++ (10 ∷ []); expected = lines ls }
-
-abbrev printsLines : Text → List String → Case
-printsLines s ls = record { printed = s; expected = lines ls }
-
-abbrev names : List Text
-names = ascii "done" ∷ ascii "close" ∷ []
-
-abbrev listing : List String
-listing = "answer=ok" ∷ "rounds=2" ∷ "labels=3" ∷ "label=done:1" ∷ "label=done:2" ∷ "label=close:1" ∷ []
-
-abbrev pub table : List Case
-table =
-    printsLines (answerText names 2 ((1 ∷ 0 ∷ []) ∷ (2 ∷ 0 ∷ []) ∷ (0 ∷ 1 ∷ []) ∷ [])) listing
-    ∷ printsLines (answerText (wordsOf (filled 12 0 (map wordOf names))) 2 (map countsOf (1 ∷ 2 ∷ 32 ∷ []))) listing
-    ∷ printsLines (answerText names 1 []) ("answer=ok" ∷ "rounds=1" ∷ "labels=0" ∷ [])
-    ∷ prints (labelText names (15 ∷ 1 ∷ [])) ("done:15.close:1" ∷ [])
-    ∷ prints (labelText names (0 ∷ 0 ∷ [])) ("tau" ∷ [])
-    ∷ prints (decimal 0) ("0" ∷ [])
-    ∷ prints (decimal 2049) ("2049" ∷ [])
-    ∷ printsLines (refusedText 5 12) ("answer=refused" ∷ "reason=5" ∷ "line=12" ∷ [])
-    ∷ []
-
-pub computed : Each (λ c. c .printed ≡ c .expected) table
-unfolding answerText refusedText labelLines labelText partsText digits labelOf nameOf filled wordOf
-computed = (refl, (refl, (refl, (refl, (refl, (refl, (refl, (refl, tt))))))))
+pub packed-listing : answerText (wordsOf (filled 12 0 (map wordOf names))) 2 (map countsOf (1 ∷ 2 ∷ 32 ∷ [])) ≡ lines listing
+unfolding answerText labelLines labelText partsText digits labelOf nameOf filled wordOf
+packed-listing = refl

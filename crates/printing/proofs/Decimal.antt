@@ -10,7 +10,7 @@ use borrow.Author.Tests.{lt-ltb, le-ltb}
 use lib.Dec.{lit<}
 use lib.ListN.{length, length-append}
 use Rattle.meaning.specs.Bytes.{Text}
-use Rattle.printing.specs.Printed.{digits, decimal}
+use Rattle.grammar.specs.Printed.{digits, decimal}
 
 -- The two cases of the definition.
 one-digit : (k n : ℕ) → n < 10 → digits (suc k) n ≡ (48 + n) ∷ []

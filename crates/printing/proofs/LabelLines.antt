@@ -8,7 +8,7 @@ use native.Mathlib.Omega.{arith}
 use lib.ListN.{length, drop, getD, length-append}
 use lib.Seq.{drop-cons, drop-length}
 use Rattle.meaning.specs.Bytes.{Text, ascii}
-use Rattle.printing.specs.Printed.{line, labelText, labelLines}
+use Rattle.grammar.specs.Printed.{line, labelText, labelLines}
 use Rattle.printing.specs.Areas.{wordsOf, countsOf}
 use Rattle.printing.proofs.Line.{length-line}
 use Rattle.printing.proofs.Tau.{length-label}

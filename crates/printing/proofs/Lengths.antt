@@ -9,7 +9,7 @@ use Prim.Native.Nat.{ℕ, _+_, _*_, _≤_}
 use native.Mathlib.Omega.{arith}
 use lib.ListN.{length, length-append}
 use Rattle.meaning.specs.Bytes.{Text, ascii}
-use Rattle.printing.specs.Printed.{decimal, line, labelText, labelLines, answerText, refusedText}
+use Rattle.grammar.specs.Printed.{decimal, line, labelText, labelLines, answerText, refusedText}
 use Rattle.printing.specs.Areas.{wordsOf, countsOf, Printed}
 use Rattle.printing.proofs.Decimal.{length-decimal}
 use Rattle.printing.proofs.Line.{length-line}

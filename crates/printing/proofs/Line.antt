@@ -6,7 +6,7 @@ use Prim.Native.Nat.{ℕ, _+_, _≤_, _<_}
 use native.Mathlib.Omega.{arith}
 use lib.ListN.{length, set, length-append}
 use Rattle.meaning.specs.Bytes.{Text}
-use Rattle.printing.specs.Printed.{decimal, line}
+use Rattle.grammar.specs.Printed.{decimal, line}
 use Rattle.printing.specs.Areas.{Written}
 use Rattle.printing.specs.Steps.{headText}
 use Rattle.printing.proofs.Decimal.{length-decimal}

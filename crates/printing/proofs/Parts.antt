@@ -15,7 +15,7 @@ use lib.Seq.{drop-cons}
 use Rattle.meaning.specs.Bytes.{Text}
 use Rattle.meaning.specs.Labels.{Label, labelOf}
 use Rattle.table.specs.Decoded.{nameOf}
-use Rattle.printing.specs.Printed.{decimal, joint, partText, partsText}
+use Rattle.grammar.specs.Printed.{decimal, joint, partText, partsText}
 use Rattle.printing.specs.Areas.{wordsOf, Written}
 use Rattle.printing.specs.Steps.{nextText}
 use Rattle.printing.proofs.Writing.{Underway, lent, back, step, end, next-room}

@@ -10,7 +10,7 @@ use lib.ListN.{length, length-append}
 use Rattle.meaning.specs.Bytes.{Text, ascii}
 use Rattle.meaning.specs.Labels.{labelOf}
 use Rattle.table.specs.Decoded.{nameOf}
-use Rattle.printing.specs.Printed.{joint, orTau, partText, partsText, labelText}
+use Rattle.grammar.specs.Printed.{joint, orTau, partText, partsText, labelText}
 use Rattle.printing.specs.Areas.{Written, wordsOf, countsOf}
 use Rattle.printing.proofs.Decimal.{length-small}
 use Rattle.printing.proofs.Names.{length-name}

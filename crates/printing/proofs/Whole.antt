@@ -8,7 +8,7 @@ use native.Mathlib.Decide.{decLt}
 use borrow.Author.Tests.{le-leb, lt-leb}
 use lib.ListN.{length, length-append, length-map}
 use Rattle.meaning.specs.Bytes.{Text, ascii}
-use Rattle.printing.specs.Printed.{decimal, line, answerText}
+use Rattle.grammar.specs.Printed.{decimal, line, answerText}
 use Rattle.printing.specs.Areas.{Written, Printed, areaWith, sizeIn, wordsOf, countsOf}
 use Rattle.printing.specs.Steps.{headText}
 use Rattle.printing.proofs.LabelLines.{linesFrom}

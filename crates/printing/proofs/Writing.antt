@@ -10,7 +10,7 @@ use lib.ListN.{length, take, drop, set, length-append, length-drop}
 use borrow.Rule.Slice.PartMut.{putMid, post-is}
 use lib.Seq.{take-length, take-all, drop-length, take-append-seam, drop-append-seam, drop-drop, drop-cons, set-append-seam}
 use Rattle.meaning.specs.Bytes.{Text}
-use Rattle.printing.specs.Printed.{put}
+use Rattle.grammar.specs.Printed.{put}
 use Rattle.printing.specs.Areas.{Written}
 
 pub length-put : (s area : Text) → length s ≤ length area → length (put s area) ≡ length area

@@ -9,7 +9,7 @@ use lib.ListN.{length}
 use Rattle.meaning.specs.Bytes.{Text}
 use Rattle.meaning.specs.Labels.{Label, labelOf}
 use Rattle.table.specs.Decoded.{nameOf}
-use Rattle.printing.specs.Printed.{put}
+use Rattle.grammar.specs.Printed.{put}
 
 -- Twelve names of at most eight bytes, a word each; a label's twelve counts in one word.
 abbrev pub wordsOf : List ℕ → List Text

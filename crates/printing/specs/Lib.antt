@@ -1,4 +1,3 @@
--- The text of an answer or a refusal, and what a writer leaves in an area.
-pub mod Printed
+-- What a writer leaves in an area.
 pub mod Areas
 pub mod Steps

@@ -5,7 +5,7 @@ use mathlib.Core.List.{[], _++_}
 use Prim.Native.Nat.{ℕ}
 use lib.Dec.{eqb}
 use Rattle.meaning.specs.Bytes.{Text, ascii}
-use Rattle.printing.specs.Printed.{decimal, partText, line}
+use Rattle.grammar.specs.Printed.{decimal, partText, line}
 
 -- The next part of a label of which so many bytes are written.
 unfoldable pub nextText : ℕ → Text → ℕ → Text

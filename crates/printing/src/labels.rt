@@ -5,7 +5,7 @@ ghost use mathlib.Core.Path.{_≡_};
 ghost use Prim.Native.Nat.{_≤_};
 ghost use lib.ListN.{length};
 ghost use Rattle.table.specs.Decoded.{nameOf};
-ghost use Rattle.printing.specs.Printed.{partText, partsText, labelText};
+ghost use Rattle.grammar.specs.Printed.{partText, partsText, labelText};
 ghost use Rattle.printing.specs.Steps.{nextText};
 ghost use Rattle.printing.specs.Areas.{Written, wordsOf, countsOf};
 

@@ -12,7 +12,7 @@ use lines::write_head;
 use lines::write_label_lines;
 use table::NAMES;
 ghost use mathlib.Core.List.{map};
-ghost use Rattle.printing.specs.Printed.{answerText, refusedText};
+ghost use Rattle.grammar.specs.Printed.{answerText, refusedText};
 ghost use Rattle.printing.specs.Areas.{Printed, wordsOf, countsOf};
 
 // The text of an answer: its length is returned, or 0 where the area is too short for it.

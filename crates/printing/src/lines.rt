@@ -9,7 +9,7 @@ ghost use Prim.Native.Nat.{_+_, _≤_};
 ghost use lib.Dec.{leb};
 ghost use lib.ListN.{length};
 ghost use Rattle.meaning.specs.Bytes.{ascii};
-ghost use Rattle.printing.specs.Printed.{decimal, line, labelText, labelLines};
+ghost use Rattle.grammar.specs.Printed.{decimal, line, labelText, labelLines};
 ghost use Rattle.printing.specs.Areas.{Written, wordsOf, countsOf};
 ghost use Rattle.printing.specs.Steps.{headText};
 

@@ -1,7 +1,7 @@
 // Numbers in decimal.
 ghost use Prim.Native.Nat.{_≤_};
 ghost use lib.ListN.{length};
-ghost use Rattle.printing.specs.Printed.{decimal};
+ghost use Rattle.grammar.specs.Printed.{decimal};
 ghost use Rattle.printing.specs.Areas.{Written};
 
 // The digits before the last are those of a tenth of the number.

@@ -8,7 +8,7 @@ use lib.ListN.{length, getD, take, drop, drop-of-length-le}
 use lib.Seq.{append-snoc}
 use borrow.Author.Tests.{lt-ltb, le-ltb, eq-eqb, ne-eqb}
 use Rattle.meaning.specs.Bytes.{Text}
-use Rattle.reading.specs.Reading.{Cut, cut, noLine, withByte, firstLine}
+use Rattle.grammar.specs.Reading.{Cut, cut, noLine, withByte, firstLine}
 use Rattle.reading.specs.Lines.{LineEnd}
 use Rattle.forms.proofs.Rests.{rest-cons}
 use Rattle.forms.proofs.Words.{take-snoc}

@@ -8,10 +8,10 @@ use lib.Dec.{leb}
 use lib.ListN.{length}
 use borrow.Author.Tests.{lt-ltb, le-ltb}
 use Rattle.meaning.specs.Bytes.{Text, ascii}
-use Rattle.forms.specs.Text.{sameText}
-use Rattle.forms.specs.Faults.{nameNumber}
+use Rattle.grammar.specs.Text.{sameText}
+use Rattle.grammar.specs.Faults.{nameNumber}
 use Rattle.forms.proofs.Looked.{same-self, same-true}
-use Rattle.reading.specs.Reading.{isFree}
+use Rattle.grammar.specs.Reading.{isFree}
 
 same-turned : (s t : Text) → sameText t s ≡ true → sameText s t ≡ true
 same-turned s t e = rw (same-true t s e) (same-self s)

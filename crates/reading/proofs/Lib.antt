@@ -1,17 +1,4 @@
--- The computed cases, then the theorems, then the laws that the readers' proofs cite; each file after those that it cites.
-pub mod Texts
-pub mod Writings
-pub mod Findings
-pub mod Onwards
-pub mod Writes
-pub mod Atoms
-pub mod Entries
-pub mod ListForms
-pub mod LineForms
-pub mod TermLines
-pub mod Sections
-pub mod LegalLines
-pub mod Acceptance
+-- The laws that the readers' proofs cite; each file after those that it cites.
 pub mod Ends
 pub mod Walking
 pub mod Taking

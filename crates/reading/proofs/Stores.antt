@@ -12,13 +12,11 @@ use types.Run.{OneOf, miss}
 use denote.Enum.Declared.{tagOf}
 use Rattle.reading.proofs.Answer.{the-type}
 use Rattle.meaning.specs.Bytes.{Text}
-use Rattle.meaning.specs.Answers.{tooLong, inLine, large, noRoom}
 use Rattle.meaning.proofs.Alike.{alike}
-use Rattle.table.specs.declared.Order.the-variants.{All}
-use Rattle.table.specs.Encoded.{filled, tableOf, blank}
+use Rattle.table.specs.Encoded.{filled}
 use Rattle.table.proofs.Filled.{filled-replicate}
-use Rattle.reading.specs.Reading.{Reading, read, refused, described, wholeText, readText}
-use Rattle.reading.specs.Stored.{readFor, storeFor, withRoom, readWith, Stored, Ended}
+use Rattle.grammar.specs.Reading.{Reading, read, overlong, badLine, described, wholeText, readText}
+use Rattle.reading.specs.Stored.{refusing, readFor, storeFor, withRoom, readWith, Stored, Ended}
 use Rattle.reading.specs.declared.Answer.{Answer}
 use Rattle.reading.specs.declared.Answer.the-variants.{Fine, TooLong, Bad}
 use Rattle.reading.specs.declared.Read.{Read}
@@ -28,12 +26,12 @@ pub stored-once : {text : Text} {before after after′ : List ℕ} {r r′ : Rea
 stored-once s t = (alike (s .result) (t .result), alike (s .store) (t .store))
 
 -- Refusal 1 comes first.
-too-long : (b : Bool) → withRoom b (refused tooLong) ≡ refused tooLong
+too-long : (b : Bool) → withRoom b overlong ≡ overlong
 too-long true = refl
 too-long false = refl
 
 module _ (text : Text) where
-  long-refused : 8192 < length text → readText text ≡ refused tooLong
+  long-refused : 8192 < length text → readText text ≡ overlong
   unfolding readText
   long-refused h = rw (lt-ltb 8192 (length text) h, readText)
 
@@ -42,11 +40,11 @@ module _ (text : Text) where
   short-read h = rw (le-ltb 8192 (length text) h, readText)
 
 module _ (text : Text) (room : ℕ) where
-  pub text-long : 8192 < length text → readWith text room ≡ refused tooLong
+  pub text-long : 8192 < length text → readWith text room ≡ overlong
   unfolding readWith
   text-long h = ap (withRoom (leb 3104 room)) (long-refused text h) ∙ too-long (leb 3104 room)
 
-  pub room-short : room < 3104 → readWith text room ≡ refused tooLong
+  pub room-short : room < 3104 → readWith text room ≡ overlong
   unfolding readWith
   room-short h = rw (lt-leb 3104 room h)
 
@@ -55,24 +53,20 @@ module _ (text : Text) (room : ℕ) where
   both-fit h k = rw (le-leb 3104 room k) (short-read text h)
 
 module _ (text : Text) (before : List ℕ) {r : Read} where
-  pub refused-first : readWith text (length before) ≡ refused tooLong → r ≡ record { answer = TooLong; table = tableOf blank; order = All } → Stored text before before r
+  pub refused-first : readWith text (length before) ≡ overlong → r ≡ refusing TooLong → Stored text before before r
   refused-first e h = record { result = h ∙ ap readFor (sym e); store = ap (λ x. storeFor x before) (sym e) }
 
 -- By the answer the store is kept or cleared.
 module _ (before : List ℕ) {front : List ℕ} {r : Read} where
   kept : (due : Reading) → Ended due front r → r .answer ≡ Fine → front ++ drop 3104 before ≡ storeFor due before
   kept (read d o) e h = ap (λ l. l ++ drop 3104 before) (e .left)
-  kept (refused tooLong) e h = absurd (e .left)
-  kept (refused (inLine f line)) e h = let k = sym (ap (λ x. x .answer) (e .result)) ∙ h in let z : _≡_ {A = ℕ} 0 1 = cc in absurd (omega arith)
-  kept (refused large) e h = absurd (e .left)
-  kept (refused noRoom) e h = absurd (e .left)
+  kept overlong e h = absurd (e .left)
+  kept (badLine f line) e h = let k = sym (ap (λ x. x .answer) (e .result)) ∙ h in let z : _≡_ {A = ℕ} 0 1 = cc in absurd (omega arith)
 
   cleared : {zeros : List ℕ} (due : Reading) → Ended due front r → (r .answer ≡ Fine → ⊥) → zeros ≡ filled 3104 0 [] → zeros ++ drop 3104 before ≡ storeFor due before
   cleared (read d o) e h z = absurd (h (ap (λ x. x .answer) (e .result)))
-  cleared (refused tooLong) e h z = absurd (e .left)
-  cleared (refused (inLine f line)) e h z = ap (λ l. l ++ drop 3104 before) (z ∙ sym (filled-replicate 0 3104))
-  cleared (refused large) e h z = absurd (e .left)
-  cleared (refused noRoom) e h z = absurd (e .left)
+  cleared overlong e h z = absurd (e .left)
+  cleared (badLine f line) e h z = ap (λ l. l ++ drop 3104 before) (z ∙ sym (filled-replicate 0 3104))
 
   module _ (text : Text) (fits : readWith text (length before) ≡ described (wholeText text)) (e : Ended (described (wholeText text)) front r) where
     same : r ≡ readFor (readWith text (length before))

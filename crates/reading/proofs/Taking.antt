@@ -11,10 +11,10 @@ use lib.ListN.{length, getD, take, set}
 use lib.Seq.{take-suc-set}
 use borrow.Author.Tests.{lt-ltb, le-ltb, le-leb, lt-leb}
 use Rattle.meaning.specs.Bytes.{Text, ascii}
-use Rattle.meaning.specs.Answers.{Fault, form, name, range, Refusal}
-use Rattle.forms.specs.Text.{Past, past, stuck}
-use Rattle.forms.specs.Forms.{countLine, nameLine}
-use Rattle.reading.specs.Reading.{taken, faulty, takenIf, formed, takeNumber, isFree, takeName, takeBody, Cut, cut, noLine, firstLine, reached, halted, walk, afterLine, lineWalk, oneLine}
+use Rattle.meaning.specs.Answers.{Fault, form, name, range}
+use Rattle.grammar.specs.Text.{Past, past, stuck}
+use Rattle.grammar.specs.Forms.{countLine, nameLine}
+use Rattle.grammar.specs.Reading.{taken, faulty, takenIf, formed, takeNumber, isFree, takeName, takeBody, Cut, cut, noLine, firstLine, reached, halted, walk, afterLine, lineWalk, oneLine}
 use Rattle.reading.specs.Walks.{between}
 
 -- A number.
@@ -93,7 +93,7 @@ set-fits (y ∷ xs) (suc i) x h k zero = h 0
 set-fits (y ∷ xs) (suc i) x h k (suc j) = set-fits xs i x (λ n. h (suc n)) k j
 
 module _ (terms line : ℕ) (s : Text) where
-  pub body-bad : (bodies : List ℕ) {r : Refusal} → halted r ≡ oneLine (takeNumber (ascii "equation=") (between 0 terms) range) line s → halted r ≡ oneLine (takeBody terms bodies) line s
+  pub body-bad : (bodies : List ℕ) {f : Fault} {n : ℕ} → halted f n ≡ oneLine (takeNumber (ascii "equation=") (between 0 terms) range) line s → halted f n ≡ oneLine (takeBody terms bodies) line s
   body-bad bodies q = ap (λ w. walk w (λ n next r. reached (bodies ++ (n ∷ [])) next r)) q ∙ body-line terms bodies line s
 
   pub body-to : (xs : List ℕ) (i : ℕ) → i < length xs → {t next : ℕ} {r : Text} → reached t next r ≡ oneLine (takeNumber (ascii "equation=") (between 0 terms) range) line s

@@ -14,16 +14,16 @@ use Rattle.table.specs.Encoded.{filled, termWords, termsWords, termFor, slotsFr
 use Rattle.table.specs.Packed.{termWord}
 use Rattle.table.proofs.Filled.{slots-more, part-free, part-more}
 use Rattle.forms.specs.Lists.{over}
-use Rattle.forms.specs.Text.{Past, stuck}
-use Rattle.forms.specs.Forms.{Line, termLine, OrderLine, orderLine}
-use Rattle.forms.specs.Faults.{Found, fine, fault, termSaid, termFault, orderSaid, orderFault}
+use Rattle.grammar.specs.Text.{Past, stuck}
+use Rattle.grammar.specs.Forms.{Line, termLine, OrderLine, orderLine}
+use Rattle.grammar.specs.Faults.{Found, fine, fault, termSaid, termFault, orderSaid, orderFault}
 use Rattle.forms.specs.Tallies.{faultOf, foundOf}
 use Rattle.forms.specs.declared.Fault as F
 use Rattle.forms.specs.declared.Found as G
 use Rattle.forms.specs.declared.Found.the-variants.{Fine, Faulty}
 use Rattle.forms.specs.Terms.{TermTaken}
 use Rattle.forms.specs.Orders.{OrderTaken}
-use Rattle.reading.specs.Reading.{Taken, taken, faulty, takenUnless, formed, takeTerm, takeOrder}
+use Rattle.grammar.specs.Reading.{Taken, taken, faulty, takenUnless, formed, takeTerm, takeOrder}
 
 pub part-short : (text : Text) (at k : ℕ) → length text ≤ 8192 → length (take k (drop at text)) ≤ 8192
 part-short text at k h = rw (length-take, length-drop) (omega arith)

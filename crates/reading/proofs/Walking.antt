@@ -7,8 +7,8 @@ use native.Mathlib.Omega.{arith}
 use lib.ListN.{length, take, drop}
 use borrow.Author.Tests.{lt-ltb, le-ltb}
 use Rattle.meaning.specs.Bytes.{Text}
-use Rattle.meaning.specs.Answers.{Fault, Refusal, form, inLine}
-use Rattle.reading.specs.Reading.{Taken, taken, firstLine, Walk, reached, halted, walk, afterLine, lineWalk, oneLine, lines}
+use Rattle.meaning.specs.Answers.{Fault, form}
+use Rattle.grammar.specs.Reading.{Taken, taken, firstLine, Walk, reached, halted, walk, afterLine, lineWalk, oneLine, lines}
 use Rattle.reading.specs.Lines.{LineEnd}
 use Rattle.forms.specs.Tallies.{faultOf}
 use Rattle.forms.specs.declared.Fault as F
@@ -18,7 +18,7 @@ use Rattle.reading.specs.declared.Progress.the-variants.{To, Bad}
 
 -- A line from a place on, where the text has one.
 module _ {A : Type 0} (do-take : Text → Taken A) (line : ℕ) {text : Text} {at end : ℕ} (e : LineEnd text at end (firstLine (drop at text))) where
-  pub line-lacks : length text ≤ end → halted (inLine form line) ≡ oneLine do-take line (drop at text)
+  pub line-lacks : length text ≤ end → halted form line ≡ oneLine do-take line (drop at text)
   line-lacks h = let k = e .cuts in ap (lineWalk do-take line) (rw (le-ltb end (length text) h) at k)
 
   module _ (h : end < length text) {t : Taken A} (q : t ≡ do-take (take (end - at) (drop at text))) where
@@ -52,7 +52,7 @@ module _ {A : Type 0} {do-take : A → Text → Taken A} {goal : Walk A} {text :
       → Onto do-take goal text all (i + 1) b next after
   lines-more h q s = record { spot = s; upto = omega arith; comes = ap (λ w. walk w (lines do-take (all - (i + 1)))) q ∙ more h }
 
-  pub lines-halt : {r : Refusal} → i < all → halted r ≡ oneLine (do-take a) number (drop from text) → halted r ≡ goal
+  pub lines-halt : {f : Fault} {line : ℕ} → i < all → halted f line ≡ oneLine (do-take a) number (drop from text) → halted f line ≡ goal
   lines-halt h q = ap (λ w. walk w (lines do-take (all - (i + 1)))) q ∙ more h
 
   pub lines-done : all ≤ i → reached a number (drop from text) ≡ goal
@@ -67,16 +67,16 @@ module _ {A : Type 0} {value : ℕ → A} {text : Text} {r : Progress} {due : Wa
   pub gone-spot : {v at line : ℕ} → r ≡ To v at line → Spot text at line
   gone-spot e = (rw e at w) .spot
 
-  pub gone-bad : {f : F.Fault} {line : ℕ} → r ≡ Bad f line → halted (inLine (faultOf f) line) ≡ due
+  pub gone-bad : {f : F.Fault} {line : ℕ} → r ≡ Bad f line → halted (faultOf f) line ≡ due
   gone-bad e = (rw e at w) .says
 
 pub gone-below : {text : Text} {below : ℕ} {r : Progress} {due : Walk ℕ} → NumberTo text below r due → {v at line : ℕ} → r ≡ To v at line → v < below
 gone-below w e = (rw e at w) .bounded
 
 -- a line that is refused
-pub refuses : {text : Text} {below : ℕ} {due : Walk ℕ} {f : F.Fault} {line : ℕ} → halted (inLine (faultOf f) line) ≡ due → NumberTo text below (Bad f line) due
+pub refuses : {text : Text} {below : ℕ} {due : Walk ℕ} {f : F.Fault} {line : ℕ} → halted (faultOf f) line ≡ due → NumberTo text below (Bad f line) due
 refuses q = record { walks = record { says = q; spot = tt }; bounded = tt }
 
 -- a refusal that stays one
-pub still-bad : {B : Type 0} {value : ℕ → B} {text : Text} {r : Progress} {due : Walk B} {f : F.Fault} {line : ℕ} → r ≡ Bad f line → halted (inLine (faultOf f) line) ≡ due → Walks value text r due
+pub still-bad : {B : Type 0} {value : ℕ → B} {text : Text} {r : Progress} {due : Walk B} {f : F.Fault} {line : ℕ} → r ≡ Bad f line → halted (faultOf f) line ≡ due → Walks value text r due
 still-bad e q = rw e (record { says = q; spot = tt })

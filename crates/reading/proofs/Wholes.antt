@@ -12,23 +12,23 @@ use borrow.Author.Tests.{lt-ltb, le-ltb, le-leb, leb-true, leb-false}
 use Rattle.meaning.specs.Bytes.{Text}
 use Rattle.meaning.specs.Descriptions as D
 use Rattle.meaning.specs.Answers as A
-use Rattle.meaning.specs.Answers.{form, inLine}
+use Rattle.meaning.specs.Answers.{form}
 use Rattle.table.specs.declared.Order.{Order}
 use Rattle.table.specs.declared.Table.{Table}
 use Rattle.table.specs.Decoded.{nameOf}
 use Rattle.table.specs.Encoded.{filled, wordOf, slotsFrom, termsWords, orderWords, orderFor, tableOf, storeOf}
 use Rattle.table.proofs.Filled.{filled-length, filled-two, filled-front}
-use Rattle.forms.specs.Text.{Past, past, stuck}
-use Rattle.forms.specs.Forms.{countLine}
+use Rattle.grammar.specs.Text.{Past, past, stuck}
+use Rattle.grammar.specs.Forms.{countLine}
 use Rattle.forms.specs.Tallies.{faultOf}
 use Rattle.forms.specs.Lists.{over}
 use Rattle.forms.specs.declared.Fault.{Fault}
 use Rattle.forms.specs.declared.Fault.the-variants.{Form, Name, Range, Amount, Operand}
 use Rattle.forms.proofs.Rests.{rest-cons}
 use Rattle.forms.proofs.Looked.{word-name}
-use Rattle.reading.specs.Reading.{takenIf, formed, takeNumber, nameCount, equationCount, termCount, Cut, cut, noLine, firstLine, Walk, reached, halted, walk, afterLine, lineWalk, oneLine, read, refused, Whole, described}
+use Rattle.grammar.specs.Reading.{takenIf, formed, takeNumber, nameCount, equationCount, termCount, Cut, cut, noLine, firstLine, Walk, reached, halted, walk, afterLine, lineWalk, oneLine, read, badLine, Whole, described}
 use Rattle.reading.specs.Walks.{between}
-use Rattle.reading.specs.Stored.{faultFor, readFor, Ended, refusalOf, Padded}
+use Rattle.reading.specs.Stored.{faultFor, refusing, readFor, badAnswer, Ended, Padded}
 use Rattle.reading.specs.declared.Answer.the-variants as N
 use Rattle.reading.specs.declared.Read.{Read}
 use Rattle.reading.specs.declared.Progress.{Progress}
@@ -77,8 +77,8 @@ terms-test n = rw (at-most n 96)
 
 -- A step that ends the reading, and one after which it goes on.
 module _ {A : Type 0} {due : Walk A} (k : A → ℕ → Text → Walk Whole) {after : List ℕ} {r : Read} where
-  pub ends-bad : {p : Progress} {f : Fault} {line : ℕ} → p ≡ Bad f line → halted (inLine (faultOf f) line) ≡ due → r ≡ readFor (refused (refusalOf p)) → Ended (described (walk due k)) after r
-  ends-bad e q h = rw (← q) (record { result = rw e at h; left = tt })
+  pub ends-bad : {p : Progress} {f : Fault} {line : ℕ} → p ≡ Bad f line → halted (faultOf f) line ≡ due → r ≡ refusing (badAnswer p) → Ended (described (walk due k)) after r
+  ends-bad {f = f} e q h = rw (← q) (record { result = rw (fault-back f) (rw e at h); left = tt })
 
   pub ends-on : {a : A} {line : ℕ} {s : Text} → reached a line s ≡ due → Ended (described (k a line s)) after r → Ended (described (walk due k)) after r
   ends-on q h = rw (← q) h
@@ -88,7 +88,7 @@ abbrev pub whole-with : D.Description → ℕ → D.Order → Whole
 whole-with d root o = record { given = record { words = d .words; terms = d .terms; bodies = d .bodies; root = root }; order = o }
 
 module _ (w : Whole) (line end : ℕ) (text : Text) {after : List ℕ} {r : Read} where
-  pub ends-short : end < length text → r ≡ readFor (refused (inLine form line)) → Ended (described (reached w line (drop end text))) after r
+  pub ends-short : end < length text → r ≡ readFor (badLine form line) → Ended (described (reached w line (drop end text))) after r
   ends-short h e = rw (rest-cons text end h) (record { result = e; left = tt })
 
   pub ends-whole : length text ≤ end → Ended (read (w .given) (w .order)) after r → Ended (described (reached w line (drop end text))) after r

@@ -1,6 +1,4 @@
--- Reading a whole description, and writing one.
-pub mod Reading
-pub mod Writing
+-- How far reading has come in a text, and what it leaves in a table and its list store.
 pub mod Lines
 pub mod Walks
 pub mod Stored

@@ -6,7 +6,7 @@ use Prim.Native.Nat.{ℕ, _+_, _-_, _≤_}
 use lib.Dec.{ltb}
 use lib.ListN.{length, take, drop}
 use Rattle.meaning.specs.Bytes.{Text}
-use Rattle.reading.specs.Reading.{Cut, cut, noLine}
+use Rattle.grammar.specs.Reading.{Cut, cut, noLine}
 
 -- The line from a place to its LF, and the text after it.
 abbrev pub cutIf : Bool → Text → Text → Cut

@@ -7,14 +7,14 @@ use Prim.Native.Nat.{ℕ, _^_, _≤_, _<_}
 use lib.Dec.{leb}
 use lib.ListN.{length, getD, take, drop, replicate}
 use Rattle.meaning.specs.Bytes.{Text}
-use Rattle.meaning.specs.Answers.{Fault, form, name, range, amount, operand, Refusal, tooLong, inLine, large, noRoom}
+use Rattle.meaning.specs.Answers.{Fault, form, name, range, amount, operand}
 use Rattle.table.specs.declared.Order.the-variants.{All}
 use Rattle.table.specs.declared.Table.{Table}
 use Rattle.table.specs.Decoded.{nameOf}
 use Rattle.table.specs.Encoded.{filled, termsWords, tableOf, blank, orderFor, storeOf}
 use Rattle.forms.specs.declared.Fault as F
 use Rattle.forms.specs.declared.Fault.the-variants.{Form, Name, Range, Amount, Operand}
-use Rattle.reading.specs.Reading.{Reading, read, refused, readText}
+use Rattle.grammar.specs.Reading.{Reading, read, overlong, badLine, readText}
 use Rattle.reading.specs.declared.Answer.{Answer}
 use Rattle.reading.specs.declared.Answer.the-variants.{Fine, TooLong, Bad}
 use Rattle.reading.specs.declared.Read.{Read}
@@ -31,32 +31,25 @@ faultFor range = Range
 faultFor amount = Amount
 faultFor operand = Operand
 
--- (refusals 7 and 8 are none of a text)
-abbrev pub answerFor : Refusal → Answer
-answerFor tooLong = TooLong
-answerFor (inLine f line) = Bad (faultFor f) line
-answerFor large = TooLong
-answerFor noRoom = TooLong
+-- What is returned for each reading; after a refusal the table is that of nothing.
+abbrev pub refusing : Answer → Read
+refusing a = record { answer = a; table = tableOf blank; order = All }
 
 abbrev pub readFor : Reading → Read
 readFor (read d o) = record { answer = Fine; table = tableOf d; order = orderFor o }
-readFor (refused r) = record { answer = answerFor r; table = tableOf blank; order = All }
+readFor overlong = refusing TooLong
+readFor (badLine f line) = refusing (Bad (faultFor f) line)
 
 -- The first 3,104 words hold the lists, or 0 after a bad line; after refusal 1 they are unchanged.
-abbrev pub storeRefused : Refusal → List ℕ → List ℕ
-storeRefused tooLong before = before
-storeRefused (inLine f line) before = replicate 3104 0 ++ drop 3104 before
-storeRefused large before = before
-storeRefused noRoom before = before
-
 abbrev pub storeFor : Reading → List ℕ → List ℕ
 storeFor (read d o) before = storeOf d o ++ drop 3104 before
-storeFor (refused r) before = storeRefused r before
+storeFor overlong before = before
+storeFor (badLine f line) before = replicate 3104 0 ++ drop 3104 before
 
 -- A store that is too short is refused as a text that is too long.
 abbrev pub withRoom : Bool → Reading → Reading
 withRoom true x = x
-withRoom false x = refused tooLong
+withRoom false x = overlong
 
 unfoldable pub readWith : Text → ℕ → Reading
 readWith text room = withRoom (leb 3104 room) (readText text)
@@ -65,25 +58,20 @@ pub record Stored (text : Text) (before after : List ℕ) (r : Read) : Type 0 wh
   pub result : r ≡ readFor (readWith text (length before))
   pub store : after ≡ storeFor (readWith text (length before)) before
 
--- The same over a store of 3,104 words that were 0; the refusal of a line does not clear it yet.
-abbrev pub OfLine : Refusal → Type 0
-OfLine tooLong = ⊥
-OfLine (inLine f line) = Unit {0}
-OfLine large = ⊥
-OfLine noRoom = ⊥
-
+-- The same over a store of 3,104 words that were 0, of a text that is not too long; the refusal of a line does not clear it yet.
 abbrev pub Left : Reading → List ℕ → Type 0
 Left (read d o) after = after ≡ storeOf d o
-Left (refused r) after = OfLine r
+Left overlong after = ⊥
+Left (badLine f line) after = Unit {0}
 
 pub record Ended (due : Reading) (after : List ℕ) (r : Read) : Type 0 where
   pub result : r ≡ readFor due
   pub left : Left due after
 
--- A refusal of a line; one that goes on has none.
-abbrev pub refusalOf : Progress → Refusal
-refusalOf (To v at line) = tooLong
-refusalOf (P.Bad f line) = inLine (faultOf f) line
+-- The answer that a bad line's progress is given on as. (Only a private function cites it, of a progress that is bad.)
+abbrev pub badAnswer : Progress → Answer
+badAnswer (To v at line) = TooLong
+badAnswer (P.Bad f line) = Bad f line
 
 -- Names in an array with 0 after them.
 pub record Padded (names : List ℕ) (named : ℕ) : Type 0 where

@@ -8,14 +8,13 @@ use lib.Dec.{leb, ltb}
 use lib.ListN.{length, getD, drop}
 use Rattle.meaning.specs.Bytes.{Text}
 use Rattle.meaning.specs.Descriptions as D
-use Rattle.meaning.specs.Answers.{inLine}
 use Rattle.table.specs.declared.Term.{Term}
 use Rattle.table.specs.declared.Order.{Order}
 use Rattle.table.specs.Decoded.{nameOf}
 use Rattle.table.specs.Encoded.{filled, termWords, termFor, slotsFrom, termsWords, orderWords, orderFor}
 use Rattle.forms.specs.Tallies.{faultOf}
 use Rattle.forms.specs.Lists.{over}
-use Rattle.reading.specs.Reading.{Walk, reached, halted}
+use Rattle.grammar.specs.Reading.{Walk, reached, halted}
 use Rattle.reading.specs.declared.Progress.{Progress}
 use Rattle.reading.specs.declared.Progress.the-variants.{To, Bad}
 use Rattle.reading.specs.declared.terms.TermProgress.{TermProgress}
@@ -36,7 +35,7 @@ pub record Spot (text : Text) (at line : ℕ) : Type 0 where
 -- What was read with the last number, the next line's number and the text from there on.
 abbrev pub walkOf : {A : Type 0} → (ℕ → A) → Text → Progress → Walk A
 walkOf value text (To v at line) = reached (value v) line (drop at text)
-walkOf value text (Bad f line) = halted (inLine (faultOf f) line)
+walkOf value text (Bad f line) = halted (faultOf f) line
 
 abbrev pub SpotOf : Text → Progress → Type 0
 SpotOf text (To v at line) = Spot text at line
@@ -79,7 +78,7 @@ pub record TermTo (terms : List D.Term) (text : Text) (due : Walk (List D.Term))
 
 abbrev pub TermWalks : List D.Term → Text → Walk (List D.Term) → List ℕ → List ℕ → TermProgress → Type 0
 TermWalks terms text due before after (T.To x at line) = TermTo terms text due before after x at line
-TermWalks terms text due before after (T.Bad f line) = halted (inLine (faultOf f) line) ≡ due
+TermWalks terms text due before after (T.Bad f line) = halted (faultOf f) line ≡ due
 
 -- Some terms, as they stand in the table and in the store.
 pub record Termed (terms : List D.Term) (slots : List ℕ) (store : List ℕ) : Type 0 where
@@ -96,7 +95,7 @@ pub record TermsTo (text : Text) (due : Walk (List D.Term)) (count : ℕ) (after
 
 abbrev pub TermsWalk : Text → Walk (List D.Term) → ℕ → List ℕ → List ℕ → Progress → Type 0
 TermsWalk text due count after slots (To v at line) = TermsTo text due count after slots at line
-TermsWalk text due count after slots (Bad f line) = halted (inLine (faultOf f) line) ≡ due
+TermsWalk text due count after slots (Bad f line) = halted (faultOf f) line ≡ due
 
 -- The order, its labels over the start of its part of the store.
 pub record OrderTo (text : Text) (due : Walk D.Order) (before after : List ℕ) (x : Order) (at line : ℕ) : Type 0 where
@@ -112,4 +111,4 @@ orderProgress (O.Bad f line) = Bad f line
 
 abbrev pub OrderWalks : Text → Walk D.Order → List ℕ → List ℕ → OrderProgress → Type 0
 OrderWalks text due before after (O.To x at line) = OrderTo text due before after x at line
-OrderWalks text due before after (O.Bad f line) = halted (inLine (faultOf f) line) ≡ due
+OrderWalks text due before after (O.Bad f line) = halted (faultOf f) line ≡ due

@@ -1,7 +1,7 @@
 // The lines of bodies.
 ghost use mathlib.Core.List.{[]};
 ghost use lib.ListN.{length, drop};
-ghost use Rattle.reading.specs.Reading.{takeBody, lines};
+ghost use Rattle.grammar.specs.Reading.{takeBody, lines};
 ghost use Rattle.reading.specs.Walks.{Spot, Walks};
 use crate::Progress;
 use crate::lines::take_number;

@@ -3,7 +3,7 @@ ghost use mathlib.Core.Path.{_≡_};
 ghost use mathlib.Core.List.{[], _∷_, _++_, map};
 ghost use lib.ListN.{length, drop};
 ghost use Rattle.table.specs.Decoded.{nameOf};
-ghost use Rattle.reading.specs.Reading.{isFree, takeName, oneLine, lines};
+ghost use Rattle.grammar.specs.Reading.{isFree, takeName, oneLine, lines};
 ghost use Rattle.reading.specs.Walks.{Spot, Walks, NamesTo};
 use crate::Progress;
 use crate::lines::line_end;

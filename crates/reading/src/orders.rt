@@ -4,7 +4,7 @@ ghost use mathlib.Core.List.{map};
 ghost use Prim.Native.Nat.{_≤_};
 ghost use lib.ListN.{length, drop};
 ghost use Rattle.table.specs.Decoded.{nameOf};
-ghost use Rattle.reading.specs.Reading.{takeOrder, oneLine};
+ghost use Rattle.grammar.specs.Reading.{takeOrder, oneLine};
 ghost use Rattle.reading.specs.Walks.{Spot, OrderWalks, orderProgress};
 use crate::Progress;
 use crate::lines::line_end;

@@ -6,7 +6,7 @@ ghost use lib.ListN.{length, drop};
 ghost use Rattle.meaning.specs.Descriptions as D;
 ghost use Rattle.table.specs.Decoded.{nameOf};
 ghost use Rattle.table.specs.Encoded.{filled};
-ghost use Rattle.reading.specs.Reading.{takeTerm, oneLine, lines};
+ghost use Rattle.grammar.specs.Reading.{takeTerm, oneLine, lines};
 ghost use Rattle.reading.specs.Walks.{Spot, TermWalks, TermsWalk, TermsBefore, progressOf};
 use crate::Progress;
 use crate::lines::line_end;

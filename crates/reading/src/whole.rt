@@ -5,11 +5,10 @@ ghost use Prim.Native.Nat.{_≤_};
 ghost use lib.ListN.{length, take, drop};
 ghost use Rattle.meaning.specs.Descriptions.{Description};
 ghost use Rattle.table.specs.Decoded.{nameOf};
-ghost use Rattle.table.specs.Encoded.{filled, tableOf, blank};
-ghost use Rattle.reading.specs.Reading as R;
-ghost use Rattle.reading.specs.Reading.{fromRoot, fromTerms, wholeText, described};
+ghost use Rattle.table.specs.Encoded.{filled};
+ghost use Rattle.grammar.specs.Reading.{fromRoot, fromTerms, wholeText, described};
 ghost use Rattle.reading.specs.Walks.{Spot};
-ghost use Rattle.reading.specs.Stored.{readFor, refusalOf, Ended, Padded, Held};
+ghost use Rattle.reading.specs.Stored.{refusing, badAnswer, Ended, Padded, Held};
 use crate::Answer;
 use crate::Progress;
 use crate::Read;
@@ -26,7 +25,7 @@ use table::Table;
 use table::empty;
 
 pub fn refused(answer: Answer) -> Read
-    ensures { λ r. ⌜ r ≡ record { answer = answer; table = tableOf blank; order = Order.All } ⌝ }
+    ensures { λ r. ⌜ r ≡ refusing answer ⌝ }
 {
     Read {
         answer,
@@ -36,7 +35,7 @@ pub fn refused(answer: Answer) -> Read
 }
 
 fn bad(p: Progress) -> Read
-    ensures { λ r. ⌜ r ≡ readFor (R.refused (refusalOf p)) ⌝ }
+    ensures { λ r. ⌜ r ≡ refusing (badAnswer p) ⌝ }
 {
     match p {
         Progress::To(_, _, _) => refused(Answer::TooLong),

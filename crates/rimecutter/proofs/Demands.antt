@@ -20,9 +20,9 @@ use Rattle.meaning.specs.Widening.{Widens}
 use Rattle.meaning.proofs.Answers.{answer-right, answer-only}
 use Rattle.meaning.proofs.Widening as W
 use Rattle.meaning.proofs.Widening.{tightening}
-use Rattle.reading.specs.Reading.{Reading, read, refused, readText}
-use Rattle.reading.proofs.Acceptance.{accepted→}
-use Rattle.printing.specs.Printed.{line, answerText, refusedText, put}
+use Rattle.grammar.specs.Reading.{Reading, read, refused, readText}
+use Rattle.grammar.proofs.Acceptance.{accepted→}
+use Rattle.grammar.specs.Printed.{line, answerText, refusedText, put}
 use Rattle.printing.specs.Areas.{Printed}
 use Rattle.rimecutter.specs.declared.Answer.{Answer}
 use Rattle.rimecutter.specs.Calls.{Call, refusing, answering, tooShort, ofOutcome, ofReading, unlessShort, call, verdictOf, workAfter, cleared, textOf}

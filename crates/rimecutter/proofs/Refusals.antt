@@ -8,7 +8,7 @@ use lib.Dec.{ltb}
 use lib.ListN.{length}
 use Rattle.meaning.specs.Bytes.{Text}
 use Rattle.meaning.specs.Answers.{Refusal, tooLong, inLine, large, noRoom}
-use Rattle.reading.specs.Reading.{Taken, taken, faulty, Cut, cut, noLine, firstLine, Walk, reached, halted, walk, afterLine, lineWalk, oneLine, lines, Reading, read, refused, allRead, wholeText, readText}
+use Rattle.grammar.specs.Reading.{Taken, taken, faulty, Cut, cut, noLine, firstLine, Walk, reached, halted, walk, afterLine, lineWalk, oneLine, lines, Reading, read, refused, allRead, wholeText, readText}
 
 abbrev pub OfText : Refusal → Type 0
 OfText tooLong = Unit {0}

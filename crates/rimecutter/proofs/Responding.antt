@@ -13,8 +13,8 @@ use Rattle.meaning.specs.Labels.{number}
 use Rattle.meaning.specs.Descriptions as D
 use Rattle.meaning.specs.Answers as A
 use Rattle.meaning.specs.Answers.{Outcome, tooLarge, listed, tooLong, inLine, large, noRoom}
-use Rattle.reading.specs.Reading.{Reading, read, refused, readText}
-use Rattle.reading.proofs.Acceptance.{accepted→}
+use Rattle.grammar.specs.Reading.{Reading, read, refused, readText}
+use Rattle.grammar.proofs.Acceptance.{accepted→}
 use Rattle.table.specs.Encoded.{tableOf, storeOf}
 use Rattle.table.specs.Areas.{zeroed}
 use Rattle.table.proofs.Zeroed.{zeroed-front}

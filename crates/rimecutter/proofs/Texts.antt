@@ -21,12 +21,12 @@ use Rattle.meaning.specs.Answers.{Outcome, tooLarge, listed, Lists, Answers, Re
 use Rattle.meaning.proofs.Digits.{small}
 use Rattle.meaning.proofs.Answers.{answer-right}
 use Rattle.meaning.proofs.Listings.{listed-held, listed-few}
-use Rattle.reading.specs.Reading.{Reading, read, refused, readText}
-use Rattle.reading.specs.Writing.{inName, NameForm}
-use Rattle.reading.proofs.Acceptance.{accepted→}
+use Rattle.grammar.specs.Reading.{Reading, read, refused, readText}
+use Rattle.grammar.specs.Writing.{inName, NameForm}
+use Rattle.grammar.proofs.Acceptance.{accepted→}
 use Rattle.table.specs.Encoded.{filled, wordOf}
-use Rattle.forms.specs.Text.{isLower, isDigit}
-use Rattle.printing.specs.Printed.{refusedText, answerText}
+use Rattle.grammar.specs.Text.{isLower, isDigit}
+use Rattle.grammar.specs.Printed.{refusedText, answerText}
 use Rattle.printing.specs.Areas.{wordsOf, countsOf, Printed}
 use Rattle.printing.proofs.Callers.{Bytes, Fits, same-answer}
 use Rattle.rimecutter.specs.Calls.{Call, refusing, answering, tooShort, ofOutcome, ofReading, unlessShort, call, verdictOf, answerAfter, textOf}

@@ -10,8 +10,8 @@ use Rattle.meaning.specs.Labels.{Label, number}
 use Rattle.meaning.specs.Descriptions.{Description}
 use Rattle.meaning.specs.Answers as A
 use Rattle.meaning.specs.Answers.{Outcome, tooLarge, listed, Refusal, tooLong, inLine, large, noRoom, Verdict}
-use Rattle.reading.specs.Reading.{Reading, read, refused, readText}
-use Rattle.printing.specs.Printed.{refusalText, answerText}
+use Rattle.grammar.specs.Reading.{Reading, read, refused, readText}
+use Rattle.grammar.specs.Printed.{refusalText, answerText}
 
 -- A refusal, or an answer with the names it is printed with.
 pub data Call : Type 0 where

@@ -1,7 +1,7 @@
 -- `printing::write_refusal` meets its contract: the head is the whole text.
 -- Assumes nothing.
 use native.Mathlib.Omega.{arith}
-use Rattle.printing.specs.Printed.{refusedText}
+use Rattle.grammar.specs.Printed.{refusedText}
 use Rattle.printing.proofs.Whole.{whole, none}
 use borrow.Author.Needs.{needs}
 use Rattle.printing.proofs.write_refusal.Statement.{statement}

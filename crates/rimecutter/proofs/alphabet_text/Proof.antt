@@ -4,7 +4,7 @@ use native.Mathlib.Nat.{min-eq-left}
 use native.Mathlib.Omega.{arith}
 use lib.ListN.{length-take}
 use Prim.Native.Nat.{ℕ}
-use Rattle.printing.specs.Printed.{refusedText}
+use Rattle.grammar.specs.Printed.{refusedText}
 use Rattle.forms.specs.Tallies.{faultOf}
 use Rattle.rimecutter.specs.Calls.{call, textOf}
 use Rattle.rimecutter.specs.declared.Answer.the-variants.{TooLong, Bad, TooLarge}

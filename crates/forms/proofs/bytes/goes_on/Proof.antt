@@ -1,7 +1,7 @@
 -- `forms::bytes::goes_on` meets its contract: the second test is asked only where the first fails.
 -- Assumes nothing.
 use mathlib.Core.Path.{sym, _∙_}
-use Rattle.forms.specs.Text.{isLower, isDigit}
+use Rattle.grammar.specs.Text.{isLower, isDigit}
 use Rattle.forms.proofs.Rests.{asks-nothing}
 use Rattle.forms.proofs.bytes.goes_on.Statement.{statement}
 use Rattle.forms.proofs.bytes.goes_on.Tie as tie

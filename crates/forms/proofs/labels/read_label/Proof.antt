@@ -8,7 +8,7 @@ use borrow.Author.Tests.{not-true, not-false}
 use lib.ListN.{length, drop, length-map}
 use Rattle.meaning.specs.Legal.{Each}
 use Rattle.table.specs.Decoded.{nameOf}
-use Rattle.forms.specs.Forms.{part, dot}
+use Rattle.grammar.specs.Forms.{part, dot}
 use Rattle.forms.specs.Tallies.{Said}
 use Rattle.forms.specs.Places.{saidOf}
 use Rattle.forms.specs.Entries.{seen, partSaid}

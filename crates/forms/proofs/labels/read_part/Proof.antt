@@ -2,7 +2,7 @@
 -- Assumes nothing.
 use borrow.Author.Needs.{needs}
 use mathlib.Core.Path.{refl, ap, _∙_}
-use Rattle.forms.specs.Faults.{worse}
+use Rattle.grammar.specs.Faults.{worse}
 use Rattle.forms.specs.Tallies.{foundOf}
 use Rattle.forms.proofs.Rests.{asks-nothing}
 use Rattle.forms.proofs.Steps.{went, halts, onwards, said-went, said-halted, said-onwards, arrived, otherwise}

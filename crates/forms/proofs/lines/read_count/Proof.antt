@@ -1,8 +1,8 @@
 -- `forms::lines::read_count` meets its contract: a number after the key, and nothing after it.
 -- Assumes nothing.
 use native.Mathlib.Omega.{arith}
-use Rattle.forms.specs.Text.{number}
-use Rattle.forms.specs.Forms.{countLine}
+use Rattle.grammar.specs.Text.{number}
+use Rattle.grammar.specs.Forms.{countLine}
 use Rattle.forms.proofs.Rests.{asks-nothing}
 use Rattle.forms.proofs.Steps.{went}
 use Rattle.forms.proofs.Ends.{key-stuck, key-read}

@@ -3,8 +3,8 @@
 use native.Mathlib.Omega.{arith}
 use mathlib.Core.Path.{refl}
 use Rattle.meaning.specs.Bytes.{ascii}
-use Rattle.forms.specs.Text.{word}
-use Rattle.forms.specs.Forms.{nameLine}
+use Rattle.grammar.specs.Text.{word}
+use Rattle.grammar.specs.Forms.{nameLine}
 use Rattle.forms.proofs.Rests.{asks-nothing}
 use Rattle.forms.proofs.Steps.{went}
 use Rattle.forms.proofs.Ends.{key-stuck, key-read}

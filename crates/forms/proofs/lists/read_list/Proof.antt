@@ -7,7 +7,7 @@ use native.Mathlib.Omega.{arith}
 use borrow.Author.Tests.{not-true, not-false}
 use lib.ListN.{length, length-map}
 use Rattle.table.specs.Decoded.{nameOf}
-use Rattle.forms.specs.Forms.{comma}
+use Rattle.grammar.specs.Forms.{comma}
 use Rattle.forms.specs.Tallies.{Said}
 use Rattle.forms.specs.Places.{saidOf}
 use Rattle.forms.specs.Lists.{entryOf, weightFor, limitFor, wordCount, entryWord, entryStored, listEntry, listWords, over}

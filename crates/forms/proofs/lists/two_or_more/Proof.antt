@@ -2,8 +2,8 @@
 -- Assumes nothing.
 use mathlib.Core.Path.{refl, ap, _∙_}
 use lib.ListN.{drop}
-use Rattle.forms.specs.Text.{past}
-use Rattle.forms.specs.Faults.{worse}
+use Rattle.grammar.specs.Text.{past}
+use Rattle.grammar.specs.Faults.{worse}
 use Rattle.forms.specs.Tallies.{foundOf}
 use Rattle.forms.proofs.Rests.{asks-nothing}
 use Rattle.forms.proofs.Seen.{said-same}

@@ -4,7 +4,7 @@ use borrow.Author.Needs.{needs}
 use mathlib.Core.Path.{refl, sym, _∙_}
 use native.Mathlib.Omega.{arith}
 use borrow.Author.Tests.{not-true, not-false}
-use Rattle.forms.specs.Forms.{greater}
+use Rattle.grammar.specs.Forms.{greater}
 use Rattle.forms.specs.Places.{saidOf}
 use Rattle.forms.proofs.Rests.{asks-nothing, sign-within}
 use Rattle.forms.proofs.Steps.{no-sign, past-sign, said-went, said-halted, said-onwards, arrived, otherwise}

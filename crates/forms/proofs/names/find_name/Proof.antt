@@ -6,7 +6,7 @@ use Prim.Native.Nat.{_≤_, _-_, _+_}
 use native.Mathlib.Omega.{arith}
 use lib.ListN.{length, drop}
 use Rattle.table.specs.Decoded.{nameOf}
-use Rattle.forms.specs.Faults.{nameNumber}
+use Rattle.grammar.specs.Faults.{nameNumber}
 use Rattle.forms.proofs.Looked.{number-here, number-later, number-none}
 use Rattle.forms.proofs.names.find_name.Statement.{statement}
 use Rattle.forms.proofs.names.find_name.Tie as tie

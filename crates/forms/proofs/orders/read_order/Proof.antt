@@ -2,8 +2,8 @@
 -- Assumes nothing.
 use borrow.Author.Needs.{needs}
 use Rattle.table.specs.declared.Order.the-variants.{All}
-use Rattle.forms.specs.Text.{past}
-use Rattle.forms.specs.Forms.{all}
+use Rattle.grammar.specs.Text.{past}
+use Rattle.grammar.specs.Forms.{all}
 use Rattle.forms.specs.declared.Found.the-variants.{Fine}
 use Rattle.forms.specs.declared.OrderStep.the-variants.{To}
 use mathlib.Core.Path.{refl, sym, _∙_}

@@ -2,8 +2,8 @@
 -- Assumes nothing.
 use mathlib.Core.Path.{refl, ap}
 use Rattle.table.specs.Terms.{bareTerm}
-use Rattle.forms.specs.Text.{onward, past}
-use Rattle.forms.specs.Forms.{plain}
+use Rattle.grammar.specs.Text.{onward, past}
+use Rattle.grammar.specs.Forms.{plain}
 use Rattle.forms.proofs.Operands.{ended-none, ended-some}
 use Rattle.forms.proofs.terms.finish.Statement.{statement}
 use Rattle.forms.proofs.terms.finish.Tie as tie

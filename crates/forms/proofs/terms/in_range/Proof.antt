@@ -11,7 +11,7 @@ use Rattle.table.specs.declared.Term.{Term}
 use Rattle.table.specs.declared.Term.the-variants.{Delta, Tau, Act, Ref, Sum, Cond, Choice, IfElse, Seq, Merge, LMerge, Sync, Wrap}
 use Rattle.table.proofs.Term.{the-type}
 use Rattle.table.specs.Terms.{bareTerm}
-use Rattle.forms.specs.Faults.{inRange}
+use Rattle.grammar.specs.Faults.{inRange}
 use borrow.Author.Needs.{needs}
 use Rattle.forms.proofs.Rests.{asks-nothing}
 use Rattle.forms.proofs.terms.in_range.Statement.{statement}

@@ -2,7 +2,7 @@
 -- Assumes nothing.
 use mathlib.Core.Path.{ap, ap₂, _∙_}
 use Rattle.meaning.specs.Answers.{range, operand}
-use Rattle.forms.specs.Faults.{worse, unless}
+use Rattle.grammar.specs.Faults.{worse, unless}
 use Rattle.forms.specs.Tallies.{foundOf}
 use Rattle.forms.proofs.Rests.{asks-nothing}
 use Rattle.forms.proofs.terms.joined_fault.Statement.{statement}

@@ -5,7 +5,7 @@ use borrow.Author.Tests.{not-true, not-false}
 use mathlib.Core.List.{map}
 use native.Mathlib.Omega.{arith}
 use Rattle.table.specs.Decoded.{nameOf}
-use Rattle.forms.specs.Forms.{space}
+use Rattle.grammar.specs.Forms.{space}
 use Rattle.forms.proofs.Rests.{asks-nothing, sign-within}
 use Rattle.forms.proofs.Operands.{act-no-space, act-no-name, act-no-end, act-line}
 use Rattle.forms.proofs.terms.read_act.Statement.{statement}

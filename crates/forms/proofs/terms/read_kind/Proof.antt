@@ -5,7 +5,7 @@ use mathlib.Core.List.{map}
 use lib.ListN.{drop}
 use Rattle.meaning.specs.Descriptions.{tau, delta}
 use Rattle.table.specs.Decoded.{nameOf}
-use Rattle.forms.specs.Forms.{alone, ofOne, ofTwo}
+use Rattle.grammar.specs.Forms.{alone, ofOne, ofTwo}
 use Rattle.forms.specs.Terms.{madeOf}
 use Rattle.forms.proofs.Operands.{plain-line, line-become}
 use Rattle.forms.proofs.Kinded.{rest-act, rest-tau, rest-delta, rest-one, rest-two, rest-list}

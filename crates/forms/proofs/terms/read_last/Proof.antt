@@ -3,7 +3,7 @@
 use mathlib.Core.Path.{sym, ap, subst, _∙_}
 use lib.ListN.{drop}
 use Rattle.table.specs.Terms.{IsPlain, bareTerm}
-use Rattle.forms.specs.Text.{onward}
+use Rattle.grammar.specs.Text.{onward}
 use Rattle.forms.specs.Terms.{madeOf}
 use Rattle.forms.proofs.Rests.{asks-nothing}
 use Rattle.forms.proofs.Steps.{went, stays}

@@ -7,8 +7,8 @@ use native.Mathlib.Omega.{arith}
 use lib.ListN.{drop}
 use Rattle.meaning.specs.Bytes.{ascii}
 use Rattle.table.specs.Decoded.{nameOf}
-use Rattle.forms.specs.Text.{onward}
-use Rattle.forms.specs.Forms.{kinds, ofKind, termLine}
+use Rattle.grammar.specs.Text.{onward}
+use Rattle.grammar.specs.Forms.{kinds, ofKind, termLine}
 use Rattle.forms.specs.Kinds.{fartherStep, KindFound}
 use Rattle.forms.proofs.Rests.{asks-nothing}
 use Rattle.forms.proofs.Steps.{went, stays}

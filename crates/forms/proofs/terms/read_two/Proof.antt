@@ -2,8 +2,8 @@
 -- Assumes nothing.
 use mathlib.Core.Path.{ap, _∙_}
 use lib.ListN.{drop}
-use Rattle.forms.specs.Text.{onward}
-use Rattle.forms.specs.Forms.{ofOne}
+use Rattle.grammar.specs.Text.{onward}
+use Rattle.grammar.specs.Forms.{ofOne}
 use Rattle.forms.specs.Terms.{madeOf}
 use Rattle.forms.proofs.Steps.{went, stays}
 use Rattle.forms.proofs.Operands.{two-seen, plain-become}

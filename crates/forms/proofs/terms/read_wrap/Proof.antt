@@ -7,7 +7,7 @@ use Prim.Native.Nat.{_*_}
 use native.Mathlib.Omega.{arith}
 use borrow.Author.Tests.{not-true, not-false}
 use Rattle.table.specs.Decoded.{nameOf}
-use Rattle.forms.specs.Forms.{space}
+use Rattle.grammar.specs.Forms.{space}
 use Rattle.forms.specs.Kinds.{wrapOf}
 use Rattle.forms.proofs.Rests.{asks-nothing, sign-within}
 use Rattle.forms.proofs.Wraps.{operator-wrapped, no-operand, no-space, no-list, no-end, wrap-line}

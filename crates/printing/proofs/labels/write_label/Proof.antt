@@ -3,7 +3,7 @@
 use mathlib.Core.Path.{refl}
 use native.Mathlib.Omega.{arith}
 use Rattle.meaning.specs.Bytes.{Text}
-use Rattle.printing.specs.Printed.{partsText, labelText}
+use Rattle.grammar.specs.Printed.{partsText, labelText}
 use Rattle.printing.specs.Areas.{wordsOf, countsOf}
 use Rattle.printing.proofs.Writing.{copied}
 use Rattle.printing.proofs.Tau.{parts-written, tau-written, parts-within, tau-length}

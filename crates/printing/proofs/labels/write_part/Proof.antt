@@ -5,7 +5,7 @@ use mathlib.Core.List.{[], _∷_, append-assoc}
 use native.Mathlib.Nat.{le-refl}
 use native.Mathlib.Omega.{arith}
 use Rattle.table.specs.Decoded.{nameOf}
-use Rattle.printing.specs.Printed.{decimal, partText}
+use Rattle.grammar.specs.Printed.{decimal, partText}
 use Rattle.printing.proofs.Writing.{Underway, first, step-byte, last, kept, room, lent-room, ends-within, same-size}
 use Rattle.printing.proofs.Parts.{length-part}
 use Rattle.printing.proofs.labels.write_part.Statement.{statement}

@@ -4,7 +4,7 @@
 use Prim.Native.Nat.{_-_, _≤_}
 use native.Mathlib.Nat.{le-refl}
 use native.Mathlib.Omega.{arith}
-use Rattle.printing.specs.Printed.{partsText}
+use Rattle.grammar.specs.Printed.{partsText}
 use Rattle.printing.specs.Areas.{wordsOf, countsOf}
 use Rattle.printing.proofs.Writing.{Underway, start, kept, room}
 use Rattle.printing.proofs.Parts.{onward, partsFrom, parts-start, parts-room, parts-again, parts-early, parts-end}

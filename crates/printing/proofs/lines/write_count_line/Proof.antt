@@ -4,7 +4,7 @@ use mathlib.Core.List.{[], _∷_, _++_}
 use native.Mathlib.Nat.{le-refl}
 use native.Mathlib.Omega.{arith}
 use Rattle.meaning.specs.Bytes.{Text}
-use Rattle.printing.specs.Printed.{decimal, line}
+use Rattle.grammar.specs.Printed.{decimal, line}
 use Rattle.printing.proofs.Writing.{Underway, copied, room, next-room}
 use Rattle.printing.proofs.Line.{length-line, keyed, Ended, ended}
 use Rattle.printing.proofs.lines.write_count_line.Statement.{statement}

@@ -6,7 +6,7 @@ use Prim.Native.Nat.{_+_}
 use native.Mathlib.Nat.{le-refl}
 use native.Mathlib.Omega.{arith}
 use lib.ListN.{length-append}
-use Rattle.printing.specs.Printed.{decimal, line}
+use Rattle.grammar.specs.Printed.{decimal, line}
 use Rattle.printing.specs.Steps.{headText}
 use Rattle.printing.proofs.Writing.{Underway, copied, first, back, step, last, kept, room, next-room, lent-room, ends-within}
 use borrow.Author.Needs.{needs}

@@ -5,7 +5,7 @@ use mathlib.Core.List.{[], _∷_, _++_}
 use native.Mathlib.Nat.{le-refl}
 use native.Mathlib.Omega.{arith}
 use Rattle.meaning.specs.Bytes.{Text, ascii}
-use Rattle.printing.specs.Printed.{labelText, line}
+use Rattle.grammar.specs.Printed.{labelText, line}
 use Rattle.printing.specs.Areas.{wordsOf, countsOf}
 use Rattle.printing.proofs.Writing.{Underway, copied, room, next-room}
 use Rattle.printing.proofs.Line.{keyed, Ended, ended}

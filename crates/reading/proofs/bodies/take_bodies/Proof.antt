@@ -6,7 +6,7 @@ use Prim.Native.Nat.{_-_}
 use native.Mathlib.Omega.{arith}
 use lib.ListN.{length, take, drop, length-set}
 use lib.Seq.{take-all}
-use Rattle.reading.specs.Reading.{takeBody, lines}
+use Rattle.grammar.specs.Reading.{takeBody, lines}
 use Rattle.reading.proofs.Walking.{Onto, lines-begin, lines-more, lines-halt, lines-done, gone-to, gone-spot, gone-bad, still-bad}
 use Rattle.reading.proofs.Taking.{body-to, body-bad}
 use Rattle.reading.proofs.bodies.take_bodies.Statement.{statement}

@@ -4,7 +4,7 @@ use mathlib.Core.Path.{_≡_, refl}
 use Prim.Native.Nat.{_-_, _≤_}
 use native.Mathlib.Omega.{arith}
 use lib.ListN.{length, take, drop}
-use Rattle.reading.specs.Reading.{firstLine}
+use Rattle.grammar.specs.Reading.{firstLine}
 use Rattle.reading.proofs.Ends.{withBytes, line-begins, line-more, line-found, line-missing}
 use Rattle.reading.proofs.lines.line_end.Statement.{statement}
 use Rattle.reading.proofs.lines.line_end.Tie as tie

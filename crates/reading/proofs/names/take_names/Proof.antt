@@ -7,7 +7,7 @@ use native.Mathlib.Omega.{arith}
 use lib.ListN.{length, getD, take, drop, length-set}
 use lib.Seq.{take-all, length-take-le}
 use Rattle.table.specs.Decoded.{nameOf}
-use Rattle.reading.specs.Reading.{takeName, lines}
+use Rattle.grammar.specs.Reading.{takeName, lines}
 use Rattle.reading.proofs.Walking.{Onto, lines-begin, lines-more, lines-halt, lines-done, gone-to, gone-spot, gone-bad, still-bad}
 use Rattle.reading.proofs.Taking.{places-more, set-fits}
 use Rattle.reading.proofs.names.take_names.Statement.{statement}

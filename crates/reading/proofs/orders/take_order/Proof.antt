@@ -7,7 +7,7 @@ use Prim.Native.Nat.{_-_}
 use native.Mathlib.Omega.{arith}
 use lib.ListN.{drop, take}
 use Rattle.table.specs.Decoded.{nameOf}
-use Rattle.forms.specs.Faults.{orderSaid}
+use Rattle.grammar.specs.Faults.{orderSaid}
 use Rattle.forms.specs.Orders.{OrderRead}
 use Rattle.forms.proofs.Rests.{asks-nothing}
 use Rattle.reading.proofs.Walking.{line-lacks, line-there, line-taken, next-spot}

@@ -8,7 +8,7 @@ use native.Mathlib.Omega.{arith}
 use lib.ListN.{drop, take}
 use Rattle.meaning.specs.Descriptions as D
 use Rattle.table.specs.Decoded.{nameOf}
-use Rattle.forms.specs.Faults.{termSaid}
+use Rattle.grammar.specs.Faults.{termSaid}
 use Rattle.reading.specs.Walks.{TermsBefore}
 use Rattle.forms.specs.Terms.{TermRead}
 use Rattle.forms.proofs.Rests.{asks-nothing}

@@ -9,7 +9,7 @@ use Rattle.meaning.specs.Descriptions as D
 use Rattle.table.specs.Decoded.{nameOf}
 use Rattle.table.specs.Encoded.{filled, slotsFrom, termsWords}
 use Rattle.table.proofs.Filled.{filled-length}
-use Rattle.reading.specs.Reading.{takeTerm, oneLine, lines}
+use Rattle.grammar.specs.Reading.{takeTerm, oneLine, lines}
 use Rattle.reading.specs.Walks.{TermTo, Termed}
 use Rattle.forms.proofs.Rests.{asks-nothing}
 use Rattle.reading.proofs.Walking.{Onto, lines-begin, lines-more, lines-halt, lines-done}

@@ -2,7 +2,6 @@
 -- Assumes nothing.
 use borrow.Author.Needs.{needs}
 use Rattle.forms.proofs.Rests.{asks-nothing}
-use Rattle.reading.proofs.Wholes.{fault-back}
 use Rattle.reading.proofs.whole.bad.Statement.{statement}
 use Rattle.reading.proofs.whole.bad.Tie as tie
 
@@ -16,7 +15,7 @@ returns : tie.Need-returns
 returns c = rw (c .before .enum-told .given .1) (c .refused .ensures)
 
 returns-2 : tie.Need-returns-2
-returns-2 c = rw (c .before .before .p .given .1, fault-back (c .before .before .p .given .0 .0)) (c .refused2 .ensures)
+returns-2 c = rw (c .before .before .p .given .1) (c .refused2 .ensures)
 
 pub bad-spec : {M : Type 1} → statement M
 bad-spec = tie.close (tie.spec enum-told asks-nothing enum-known-p asks-nothing returns returns-2)

@@ -10,7 +10,7 @@ use lib.Seq.{length-take-le}
 use Rattle.meaning.specs.Bytes.{ascii}
 use Rattle.meaning.specs.Answers.{form}
 use Rattle.table.proofs.Filled.{filled-replicate}
-use Rattle.reading.specs.Reading.{nameCount, equationCount, termCount, takeNumber, takeName, reached, oneLine, lines, wholeText}
+use Rattle.grammar.specs.Reading.{nameCount, equationCount, termCount, takeNumber, takeName, reached, oneLine, lines, wholeText}
 use Rattle.reading.specs.Walks.{between, NamesTo}
 use Rattle.forms.proofs.Rests.{asks-nothing}
 use Rattle.reading.proofs.Walking.{gone-to, gone-spot, gone-bad, gone-below}

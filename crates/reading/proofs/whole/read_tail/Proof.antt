@@ -10,7 +10,7 @@ use lib.Seq.{length-take-le}
 use Rattle.meaning.specs.Bytes.{ascii}
 use Rattle.meaning.specs.Descriptions.{Description}
 use Rattle.meaning.specs.Answers.{range}
-use Rattle.reading.specs.Reading.{takeNumber, takeOrder, reached, oneLine}
+use Rattle.grammar.specs.Reading.{takeNumber, takeOrder, reached, oneLine}
 use Rattle.reading.specs.Walks.{between, OrderTo, orderProgress}
 use Rattle.reading.specs.Stored.{Held}
 use Rattle.forms.proofs.Rests.{asks-nothing}

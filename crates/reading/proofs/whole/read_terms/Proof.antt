@@ -10,7 +10,7 @@ use lib.Seq.{length-take-le}
 use Rattle.table.specs.Decoded.{nameOf}
 use Rattle.table.specs.Encoded.{filled, termsWords}
 use Rattle.table.proofs.Filled.{filled-length, filled-replicate}
-use Rattle.reading.specs.Reading.{takeTerm, takeBody, lines}
+use Rattle.grammar.specs.Reading.{takeTerm, takeBody, lines}
 use Rattle.reading.specs.Walks.{Walks, TermsTo}
 use Rattle.reading.specs.Stored.{Held}
 use Rattle.forms.proofs.Rests.{asks-nothing}

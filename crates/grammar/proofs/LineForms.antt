@@ -7,11 +7,11 @@ use mathlib.Core.List.{[], _++_, append-nil}
 use Prim.Native.Nat.{ℕ}
 use lib.Dec.{T}
 use Rattle.meaning.specs.Bytes.{Text}
-use Rattle.forms.specs.Text.{Past, past, onward, ended, literal}
-use Rattle.forms.specs.Faults.{Found, fine, worse}
-use Rattle.reading.proofs.Findings.{IsFine, fine-worse}
-use Rattle.reading.proofs.Onwards.{When, when-past, when-weaken, onward→, onward←, ended→, ended←, literal→, literal←}
-use Rattle.reading.proofs.Writes.{Stops, Inline, inline?, inline-tested, inline-append, Writes}
+use Rattle.grammar.specs.Text.{Past, past, onward, ended, literal}
+use Rattle.grammar.specs.Faults.{Found, fine, worse}
+use Rattle.grammar.proofs.Findings.{IsFine, fine-worse}
+use Rattle.grammar.proofs.Onwards.{When, when-past, when-weaken, onward→, onward←, ended→, ended←, literal→, literal←}
+use Rattle.grammar.proofs.Writes.{Stops, Inline, inline?, inline-tested, inline-append, Writes}
 
 pub record ReadsLine {X Y Z : Type 0} (form : Text → Past X) (says : X → Z) (fault : X → Found) (build : Y → Z) (text : Y → Text) (y : Y) : Type 0 where
   pub value : X

@@ -7,10 +7,10 @@ use lib.Dec.{leb, ltb, eqb}
 use lib.ListN.{length}
 use Rattle.meaning.specs.Bytes.{Text, ascii}
 use Rattle.meaning.specs.Descriptions.{Term, Order, Description}
-use Rattle.meaning.specs.Answers.{Fault, form, name, range, Refusal, tooLong, inLine}
-use Rattle.forms.specs.Text.{Past, past, stuck, sameText}
-use Rattle.forms.specs.Forms.{lf, countLine, nameLine, termLine, orderLine}
-use Rattle.forms.specs.Faults.{Found, fine, fault, nameNumber, termSaid, termFault, orderSaid, orderFault}
+use Rattle.meaning.specs.Answers.{Fault, form, name, range}
+use Rattle.grammar.specs.Text.{Past, past, stuck, sameText}
+use Rattle.grammar.specs.Forms.{lf, countLine, nameLine, termLine, orderLine}
+use Rattle.grammar.specs.Faults.{Found, fine, fault, nameNumber, termSaid, termFault, orderSaid, orderFault}
 
 -- What a line makes of that which was read before it, or its fault. A line that has no form is 2, whatever else it is.
 pub data Taken (A : Type 0) : Type 0 where
@@ -74,22 +74,23 @@ unfoldable pub firstLine : Text → Cut
 firstLine [] = noLine
 firstLine (b ∷ s) = elim (eqb b lf) [ true ↦ cut [] s | false ↦ withByte b (firstLine s) ]
 
--- How far reading has come: what was read, the number of the next line and the text from there on; or a refusal.
+-- How far reading has come: what was read, the number of the next line and the text from there on; or the first bad line's fault
+-- and number.
 pub data Walk (A : Type 0) : Type 0 where
   reached : A → (line : ℕ) → Text → Walk A
-  halted : Refusal → Walk A
+  halted : Fault → (line : ℕ) → Walk A
 
 abbrev pub walk : {A B : Type 0} → Walk A → (A → ℕ → Text → Walk B) → Walk B
-walk (reached a line s) f = f a line s
-walk (halted r) f = halted r
+walk (reached a line s) g = g a line s
+walk (halted f line) g = halted f line
 
 abbrev pub afterLine : {A : Type 0} → ℕ → Taken A → Text → Walk A
 afterLine line (taken a) rest = reached a (suc line) rest
-afterLine line (faulty f) rest = halted (inLine f line)
+afterLine line (faulty f) rest = halted f line
 
 abbrev pub lineWalk : {A : Type 0} → (Text → Taken A) → ℕ → Cut → Walk A
 lineWalk take line (cut l rest) = afterLine line (take l) rest
-lineWalk take line noLine = halted (inLine form line)
+lineWalk take line noLine = halted form line
 
 abbrev pub oneLine : {A : Type 0} → (Text → Taken A) → ℕ → Text → Walk A
 oneLine take line s = lineWalk take line (firstLine s)
@@ -99,14 +100,16 @@ unfoldable pub lines : {A : Type 0} → (A → Text → Taken A) → ℕ → A �
 lines take zero a line s = reached a line s
 lines take (suc more) a line s = walk (oneLine (take a) line s) (lines take more)
 
+-- What a text comes to: a description with its order; over 8,192 bytes, which are not looked at; or its first bad line.
 pub data Reading : Type 0 where
   read : Description → Order → Reading
-  refused : Refusal → Reading
+  overlong : Reading
+  badLine : Fault → (line : ℕ) → Reading
 
 abbrev pub allRead : {A : Type 0} → (A → Reading) → Walk A → Reading
 allRead make (reached a line []) = make a
-allRead make (reached a line (b ∷ s)) = refused (inLine form line)
-allRead make (halted r) = refused r
+allRead make (reached a line (b ∷ s)) = badLine form line
+allRead make (halted f line) = badLine f line
 
 pub record Whole : Type 0 where
   pub given : Description
@@ -137,4 +140,4 @@ abbrev pub described : Walk Whole → Reading
 described = allRead (λ w. read (w .given) (w .order))
 
 unfoldable pub readText : Text → Reading
-readText text = elim (ltb 8192 (length text)) [ true ↦ refused tooLong | false ↦ described (wholeText text) ]
+readText text = elim (ltb 8192 (length text)) [ true ↦ overlong | false ↦ described (wholeText text) ]

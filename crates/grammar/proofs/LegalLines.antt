@@ -14,14 +14,14 @@ use Rattle.meaning.specs.Descriptions.{Term, act, tau, delta, ref, sum, cond, c
 use Rattle.meaning.specs.Legal.{Each, isMultiAction, MultiAction, LegalTwo, LegalTerm, LegalTerms}
 use Rattle.meaning.proofs.Tests.{and-left, and-right, and-both}
 use Rattle.meaning.proofs.Members.{in-append}
-use Rattle.forms.specs.Text.{sameText}
-use Rattle.forms.specs.Faults.{nameNumber, bothBelow, inRange, operandsFit}
-use Rattle.reading.specs.Reading.{isFree}
-use Rattle.reading.specs.Writing.{NameForm, Unreserved, Distinct, LegalWords}
-use Rattle.reading.proofs.Onwards.{same→, same-refl}
-use Rattle.reading.proofs.Atoms.{Small, known→in, in→known}
-use Rattle.reading.proofs.TermLines.{Sayable, SmallTwo}
-use Rattle.reading.proofs.Sections.{LegalAfter}
+use Rattle.grammar.specs.Text.{sameText}
+use Rattle.grammar.specs.Faults.{nameNumber, bothBelow, inRange, operandsFit}
+use Rattle.grammar.specs.Reading.{isFree}
+use Rattle.grammar.specs.Writing.{NameForm, Unreserved, Distinct, LegalWords}
+use Rattle.grammar.proofs.Onwards.{same→, same-refl}
+use Rattle.grammar.proofs.Atoms.{Small, known→in, in→known}
+use Rattle.grammar.proofs.TermLines.{Sayable, SmallTwo}
+use Rattle.grammar.proofs.Sections.{LegalAfter}
 
 -- A word after others.
 abbrev pub NewWord : List Text → Text → Type 0

@@ -4,7 +4,7 @@ use mathlib.Core.Logic.{_↔_, Iff·rfl}
 use mathlib.Core.Bool.{Bool, true, false}
 use lib.Dec.{T, leb}
 use Rattle.meaning.specs.Answers.{Fault, faultNumber}
-use Rattle.forms.specs.Faults.{Found, fine, fault, smaller, worse, unless}
+use Rattle.grammar.specs.Faults.{Found, fine, fault, smaller, worse, unless}
 
 abbrev pub IsFine : Found → Type 0
 IsFine fine = Unit {0}

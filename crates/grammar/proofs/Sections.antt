@@ -8,16 +8,16 @@ use native.Mathlib.Omega.{arith}
 use lib.Dec.{T, eqb, eqb→eq}
 use lib.ListN.{length}
 use Rattle.meaning.specs.Bytes.{Text}
-use Rattle.meaning.specs.Answers.{Fault, Refusal}
-use Rattle.forms.specs.Text.{Past, past, stuck}
-use Rattle.forms.specs.Forms.{lf}
-use Rattle.forms.specs.Faults.{Found, fine, fault, unless}
-use Rattle.reading.specs.Reading.{Taken, taken, faulty, takenIf, takenUnless, formed, Cut, cut, noLine, withByte, firstLine, Walk, reached, halted, walk, afterLine, lineWalk, oneLine, lines}
-use Rattle.reading.specs.Writing.{line, eachLine}
-use Rattle.reading.proofs.Findings.{IsFine, fine-unless}
-use Rattle.reading.proofs.Onwards.{fails, When}
-use Rattle.reading.proofs.Writes.{Inline}
-use Rattle.reading.proofs.LineForms.{Made, WritesLine, line-narrow}
+use Rattle.meaning.specs.Answers.{Fault}
+use Rattle.grammar.specs.Text.{Past, past, stuck}
+use Rattle.grammar.specs.Forms.{lf}
+use Rattle.grammar.specs.Faults.{Found, fine, fault, unless}
+use Rattle.grammar.specs.Reading.{Taken, taken, faulty, takenIf, takenUnless, formed, Cut, cut, noLine, withByte, firstLine, Walk, reached, halted, walk, afterLine, lineWalk, oneLine, lines}
+use Rattle.grammar.specs.Writing.{line, eachLine}
+use Rattle.grammar.proofs.Findings.{IsFine, fine-unless}
+use Rattle.grammar.proofs.Onwards.{fails, When}
+use Rattle.grammar.proofs.Writes.{Inline}
+use Rattle.grammar.proofs.LineForms.{Made, WritesLine, line-narrow}
 
 -- What is taken of a line.
 pub record Takes {Y B : Type 0} (take : Text → Taken B) (make : Y → B) (text : Y → Text) (Legal : Y → Type 0) : Type 0 where
@@ -98,7 +98,7 @@ pub record Reaches {A : Type 0} (m : Walk A) (a : A) (s : Text) : Type 0 where
   pub number : ℕ
   pub there : m ≡ reached a number s
 
-not-halted : {A : Type 0} {r : Refusal} {a : A} {s : Text} → Reaches (halted r) a s → ⊥
+not-halted : {A : Type 0} {f : Fault} {line : ℕ} {a : A} {s : Text} → Reaches (halted f line) a s → ⊥
 not-halted h = let e = h .there in let z : _≡_ {A = ℕ} 0 1 = cc in omega arith
 
 pub record Walked {A B : Type 0} (m : Walk A) (f : A → ℕ → Text → Walk B) (b : B) (s : Text) : Type 0 where
@@ -110,7 +110,7 @@ pub record Walked {A B : Type 0} (m : Walk A) (f : A → ℕ → Text → Walk B
 
 pub walk→ : {A B : Type 0} {b : B} {s : Text} (m : Walk A) (f : A → ℕ → Text → Walk B) → Reaches (walk m f) b s → Walked m f b s
 walk→ (reached a n t) f h = record { value = a; number = n; rest = t; first = record { number = n; there = refl }; second = h }
-walk→ (halted r) f h = absurd (not-halted h)
+walk→ (halted f n) g h = absurd (not-halted h)
 
 pub walk← : {A B : Type 0} {a : A} {b : B} {s t : Text} {m : Walk A} (f : A → ℕ → Text → Walk B) → Reaches m a t → ((n : ℕ) → Reaches (f a n t) b s) → Reaches (walk m f) b s
 walk← {a} {b} {s} {t} f h k = subst (λ w. Reaches (walk w f) b s) (sym (h .there)) (k (h .number))

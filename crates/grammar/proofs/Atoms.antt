@@ -13,13 +13,13 @@ use Rattle.meaning.specs.Sets.{_∈_}
 use Rattle.meaning.specs.Legal.{Each}
 use Rattle.meaning.specs.Answers.{name}
 use Rattle.meaning.proofs.Tests.{and-left, and-right, and-both, or-cases, or-left, decided-by}
-use Rattle.forms.specs.Text.{past, sameText, isDigit, isLower, secondDigit, number, wordOn, word}
-use Rattle.forms.specs.Forms.{lf}
-use Rattle.forms.specs.Faults.{Found, fine, nameNumber, nameFault}
-use Rattle.reading.specs.Writing.{numberText, nameText, inName, NameForm, Distinct, LegalWords}
-use Rattle.reading.proofs.Findings.{IsFine, fine-unless}
-use Rattle.reading.proofs.Onwards.{passes, fails, same→, same-refl, When, when-past, when-stuck, when-branch, onward→, onward←}
-use Rattle.reading.proofs.Writes.{neither, Stops, Inline, Writes, writes-as}
+use Rattle.grammar.specs.Text.{past, sameText, isDigit, isLower, secondDigit, number, wordOn, word}
+use Rattle.grammar.specs.Forms.{lf}
+use Rattle.grammar.specs.Faults.{Found, fine, nameNumber, nameFault}
+use Rattle.grammar.specs.Writing.{numberText, nameText, inName, NameForm, Distinct, LegalWords}
+use Rattle.grammar.proofs.Findings.{IsFine, fine-unless}
+use Rattle.grammar.proofs.Onwards.{passes, fails, same→, same-refl, When, when-past, when-stuck, when-branch, onward→, onward←}
+use Rattle.grammar.proofs.Writes.{neither, Stops, Inline, Writes, writes-as}
 
 abbrev pub faultless : {A : Type 0} → A → Found
 faultless a = fine

@@ -15,9 +15,9 @@ use Rattle.meaning.specs.Sets.{Above, Rising}
 use Rattle.meaning.specs.Legal.{Each, LegalLabel}
 use Rattle.meaning.proofs.Tests.{decided-by}
 use Rattle.meaning.proofs.Bags.{count-plus, length-plus, length-several, size-plus, size-empty}
-use Rattle.reading.specs.Writing.{Entry, entriesFrom}
-use Rattle.reading.proofs.Onwards.{passes, fails}
-use Rattle.reading.proofs.Writes.{each-weaken}
+use Rattle.grammar.specs.Writing.{Entry, entriesFrom}
+use Rattle.grammar.proofs.Onwards.{passes, fails}
+use Rattle.grammar.proofs.Writes.{each-weaken}
 
 -- Entries added up, and how many actions they hold.
 unfoldable pub added : ℕ → List Entry → Label

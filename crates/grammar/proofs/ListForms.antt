@@ -17,15 +17,15 @@ use Rattle.meaning.specs.Legal.{LegalLabel, LegalNames, LegalPair, LegalPairs, 
 use Rattle.meaning.specs.Answers.{name, amount}
 use Rattle.meaning.proofs.Tests.{and-left, and-right, and-both}
 use Rattle.meaning.proofs.Bags.{size-plus, size-empty}
-use Rattle.forms.specs.Text.{past, sameText, isDigit, isLower, literal, number, word, wordOn, separatedOn, separated}
-use Rattle.forms.specs.Forms.{Part, Parts, comma, dot, colon, greater, part, label, wordList, pair, rule, labelList}
-use Rattle.forms.specs.Faults.{worse, unless, worst, above, rising, nameNumber, nameFault, labelSaid, actions, partFault, labelFault, wordsFault, pairFault, pairsFault, ruleFault, rulesFault, labelsFault, pairSaid, ruleSaid, numberSaid}
-use Rattle.reading.specs.Writing.{numberText, nameText, joined, Entry, entriesFrom, entryText, labelText, pairText, ruleText, listText, labelsText, inName, LegalWords}
-use Rattle.reading.proofs.Findings.{IsFine, fine-worse, fine-unless}
-use Rattle.reading.proofs.Onwards.{same→, differs, when-past, when-weaken, when-branch}
-use Rattle.reading.proofs.Writes.{each-weaken, inline-tested, Reads, Writes, writes-as, writes-narrow, writes-pair, writes-several}
-use Rattle.reading.proofs.Atoms.{known-says, itself, faultless, Small, writes-number, writes-name}
-use Rattle.reading.proofs.Entries.{added, total, size-known, LegalEntry, LegalEntries, added-legal, entries-legal}
+use Rattle.grammar.specs.Text.{past, sameText, isDigit, isLower, literal, number, word, wordOn, separatedOn, separated}
+use Rattle.grammar.specs.Forms.{Part, Parts, comma, dot, colon, greater, part, label, wordList, pair, rule, labelList}
+use Rattle.grammar.specs.Faults.{worse, unless, worst, above, rising, nameNumber, nameFault, labelSaid, actions, partFault, labelFault, wordsFault, pairFault, pairsFault, ruleFault, rulesFault, labelsFault, pairSaid, ruleSaid, numberSaid}
+use Rattle.grammar.specs.Writing.{numberText, nameText, joined, Entry, entriesFrom, entryText, labelText, pairText, ruleText, listText, labelsText, inName, LegalWords}
+use Rattle.grammar.proofs.Findings.{IsFine, fine-worse, fine-unless}
+use Rattle.grammar.proofs.Onwards.{same→, differs, when-past, when-weaken, when-branch}
+use Rattle.grammar.proofs.Writes.{each-weaken, inline-tested, Reads, Writes, writes-as, writes-narrow, writes-pair, writes-several}
+use Rattle.grammar.proofs.Atoms.{known-says, itself, faultless, Small, writes-number, writes-name}
+use Rattle.grammar.proofs.Entries.{added, total, size-known, LegalEntry, LegalEntries, added-legal, entries-legal}
 
 -- Lists in order and within their maximum.
 rising-says : (ns : List ℕ) → T (rising ns) ↔ Rising ns

@@ -10,11 +10,11 @@ use Rattle.meaning.specs.Bytes.{Text, ascii}
 use Rattle.meaning.specs.Labels.{plus}
 use Rattle.meaning.specs.Sets.{_∈_}
 use Rattle.meaning.specs.Descriptions.{Description, act, ref, seq, merge, comm, wrap, all}
-use Rattle.meaning.specs.Answers.{form, name, range, amount, operand, tooLong, inLine}
-use Rattle.forms.specs.Text.{sameText, ended, literal, isDigit, isLower, secondDigit, number, wordOn, word, separatedOn}
-use Rattle.forms.specs.Forms.{part, pair, rule, labelList, alone, ofName, ofOne, ofTwo, ofList, kinds, ofKind, countLine, nameLine, termLine, orderLine}
-use Rattle.forms.specs.Faults.{worst, rising, nameNumber, nameFault, labelSaid, actions, labelFault, wordsFault, pairsFault, rulesFault, labelsFault, wordsOfFault, termFault, orderFault}
-use Rattle.reading.specs.Reading.{Reading, read, refused, takeNumber, isFree, takeName, takeTerm, takeBody, takeOrder, firstLine, lines, wholeText, readText}
+use Rattle.meaning.specs.Answers.{form, name, range, amount, operand}
+use Rattle.grammar.specs.Text.{sameText, ended, literal, isDigit, isLower, secondDigit, number, wordOn, word, separatedOn}
+use Rattle.grammar.specs.Forms.{part, pair, rule, labelList, alone, ofName, ofOne, ofTwo, ofList, kinds, ofKind, countLine, nameLine, termLine, orderLine}
+use Rattle.grammar.specs.Faults.{worst, rising, nameNumber, nameFault, labelSaid, actions, labelFault, wordsFault, pairsFault, rulesFault, labelsFault, wordsOfFault, termFault, orderFault}
+use Rattle.grammar.specs.Reading.{Reading, read, overlong, badLine, takeNumber, isFree, takeName, takeTerm, takeBody, takeOrder, firstLine, lines, wholeText, readText}
 
 -- lines, each ended by LF
 abbrev pub text : List String → Text
@@ -54,18 +54,18 @@ case t r = record { given = text t; reading = r }
 abbrev pub table : List Case
 table =
     case listing (read stripe all)
-    ∷ record { given = replicate 8193 10; reading = refused tooLong }
-    ∷ record { given = replicate 8192 10; reading = refused (inLine form 1) }
-    ∷ case [] (refused (inLine form 1))
-    ∷ case (tenth "term=comm 3 done:2>close,") (refused (inLine form 10))
-    ∷ case (tenth "term=comm 3 done:02>close") (refused (inLine form 10))
-    ∷ case (tenth "term=block 99 zz") (refused (inLine name 10))
-    ∷ case (tenth "term=sync 1 99") (refused (inLine range 10))
-    ∷ case (tenth "term=comm 3 done:1>close") (refused (inLine amount 10))
-    ∷ case (tenth "term=block 3 done,done") (refused (inLine amount 10))
-    ∷ case (tenth "term=sync 0 1") (refused (inLine operand 10))
-    ∷ case ("names=1" ∷ "name=a" ∷ "equations=0" ∷ "terms=2" ∷ "term=delta" ∷ "term=sync 0 0" ∷ []) (refused (inLine operand 6))
-    ∷ case (listing ++ ("x" ∷ [])) (refused (inLine form 14))
+    ∷ record { given = replicate 8193 10; reading = overlong }
+    ∷ record { given = replicate 8192 10; reading = badLine form 1 }
+    ∷ case [] (badLine form 1)
+    ∷ case (tenth "term=comm 3 done:2>close,") (badLine form 10)
+    ∷ case (tenth "term=comm 3 done:02>close") (badLine form 10)
+    ∷ case (tenth "term=block 99 zz") (badLine name 10)
+    ∷ case (tenth "term=sync 1 99") (badLine range 10)
+    ∷ case (tenth "term=comm 3 done:1>close") (badLine amount 10)
+    ∷ case (tenth "term=block 3 done,done") (badLine amount 10)
+    ∷ case (tenth "term=sync 0 1") (badLine operand 10)
+    ∷ case ("names=1" ∷ "name=a" ∷ "equations=0" ∷ "terms=2" ∷ "term=delta" ∷ "term=sync 0 0" ∷ []) (badLine operand 6)
+    ∷ case (listing ++ ("x" ∷ [])) (badLine form 14)
     ∷ []
 
 abbrev Holds : Case → Type 0

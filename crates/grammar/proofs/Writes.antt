@@ -12,12 +12,12 @@ use lib.ListN.{length, length-append, length-map}
 use Rattle.meaning.specs.Bytes.{Text}
 use Rattle.meaning.specs.Legal.{Each}
 use Rattle.meaning.proofs.Tests.{and-left, and-right}
-use Rattle.forms.specs.Text.{Past, past, onward, byte, starts, separatedOn, separated}
-use Rattle.forms.specs.Forms.{lf}
-use Rattle.forms.specs.Faults.{Found, fine, worse, worst}
-use Rattle.reading.specs.Writing.{followed, joined}
-use Rattle.reading.proofs.Findings.{IsFine, fine-worse}
-use Rattle.reading.proofs.Onwards.{passes, fails, When, when-past, when-stuck, when-weaken, when-branch, onward→, onward←, literal→, literal←}
+use Rattle.grammar.specs.Text.{Past, past, onward, byte, starts, separatedOn, separated}
+use Rattle.grammar.specs.Forms.{lf}
+use Rattle.grammar.specs.Faults.{Found, fine, worse, worst}
+use Rattle.grammar.specs.Writing.{followed, joined}
+use Rattle.grammar.proofs.Findings.{IsFine, fine-worse}
+use Rattle.grammar.proofs.Onwards.{passes, fails, When, when-past, when-stuck, when-weaken, when-branch, onward→, onward←, literal→, literal←}
 
 -- A text that does not go on with such a byte, and a text within a line.
 abbrev pub Stops : (ℕ → Bool) → Text → Type 0

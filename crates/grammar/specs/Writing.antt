@@ -12,8 +12,8 @@ use Rattle.meaning.specs.Labels.{Label}
 use Rattle.meaning.specs.Sets.{_∈_}
 use Rattle.meaning.specs.Descriptions.{Pair, Rule, Operator, block, hide, rename, comm, allow, Term, act, tau, delta, ref, sum, cond, choice, ifelse, seq, merge, lmerge, sync, wrap, Order, all, only, Description, names, termCount, equations}
 use Rattle.meaning.specs.Legal.{Each}
-use Rattle.forms.specs.Text.{isDigit, isLower}
-use Rattle.forms.specs.Forms.{lf, space, comma, dot, colon, greater}
+use Rattle.grammar.specs.Text.{isDigit, isLower}
+use Rattle.grammar.specs.Forms.{lf, space, comma, dot, colon, greater}
 
 -- A number below 100, and a name by its word.
 unfoldable pub numberText : ℕ → Text

@@ -12,8 +12,8 @@ use Rattle.meaning.specs.Descriptions as D
 use Rattle.meaning.specs.Descriptions.{Term, act, tau, delta, ref, sum, cond, choice, ifelse, seq, merge, lmerge, sync, wrap, Operator, Order}
 use Rattle.meaning.specs.Legal.{isMultiAction}
 use Rattle.meaning.specs.Answers.{Fault, name, range, amount, operand, faultNumber}
-use Rattle.forms.specs.Text.{sameText}
-use Rattle.forms.specs.Forms.{Part, Parts, WordPair, WordRule, Listed, block, hide, rename, comm, allow, Line, plain, acts, wraps, OrderLine, all, only}
+use Rattle.grammar.specs.Text.{sameText}
+use Rattle.grammar.specs.Forms.{Part, Parts, WordPair, WordRule, Listed, block, hide, rename, comm, allow, Line, plain, acts, wraps, OrderLine, all, only}
 
 -- No fault, or one; of two the smaller number stays.
 pub data Found : Type 0 where

@@ -13,17 +13,17 @@ use Rattle.meaning.specs.Descriptions as D
 use Rattle.meaning.specs.Descriptions.{Operator, block, hide, rename, comm, allow, Term, act, tau, delta, ref, sum, cond, choice, ifelse, seq, merge, lmerge, sync, wrap, Order}
 use Rattle.meaning.specs.Legal.{LegalLabels, LegalOperator, LegalOrder}
 use Rattle.meaning.proofs.Tests.{and-left, and-right}
-use Rattle.forms.specs.Text.{Past, past, stuck, onward, sameText, ended, literal, word, wordOn, separatedOn, isLower, isDigit}
-use Rattle.forms.specs.Forms as F
-use Rattle.forms.specs.Forms.{space, Listed, Line, plain, acts, wraps, OrderLine, part, Kind, kinds, labelList, alone, ofName, ofOne, ofTwo, ofList, farther, ofKind, termLine, orderLine}
-use Rattle.forms.specs.Faults.{Found, termSaid, wordsOfFault, operatorSaid, listFault, orderSaid, orderFault}
-use Rattle.reading.specs.Writing.{numberText, nameText, labelsText, after, two, withList, termText, orderText, LegalWords}
-use Rattle.reading.proofs.Findings.{IsFine}
-use Rattle.reading.proofs.Onwards.{same→, differs, When, when-past, when-stuck, when-weaken, when-branch, onward→, onward←, ended→, ended←, literal→, literal←}
-use Rattle.reading.proofs.Writes.{Inline, inline?, inline-tested, inline-append, Writes}
-use Rattle.reading.proofs.Atoms.{Small, writes-number, writes-name}
-use Rattle.reading.proofs.ListForms.{writes-names, writes-pairs, writes-rules, writes-labels}
-use Rattle.reading.proofs.LineForms.{ReadsLine, Made, WritesLine, line-ended, line-after, line-first}
+use Rattle.grammar.specs.Text.{Past, past, stuck, onward, sameText, ended, literal, word, wordOn, separatedOn, isLower, isDigit}
+use Rattle.grammar.specs.Forms as F
+use Rattle.grammar.specs.Forms.{space, Listed, Line, plain, acts, wraps, OrderLine, part, Kind, kinds, labelList, alone, ofName, ofOne, ofTwo, ofList, farther, ofKind, termLine, orderLine}
+use Rattle.grammar.specs.Faults.{Found, termSaid, wordsOfFault, operatorSaid, listFault, orderSaid, orderFault}
+use Rattle.grammar.specs.Writing.{numberText, nameText, labelsText, after, two, withList, termText, orderText, LegalWords}
+use Rattle.grammar.proofs.Findings.{IsFine}
+use Rattle.grammar.proofs.Onwards.{same→, differs, When, when-past, when-stuck, when-weaken, when-branch, onward→, onward←, ended→, ended←, literal→, literal←}
+use Rattle.grammar.proofs.Writes.{Inline, inline?, inline-tested, inline-append, Writes}
+use Rattle.grammar.proofs.Atoms.{Small, writes-number, writes-name}
+use Rattle.grammar.proofs.ListForms.{writes-names, writes-pairs, writes-rules, writes-labels}
+use Rattle.grammar.proofs.LineForms.{ReadsLine, Made, WritesLine, line-ended, line-after, line-first}
 
 -- What a term line may say: numbers of at most two digits, known names and legal lists.
 abbrev pub SmallTwo : ℕ → ℕ → Type 0

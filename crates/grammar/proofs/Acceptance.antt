@@ -13,20 +13,20 @@ use Rattle.meaning.specs.Bytes.{Text, ascii}
 use Rattle.meaning.specs.Descriptions.{Term, Order, Description, names, equations}
 use Rattle.meaning.specs.Descriptions as D
 use Rattle.meaning.specs.Legal.{LegalOrder, Legal}
-use Rattle.meaning.specs.Answers.{Fault, Refusal, form, name, range, operand, tooLong}
+use Rattle.meaning.specs.Answers.{Fault, form, name, range, operand}
 use Rattle.meaning.proofs.Tests.{and-left, and-right, and-both}
-use Rattle.forms.specs.Forms.{countLine, nameLine}
-use Rattle.forms.specs.Faults.{worse, unless, inRange, operandsFit, termSaid, termFault}
-use Rattle.reading.specs.Reading.{takeNumber, nameCount, equationCount, termCount, isFree, takeName, takeTerm, takeBody, takeOrder, Walk, reached, halted, Reading, read, refused, allRead, Whole, wholeText, readText}
-use Rattle.reading.specs.Writing.{numberText, termText, orderText, written, LegalWords}
-use Rattle.reading.proofs.Findings.{fine-tests}
-use Rattle.reading.proofs.Onwards.{fails}
-use Rattle.reading.proofs.Writes.{inline?}
-use Rattle.reading.proofs.Atoms.{itself, faultless, Small, writes-number, writes-word}
-use Rattle.reading.proofs.LineForms.{WritesLine, line-ended, line-after, line-narrow}
-use Rattle.reading.proofs.TermLines.{writes-term, writes-order}
-use Rattle.reading.proofs.Sections.{Takes, takes, takes-if, Reaches, walk←, one-line←, LegalAfter, lines←, Ends, ends-reached, ends-walk, ends-line, ends-section}
-use Rattle.reading.proofs.LegalLines.{NewWord, NewBody, NewTerm, legal-words, legal-bodies, legal-terms}
+use Rattle.grammar.specs.Forms.{countLine, nameLine}
+use Rattle.grammar.specs.Faults.{worse, unless, inRange, operandsFit, termSaid, termFault}
+use Rattle.grammar.specs.Reading.{takeNumber, nameCount, equationCount, termCount, isFree, takeName, takeTerm, takeBody, takeOrder, Walk, reached, halted, Reading, read, overlong, badLine, allRead, Whole, wholeText, readText}
+use Rattle.grammar.specs.Writing.{numberText, termText, orderText, written, LegalWords}
+use Rattle.grammar.proofs.Findings.{fine-tests}
+use Rattle.grammar.proofs.Onwards.{fails}
+use Rattle.grammar.proofs.Writes.{inline?}
+use Rattle.grammar.proofs.Atoms.{itself, faultless, Small, writes-number, writes-word}
+use Rattle.grammar.proofs.LineForms.{WritesLine, line-ended, line-after, line-narrow}
+use Rattle.grammar.proofs.TermLines.{writes-term, writes-order}
+use Rattle.grammar.proofs.Sections.{Takes, takes, takes-if, Reaches, walk←, one-line←, LegalAfter, lines←, Ends, ends-reached, ends-walk, ends-line, ends-section}
+use Rattle.grammar.proofs.LegalLines.{NewWord, NewBody, NewTerm, legal-words, legal-bodies, legal-terms}
 
 -- The lines.
 writes-count : (key : Text) → T (inline? key) → WritesLine (countLine key) itself faultless itself (λ n. key ++ numberText n) Small
@@ -120,15 +120,18 @@ whole← d o legal good =
     walk← _ (one-line← (takes-order (d .words) good) l₇ o [] (legal .order)) (λ l₈. record { number = l₈; there = refl }))))))))
 
 -- The text as it is read: not too long, and nothing behind its last line.
-refused≢read : {r : Refusal} {d : Description} {o : Order} → refused r ≡ read d o → ⊥
-refused≢read e = let z : _≡_ {A = ℕ} 0 1 = cc in omega arith
+bad≢read : {f : Fault} {line : ℕ} {d : Description} {o : Order} → badLine f line ≡ read d o → ⊥
+bad≢read e = let z : _≡_ {A = ℕ} 0 1 = cc in omega arith
+
+overlong≢read : {d : Description} {o : Order} → overlong ≡ read d o → ⊥
+overlong≢read e = let z : _≡_ {A = ℕ} 0 1 = cc in omega arith
 
 all-read→ : {d : Description} {o : Order} {t : Text} (m : Walk Whole) → Ends m (λ w r. r ≡ [] → Accepted (w .given) (w .order) t) → allRead (λ w. read (w .given) (w .order)) m ≡ read d o → Accepted d o t
 all-read→ {t} (reached w n []) h e =
     let k = h .holds w [] (record { number = n; there = refl }) refl in
     subst₂ (λ d o. Accepted d o t) (cc) (cc) k
-all-read→ (reached w n (b ∷ s)) h e = absurd (refused≢read e)
-all-read→ (halted r) h e = absurd (refused≢read e)
+all-read→ (reached w n (b ∷ s)) h e = absurd (bad≢read e)
+all-read→ (halted f n) h e = absurd (bad≢read e)
 
 -- A text that is accepted is the writing of the legal description that is returned, and has at most 8,192 bytes.
 pub accepted→ : (t : Text) (d : Description) (o : Order) → readText t ≡ read d o → (t ≡ written d o) × Legal d o × LegalWords (d .words) × (length t ≤ 8192)
@@ -136,9 +139,9 @@ unfolding readText
 accepted→ t d o e = go (ltb 8192 (length t)) (nltb→le 8192 (length t)) e
   where
     go : (long : Bool) → (T (not long) → length t ≤ 8192)
-        → (elim long as (λ _. Reading) [ true ↦ refused tooLong | false ↦ allRead (λ w. read (w .given) (w .order)) (wholeText t) ]) ≡ read d o
+        → (elim long as (λ _. Reading) [ true ↦ overlong | false ↦ allRead (λ w. read (w .given) (w .order)) (wholeText t) ]) ≡ read d o
         → (t ≡ written d o) × Legal d o × LegalWords (d .words) × (length t ≤ 8192)
-    go true short e = absurd (refused≢read e)
+    go true short e = absurd (overlong≢read e)
     go false short e = let k = all-read→ (wholeText t) (whole→ t) e in (k .writes, k .legal, k .words, short tt)
 
 -- The writing of a legal description is accepted, if it has at most 8,192 bytes, and that description is returned.

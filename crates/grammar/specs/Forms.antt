@@ -8,7 +8,7 @@ use lib.Dec.{ltb}
 use lib.ListN.{length}
 use Rattle.meaning.specs.Descriptions.{Term, tau, delta, ref, sum, cond, choice, ifelse, seq, merge, lmerge, sync}
 use Rattle.meaning.specs.Bytes.{Text, ascii}
-use Rattle.forms.specs.Text.{Past, past, stuck, onward, sameText, ended, literal, byte, number, word, separated}
+use Rattle.grammar.specs.Text.{Past, past, stuck, onward, sameText, ended, literal, byte, number, word, separated}
 
 -- the signs: LF, space, comma, dot, colon and greater-than
 abbrev pub lf : ℕ

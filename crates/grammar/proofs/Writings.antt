@@ -6,10 +6,10 @@ use Prim.Native.String.{String}
 use lib.Dec.{T}
 use Rattle.meaning.specs.Bytes.{ascii}
 use Rattle.meaning.specs.Descriptions.{act, tau, delta, ref, choice, seq, merge, sync, wrap, block, hide, rename, comm, allow, Order, all, only, Description}
-use Rattle.forms.specs.Text.{sameText}
-use Rattle.reading.proofs.Texts as Texts
-use Rattle.reading.proofs.Texts.{text}
-use Rattle.reading.specs.Writing.{numberText, followed, joined, entriesFrom, eachLine, written}
+use Rattle.grammar.specs.Text.{sameText}
+use Rattle.grammar.proofs.Texts as Texts
+use Rattle.grammar.proofs.Texts.{text}
+use Rattle.grammar.specs.Writing.{numberText, followed, joined, entriesFrom, eachLine, written}
 
 -- A description with its order, and the lines that it is written in.
 record Case : Type 0 where

@@ -8,7 +8,7 @@ use native.Mathlib.Omega.{arith}
 use lib.Dec.{T, eqb, eqb→eq, eqb-refl, not-T}
 use Rattle.meaning.specs.Bytes.{Text}
 use Rattle.meaning.proofs.Tests.{and-left, and-right, and-both}
-use Rattle.forms.specs.Text.{Past, past, stuck, onward, sameText, ended, literal}
+use Rattle.grammar.specs.Text.{Past, past, stuck, onward, sameText, ended, literal}
 
 -- Tests.
 pub passes : (b : Bool) → T b → b ≡ true

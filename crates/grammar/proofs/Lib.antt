@@ -1,0 +1,15 @@
+-- The computed cases, then the theorems; each file after those that it cites.
+pub mod Cases
+pub mod Texts
+pub mod Writings
+pub mod Findings
+pub mod Onwards
+pub mod Writes
+pub mod Atoms
+pub mod Entries
+pub mod ListForms
+pub mod LineForms
+pub mod TermLines
+pub mod Sections
+pub mod LegalLines
+pub mod Acceptance
