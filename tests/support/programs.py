@@ -1,7 +1,7 @@
 """Building and running the reference and the generator.
 
-All that is built or generated goes below target/tests at the top of the
-repository, a folder that tells git to ignore it.
+All that is built or generated goes below target-tests at the top of the
+repository, which git ignores: the gate empties target/ before it proves.
 """
 
 import os
@@ -11,7 +11,7 @@ import sys
 
 TESTS = pathlib.Path(__file__).resolve().parent.parent
 TOP = TESTS.parent
-OUTPUT = TOP / "target" / "tests"
+OUTPUT = TOP / "target-tests"
 CARGO_OUTPUT = OUTPUT / "cargo"
 
 
@@ -28,10 +28,9 @@ def stop_on_failure(main):
 
 
 def output_folder(*parts):
-    """A folder below target/tests, made when it is not there."""
+    """A folder below target-tests, made when it is not there."""
     folder = OUTPUT.joinpath(*parts)
     folder.mkdir(parents=True, exist_ok=True)
-    (OUTPUT / ".gitignore").write_text("*\n")
     return folder
 
 

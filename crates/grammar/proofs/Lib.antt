@@ -8,6 +8,7 @@ pub mod Writes
 pub mod Atoms
 pub mod Entries
 pub mod ListForms
+pub mod Lengths
 pub mod LineForms
 pub mod TermLines
 pub mod Sections

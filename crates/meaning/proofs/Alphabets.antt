@@ -1,11 +1,11 @@
 -- P1 to P8 of document 01, as one table of cases that the checker computes over the definitions: each description is legal,
--- and its answer has the round count and the labels that the row gives. The last row is no P of document 01: an allow list and
--- an order that list nothing both leave tau.
+-- and its answer has the round count and the labels that the row gives. The last rows are no P of document 01: an allow list and
+-- an order that list nothing both leave tau; and `order=all` widened to an order that names every label of one name.
 -- Assumes nothing.
 use mathlib.Core.Logic.{Dec·and}
 use mathlib.Core.Bool.{Bool, true, false, _&&_}
-use mathlib.Core.List.{List, [], _∷_}
-use Prim.Native.Nat.{ℕ}
+use mathlib.Core.List.{List, [], _∷_, _++_}
+use Prim.Native.Nat.{ℕ, zero, suc}
 use native.Mathlib.Decide.{decLe, decLt, ℕ-discrete}
 use lib.Dec.{T, eqb}
 use Rattle.meaning.specs.Bytes.{Text, ascii}
@@ -75,6 +75,14 @@ synced = described (act 0 ∷ tau ∷ sync 0 1 ∷ []) [] 2
 abbrev allowedTau : Description
 allowedTau = described (act 0 ∷ sync 0 0 ∷ wrap (hide (0 ∷ [])) 1 ∷ wrap (allow []) 2 ∷ []) [] 3
 
+-- one name, an order of all its labels up to so many actions
+abbrev pub single : Description
+single = record { words = ascii "a" ∷ []; terms = act 0 ∷ []; bodies = []; root = 0 }
+
+unfoldable pub upTo : ℕ → List Label
+upTo zero = []
+upTo (suc n) = upTo n ++ ((suc n ∷ []) ∷ [])
+
 abbrev pub table : List Case
 table =
     case stripe all 2 ((1 ∷ 0 ∷ []) ∷ (2 ∷ 0 ∷ []) ∷ (0 ∷ 1 ∷ []) ∷ [])
@@ -87,6 +95,8 @@ table =
     ∷ case hidden all 1 (abcde 0 0 0 0 0 ∷ [])
     ∷ case synced all 1 (abcde 1 0 0 0 0 ∷ [])
     ∷ case allowedTau (only []) 1 (abcde 0 0 0 0 0 ∷ [])
+    ∷ case single all 1 ((1 ∷ []) ∷ [])
+    ∷ case single (only (upTo 31)) 1 ((1 ∷ []) ∷ [])
     ∷ []
 
 unfoldable pub says : ℕ → List Label → Outcome → Bool
@@ -101,5 +111,5 @@ all-hold [] = true
 all-hold (c ∷ cs) = holds c && all-hold cs
 
 pub computed : T (all-hold table)
-unfolding all-hold holds says legalTest legal? decLe decLt ℕ-discrete Dec·and answer answerFrom cut sameLabels sameSets over total someOver someLong roundSets next worked communicated applied allowed target product spread ascending insert member order renamedFrom without clear minus inside plus isTau number size
+unfolding all-hold holds says upTo legalTest legal? decLe decLt ℕ-discrete Dec·and answer answerFrom cut sameLabels sameSets over total someOver someLong roundSets next worked communicated applied allowed target product spread ascending insert member order renamedFrom without clear minus inside plus isTau number size
 computed = tt

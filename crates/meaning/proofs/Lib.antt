@@ -21,4 +21,5 @@ pub mod Answers
 pub mod Outcomes
 pub mod Listings
 pub mod Widening
+pub mod WideningCases
 pub mod Examples

@@ -1,6 +1,6 @@
--- What an answer lists: labels with a count for each name and at most 31 actions, at most 1,024 of them.
+-- What sets within the limits hold, and an answer lists: labels with a count for each name and at most 31 actions; at most 1,024 are listed.
 -- Assumes nothing.
-use mathlib.Core.Path.{_≡_, ap}
+use mathlib.Core.Path.{ap}
 use mathlib.Core.Bool.{Bool, true, false}
 use mathlib.Core.Logic.{inl, inr}
 use mathlib.Core.List.{List, [], _∷_}
@@ -12,21 +12,21 @@ use lib.ListN.{length, length-append}
 use Rattle.meaning.specs.Labels.{Label, size}
 use Rattle.meaning.specs.Sets.{_∈_, at, spread, kept, keep}
 use Rattle.meaning.specs.Descriptions.{Order, Description, names}
-use Rattle.meaning.specs.Rounds.{roundSets}
-use Rattle.meaning.specs.Limits.{someOver, over}
+use Rattle.meaning.specs.Rounds.{roundSets, InSet}
+use Rattle.meaning.specs.Limits.{someOver, PassesLimit}
 use Rattle.meaning.specs.Answers.{Outcome, tooLarge, listed, Lists, cut, admits}
+use Rattle.meaning.specs.Widening.{Listable}
 use Rattle.meaning.proofs.Lengths.{round-full}
 use Rattle.meaning.proofs.Limits.{over-one, over-some, round-passes}
 use Rattle.meaning.proofs.Answers.{no-long, lists, answers-unique}
 
-module _ (d : Description) (o : Order) (k : ℕ) (ls : List Label) (l : Lists d o k ls) where
-  fits : (j : ℕ) → T (over (roundSets d j)) → ⊥
-  fits j t = l .within (round-passes d j t)
+pub set-held : (d : Description) → (PassesLimit d → ⊥) → (t : ℕ) (a : Label) → InSet d t a → Listable (names d) a
+set-held d within t a x =
+    let sets = roundSets d (x .round) in
+    (round-full d (x .round) t a (x .there), no-long sets (λ over. within (round-passes d (x .round) (over-some sets over))) t a (x .there))
 
-  pub listed-held : (a : Label) → a ∈ ls → (length a ≡ names d) × (size a ≤ 31)
-  listed-held a m =
-      let x = l .exactly a .0 m .0 in
-      (round-full d (x .round) (d .root) a (x .there), no-long (roundSets d (x .round)) (λ t. fits (x .round) (over-some (roundSets d (x .round)) t)) (d .root) a (x .there))
+pub listed-held : (d : Description) (o : Order) (k : ℕ) (ls : List Label) → Lists d o k ls → (a : Label) → a ∈ ls → Listable (names d) a
+listed-held d o k ls l a m = set-held d (l .within) (d .root) a (l .exactly a .0 m .0)
 
 short-kept : (b : Bool) (a : Label) → length (kept b a) ≤ 1
 short-kept true a = omega arith

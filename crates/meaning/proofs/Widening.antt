@@ -22,6 +22,7 @@ use Rattle.meaning.proofs.Made.{Grown, alike, filled, fuller}
 use Rattle.meaning.proofs.Growth.{Wide, rounds-widen}
 use Rattle.meaning.proofs.Operators.{allowed→, →allowed}
 use Rattle.meaning.proofs.Answers.{answer-right}
+use Rattle.meaning.proofs.Listings.{set-held}
 use Rattle.meaning.proofs.Soundness.{sound}
 
 -- A filter that lets more through gives more: said once, for allow lists that gain and block lists that lose.
@@ -97,8 +98,11 @@ pub tightening : (d : Description) (o : Order) (d′ : Description) (o′ : Orde
     → (rounds : ℕ) (labels : List Label) → answer d′ o′ ≡ listed rounds labels → Tightened d o labels
 tightening d o d′ o′ legal legal′ w rounds labels e =
     let right : Answers d′ o′ (listed rounds labels) = subst (λ (x : Outcome). Answers d′ o′ x) e (answer-right d′ o′) in
+    let within : PassesLimit d → ⊥ = λ x. right .within (passes-widen d o d′ o′ w x) in
     record {
-      answered = answered-unless d o (answer d o) (answer-right d o) (λ x. right .within (passes-widen d o d′ o′ w x));
+      answered = answered-unless d o (answer d o) (answer-right d o) within;
       covered = λ a run allowed.
-          right .exactly a .1 (subst (λ (t : ℕ). InSet d′ t a) (w .root) (sets-widen d o d′ o′ w (d .root) a (sound d o legal a run)), w .orders a allowed);
+          let there = sound d o legal a run in
+          let there′ = subst (λ (t : ℕ). InSet d′ t a) (w .root) (sets-widen d o d′ o′ w (d .root) a there) in
+          right .exactly a .1 (there′, w .orders a (set-held d within (d .root) a there) allowed);
     }

@@ -23,7 +23,8 @@ pub record Written (s before after : Text) (answer : ℕ) : Type 0 where
   pub area : after ≡ put s before
   pub size : answer ≡ length s
 
--- The whole text was written and its length answered; where it does not fit the area stayed as it was, and the answer was 0.
+-- The whole text was written and its length answered; where it does not fit the area stayed as it was, and the answer was 0
+-- (refusal 8, in the C call).
 abbrev pub areaWith : Text → Text → Text
 areaWith s before = elim (leb (length s) (length before)) [ true ↦ put s before | false ↦ before ]
 

@@ -1,6 +1,6 @@
 -- The laws that the proofs of the calls cite.
-pub mod Refusals
 pub mod Responding
 pub mod Texts
 pub mod Uniqueness
+pub mod DemandSteps
 pub mod Demands

@@ -12,8 +12,8 @@ use Rattle.meaning.specs.Bytes.{Text}
 use Rattle.meaning.specs.Labels.{number}
 use Rattle.meaning.specs.Descriptions as D
 use Rattle.meaning.specs.Answers as A
-use Rattle.meaning.specs.Answers.{Outcome, tooLarge, listed, tooLong, inLine, large, noRoom}
-use Rattle.grammar.specs.Reading.{Reading, read, refused, readText}
+use Rattle.meaning.specs.Answers.{Outcome, tooLarge, listed, tooLong, inLine}
+use Rattle.grammar.specs.Reading.{Reading, read, overlong, badLine, readText}
 use Rattle.grammar.proofs.Acceptance.{accepted→}
 use Rattle.table.specs.Encoded.{tableOf, storeOf}
 use Rattle.table.specs.Areas.{zeroed}
@@ -27,12 +27,11 @@ use Rattle.reading.specs.declared.Answer as B
 use Rattle.reading.specs.declared.Answer.the-variants.{Fine, Bad, TooLong}
 use Rattle.reading.specs.declared.Read.{Read}
 use Rattle.rounds.specs.declared.Answer as R
+use Rattle.rounds.specs.declared.Answer.the-variants.{TooLarge, Listed}
 use Rattle.rounds.specs.Alphabets as Q
 use Rattle.rounds.specs.Alphabets.{alphabetOf, Answered}
 use Rattle.reading.specs.Stored.{faultFor, readFor, storeFor, withRoom, readWith, Stored}
-use Rattle.rimecutter.proofs.Refusals.{of-text}
 use Rattle.rimecutter.specs.Calls.{Call, refusing, tooShort, ofOutcome, ofReading, unlessShort, call, cleared, answerWords}
-use Rattle.rimecutter.specs.Responses.{answerFor}
 use Rattle.rimecutter.specs.Answers.{verdictFor, Responded}
 
 or-false : (a b : Bool) → (a || b) ≡ false → (a ≡ false) × (b ≡ false)
@@ -65,6 +64,11 @@ fault-back A.name = refl
 fault-back A.range = refl
 fault-back A.amount = refl
 fault-back A.operand = refl
+
+-- what the call makes of what the rounds answer
+abbrev pub answerFor : R.Answer → Answer
+answerFor TooLarge = C.TooLarge
+answerFor (Listed rounds labels) = C.Listed rounds labels
 
 responded : (c c′ : Call) (work work′ answer answer′ : List ℕ) (r : Response) → c ≡ c′ → Responded c′ work work′ answer answer′ r → Responded c work work′ answer answer′ r
 responded c c′ work work′ answer answer′ r e h = subst (λ (x : Call). Responded x work work′ answer answer′ r) (sym e) h
@@ -107,12 +111,10 @@ module _ (text : Text) (work answer : List ℕ) where
           told : (x : Reading) → readText text ≡ x → called ≡ ofReading x → r ≡ readFor x
               → Responded called work work answer answer (record { answer = C.TooLong; names = names })
           told (read d o) t c h = absurd (subst IsFine (ap (λ (y : Read). y .answer) (sym h) ∙ e) tt)
-          told (refused tooLong) t c h =
+          told overlong t c h =
               responded called (refusing tooLong) work work answer answer (record { answer = C.TooLong; names = names }) c
               (record { settled = record { verdict = refl; works = refl; answers = refl }; names = tt })
-          told (refused (inLine f l)) t c h = absurd (subst IsBad (ap (λ (y : Read). y .answer) (sym h) ∙ e) tt)
-          told (refused large) t c h = absurd (of-text text large t)
-          told (refused noRoom) t c h = absurd (of-text text noRoom t)
+          told (badLine f l) t c h = absurd (subst IsBad (ap (λ (y : Read). y .answer) (sym h) ∙ e) tt)
 
       pub bad-responded : (names work′ : List ℕ) (f : F.Fault) (l : ℕ) → r .answer ≡ Bad f l → work′ ≡ zeroed 4096 work
           → Responded called work work′ answer answer (record { answer = C.Bad f l; names = names })
@@ -121,8 +123,8 @@ module _ (text : Text) (work answer : List ℕ) where
           told : (x : Reading) → readText text ≡ x → called ≡ ofReading x → r ≡ readFor x
               → Responded called work work′ answer answer (record { answer = C.Bad f l; names = names })
           told (read d o) t c h = absurd (subst IsFine (ap (λ (y : Read). y .answer) (sym h) ∙ e) tt)
-          told (refused tooLong) t c h = absurd (subst IsBad (sym e ∙ ap (λ (y : Read). y .answer) h) tt)
-          told (refused (inLine g m)) t c h =
+          told overlong t c h = absurd (subst IsBad (sym e ∙ ap (λ (y : Read). y .answer) h) tt)
+          told (badLine g m) t c h =
               let k : Bad (faultFor g) m ≡ Bad f l = ap (λ (y : Read). y .answer) (sym h) ∙ e in
               responded called (refusing (inLine g m)) work work′ answer answer (record { answer = C.Bad f l; names = names }) c
               (record {
@@ -133,8 +135,6 @@ module _ (text : Text) (work answer : List ℕ) where
                 };
                 names = tt;
               })
-          told (refused large) t c h = absurd (of-text text large t)
-          told (refused noRoom) t c h = absurd (of-text text noRoom t)
 
       -- What the rounds find.
       module _ (work′ answer′ : List ℕ) (f : R.Answer) (worked : Answered (r .table) after (r .order) work answer work′ answer′ f) where
@@ -166,7 +166,5 @@ module _ (text : Text) (work answer : List ℕ) where
                 let found = worked .right d o (accepted→ text d o t .1) table store (ap (λ (y : Read). y .order) h) (room .0) (room .1) in
                 responded called (ofOutcome d (A.answer d o)) work work′ answer answer′ (record { answer = a; names = r .table .names }) c
                 (rw (ae, table) (outcome d (A.answer d o) (found .0) (found .1) (found .2)))
-            told (refused tooLong) t c h s = absurd (subst IsFine (sym e ∙ ap (λ (y : Read). y .answer) h) tt)
-            told (refused (inLine g m)) t c h s = absurd (subst IsFine (sym e ∙ ap (λ (y : Read). y .answer) h) tt)
-            told (refused large) t c h s = absurd (of-text text large t)
-            told (refused noRoom) t c h s = absurd (of-text text noRoom t)
+            told overlong t c h s = absurd (subst IsFine (sym e ∙ ap (λ (y : Read). y .answer) h) tt)
+            told (badLine g m) t c h s = absurd (subst IsFine (sym e ∙ ap (λ (y : Read). y .answer) h) tt)

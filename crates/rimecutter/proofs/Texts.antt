@@ -17,11 +17,11 @@ use Rattle.meaning.specs.Sets.{_∈_}
 use Rattle.meaning.specs.Descriptions.{Description, Order, names}
 use Rattle.meaning.specs.Legal.{Each}
 use Rattle.meaning.specs.Answers as A
-use Rattle.meaning.specs.Answers.{Outcome, tooLarge, listed, Lists, Answers, Refusal, tooLong, inLine, large, noRoom, Fault, form, name, range, amount, operand, faultNumber, reasonOf, lineOf, Verdict}
+use Rattle.meaning.specs.Answers.{Outcome, tooLarge, listed, Lists, Answers, Refusal, tooLong, inLine, large, Fault, form, name, range, amount, operand, faultNumber, reasonOf, lineOf, Verdict}
 use Rattle.meaning.proofs.Digits.{small}
 use Rattle.meaning.proofs.Answers.{answer-right}
 use Rattle.meaning.proofs.Listings.{listed-held, listed-few}
-use Rattle.grammar.specs.Reading.{Reading, read, refused, readText}
+use Rattle.grammar.specs.Reading.{Reading, read, overlong, badLine, readText}
 use Rattle.grammar.specs.Writing.{inName, NameForm}
 use Rattle.grammar.proofs.Acceptance.{accepted→}
 use Rattle.table.specs.Encoded.{filled, wordOf}
@@ -59,7 +59,6 @@ pub refusals-numbered : (r : Refusal) → 1 ≤ reasonOf r
 refusals-numbered tooLong = omega arith
 refusals-numbered (inLine f line) = faults-numbered f
 refusals-numbered large = omega arith
-refusals-numbered noRoom = omega arith
 
 -- An answer comes from a description that was read.
 pub record Origin (text : Text) (words : List Text) (rounds : ℕ) (labels : List Label) : Type 0 where
@@ -105,7 +104,8 @@ module _ (text : Text) (words : List Text) (rounds : ℕ) (labels : List Label) 
 
   from-reading : (x : Reading) → readText text ≡ x → ofReading x ≡ this → Origin text words rounds labels
   from-reading (read d o) r e = from-outcome d o (A.answer d o) r (answer-right d o) e
-  from-reading (refused f) r e = absurd (no-refusal f e)
+  from-reading overlong r e = absurd (no-refusal tooLong e)
+  from-reading (badLine f line) r e = absurd (no-refusal (inLine f line) e)
 
   from-call : (b : Bool) → unlessShort b (readText text) ≡ this → Origin text words rounds labels
   from-call true e = absurd (no-refusal tooLong e)

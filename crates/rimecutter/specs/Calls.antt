@@ -3,14 +3,14 @@
 use mathlib.Core.Bool.{Bool, true, false, _||_}
 use mathlib.Core.List.{List, _++_, map}
 use Prim.Native.Nat.{ℕ}
-use lib.Dec.{ltb}
+use lib.Dec.{ltb, leb}
 use lib.ListN.{length, drop, replicate}
 use Rattle.meaning.specs.Bytes.{Text}
 use Rattle.meaning.specs.Labels.{Label, number}
 use Rattle.meaning.specs.Descriptions.{Description}
 use Rattle.meaning.specs.Answers as A
-use Rattle.meaning.specs.Answers.{Outcome, tooLarge, listed, Refusal, tooLong, inLine, large, noRoom, Verdict}
-use Rattle.grammar.specs.Reading.{Reading, read, refused, readText}
+use Rattle.meaning.specs.Answers.{Outcome, tooLarge, listed, Refusal, tooLong, inLine, large, Verdict}
+use Rattle.grammar.specs.Reading.{Reading, read, overlong, badLine, readText}
 use Rattle.grammar.specs.Printed.{refusalText, answerText}
 
 -- A refusal, or an answer with the names it is printed with.
@@ -34,7 +34,8 @@ ofOutcome d (listed rounds labels) = answering (d .words) rounds labels
 
 abbrev pub ofReading : Reading → Call
 ofReading (read d o) = ofOutcome d (A.answer d o)
-ofReading (refused r) = refusing r
+ofReading overlong = refusing tooLong
+ofReading (badLine f line) = refusing (inLine f line)
 
 abbrev pub unlessShort : Bool → Reading → Call
 unlessShort true r = refusing tooLong
@@ -61,10 +62,13 @@ abbrev pub workAfter : Call → List ℕ → List ℕ
 workAfter (refusing tooLong) area = area
 workAfter (refusing (inLine f line)) area = cleared area
 workAfter (refusing large) area = cleared area
-workAfter (refusing noRoom) area = cleared area
 workAfter (answering words rounds labels) area = cleared area
 
 -- The text that is printed.
 abbrev pub textOf : Call → Text
 textOf (refusing r) = refusalText r
 textOf (answering words rounds labels) = answerText words rounds labels
+
+-- The number that the C call gives: 8, in this call alone, if the whole text does not fit the area, and else what its text says.
+abbrev pub numberInText : Call → (room : ℕ) → ℕ
+numberInText c room = elim (leb (length (textOf c)) room) [ true ↦ verdictOf c .reason | false ↦ 8 ]

@@ -1,4 +1,8 @@
--- What a call comes to, and what its answer says.
+-- What a call comes to from its bytes and the lengths of its areas
 pub mod Calls
-pub mod Responses
+-- What the answer of a call says, and what a call leaves
 pub mod Answers
+-- Which refusal is due, told from the input alone
+pub mod Refusals
+-- What the three demands say of a call
+pub mod Demands

@@ -3,7 +3,6 @@ ghost use mathlib.Core.Path.{_≡_};
 ghost use lib.ListN.{length};
 ghost use Rattle.rimecutter.specs.Calls.{call, tooShort};
 ghost use Rattle.rimecutter.specs.Answers.{Responded};
-ghost use Rattle.rimecutter.specs.Responses.{answerFor};
 use crate::Answer;
 use reading::read_description;
 use rounds::ANSWER_WORDS;
@@ -11,28 +10,25 @@ use rounds::WORK_WORDS;
 use table::STORE_WORDS;
 use table::areas::clear;
 
+// What is answered, with the names of the description, packed in words.
 pub struct Response {
     pub answer: Answer,
     pub names: [u64; 12],
 }
 
+// Refusal 1 for the areas.
 fn too_short(work: usize, answer: usize) -> bool
     ensures { λ r. ⌜ r ≡ tooShort work answer ⌝ }
 {
     work < WORK_WORDS || answer < ANSWER_WORDS
 }
 
-fn answer_of(found: rounds::Answer) -> Answer
-    ensures { λ r. ⌜ r ≡ answerFor found ⌝ }
-{
-    match found {
-        rounds::Answer::TooLarge => Answer::TooLarge,
-        rounds::Answer::Listed(rounds, labels) => Answer::Listed(rounds, labels),
-    }
-}
-
+// The call, with the names that its answer is printed with. Refusal 1 comes first and touches no area; after it the first 4,096 words
+// of the work area are 0, whatever is answered.
 pub fn respond(description: &[u8], work: &mut [u64], answer: &mut [u64]) -> Response
-    ensures { λ r. ⌜ Responded (call (now (description .entry)) (length (now (work .entry))) (length (now (answer .entry)))) (now (work .entry)) (now (work .exit)) (now (answer .entry)) (now (answer .exit)) r ⌝ }
+    ensures { λ r. ⌜ Responded
+        (call (now (description .entry)) (length (now (work .entry))) (length (now (answer .entry))))
+        (now (work .entry)) (now (work .exit)) (now (answer .entry)) (now (answer .exit)) r ⌝ }
 {
     if too_short(work.len(), answer.len()) {
         return Response {
@@ -44,26 +40,24 @@ pub fn respond(description: &[u8], work: &mut [u64], answer: &mut [u64]) -> Resp
     let read = read_description(description, &mut store);
     let said = read.answer;
     let table = read.table;
-    let order = read.order;
     let names = table.names;
-    match said {
-        reading::Answer::TooLong => Response {
-            answer: Answer::TooLong,
-            names: names,
-        },
+    let answered = match said {
+        reading::Answer::TooLong => Answer::TooLong,
         reading::Answer::Bad(fault, line) => {
             clear(work, WORK_WORDS);
-            Response {
-                answer: Answer::Bad(fault, line),
-                names: names,
-            }
+            Answer::Bad(fault, line)
         }
         reading::Answer::Fine => {
+            let order = read.order;
             let found = rounds::alphabet(table, &store, order, work, answer);
-            Response {
-                answer: answer_of(found),
-                names: names,
+            match found {
+                rounds::Answer::TooLarge => Answer::TooLarge,
+                rounds::Answer::Listed(rounds, labels) => Answer::Listed(rounds, labels),
             }
         }
+    };
+    Response {
+        answer: answered,
+        names: names,
     }
 }

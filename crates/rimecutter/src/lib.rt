@@ -3,7 +3,7 @@ mod calls;
 
 ghost use lib.ListN.{length};
 ghost use Rattle.printing.specs.Areas.{Printed};
-ghost use Rattle.rimecutter.specs.Calls.{call, textOf};
+ghost use Rattle.rimecutter.specs.Calls.{call, textOf, workWords, answerWords};
 ghost use Rattle.rimecutter.specs.Answers.{Settled};
 use crate::calls::respond;
 use forms::Fault;
@@ -21,8 +21,13 @@ pub enum Answer {
     TooLarge,
 }
 
+// Works the alphabet out in two lent areas. On an answer the labels' numbers stand at the start of `answer`, ascending; on a refusal
+// `answer` is as it was. The first 4,096 words of `work` are 0 afterwards. Refusal 1, also given for areas that are too short, changes
+// neither area.
 pub fn alphabet(description: &[u8], work: &mut [u64], answer: &mut [u64]) -> Answer
-    ensures { λ r. ⌜ Settled (call (now (description .entry)) (length (now (work .entry))) (length (now (answer .entry)))) (now (work .entry)) (now (work .exit)) (now (answer .entry)) (now (answer .exit)) r ⌝ }
+    ensures { λ r. ⌜ Settled
+        (call (now (description .entry)) (length (now (work .entry))) (length (now (answer .entry))))
+        (now (work .entry)) (now (work .exit)) (now (answer .entry)) (now (answer .exit)) r ⌝ }
 {
     let response = respond(description, work, answer);
     let said = response.answer;
@@ -31,7 +36,7 @@ pub fn alphabet(description: &[u8], work: &mut [u64], answer: &mut [u64]) -> Ans
 
 // The text of the answer, with areas of the call's own: whole, or not at all where it does not fit.
 pub fn alphabet_text(description: &[u8], text: &mut [u8]) -> usize
-    ensures { λ r. ⌜ Printed (textOf (call (now (description .entry)) 4096 1024)) (now (text .entry)) (now (text .exit)) r ⌝ }
+    ensures { λ r. ⌜ Printed (textOf (call (now (description .entry)) workWords answerWords)) (now (text .entry)) (now (text .exit)) r ⌝ }
 {
     let mut work = [0u64; WORK_WORDS];
     let mut answer = [0u64; ANSWER_WORDS];

@@ -1,0 +1,31 @@
+-- Which refusal is due (document 01, "Limits and refusal numbers"), told from the input alone: 1 comes first, then the first bad line
+-- decides and in it the smallest number, 7 is last.
+-- Assumes nothing.
+use mathlib.Core.Path.{_≡_}
+use mathlib.Core.Logic.{_⊎_}
+use Prim.Native.Nat.{ℕ, _≤_, _<_}
+use lib.ListN.{length}
+use Rattle.meaning.specs.Bytes.{Text}
+use Rattle.meaning.specs.Descriptions.{Description, Order}
+use Rattle.meaning.specs.Limits.{PassesLimit}
+use Rattle.meaning.specs.Answers.{Refusal, tooLong, inLine, large}
+use Rattle.grammar.specs.Reading.{read, badLine, readText}
+use Rattle.rimecutter.specs.Calls.{workWords, answerWords}
+
+-- The lent areas are long enough.
+pub record Roomy (work answer : ℕ) : Type 0 where
+  pub works : workWords ≤ work
+  pub answers : answerWords ≤ answer
+
+-- A well-formed description whose least sets pass a limit.
+pub record Large (text : Text) : Type 0 where
+  pub given : Description
+  pub order : Order
+  pub reads : readText text ≡ read given order
+  pub passes : PassesLimit given
+
+-- 1: input too long, or an area too short. 2 to 6: the first bad line and its smallest number (`readText`). 7: the least sets pass a limit.
+abbrev pub Due : Text → (work answer : ℕ) → Refusal → Type 0
+Due text work answer tooLong = (work < workWords) ⊎ ((answer < answerWords) ⊎ (8192 < length text))
+Due text work answer (inLine fault line) = Roomy work answer × (readText text ≡ badLine fault line)
+Due text work answer large = Roomy work answer × Large text
