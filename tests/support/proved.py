@@ -69,7 +69,7 @@ def check_c_call(sample):
     its texts compared with the reference's, record by record."""
     rt("staticlib", "rimecutter_c")
     print(run(command(linked(C_CALL / "checks.c"))).decode(), end="", flush=True)
-    check_bench_example()
+    check_example_program()
     difference = some_difference(command(linked(C_CALL / "batch.c")), sample)
     if difference:
         print(difference, end="", flush=True)
@@ -77,12 +77,12 @@ def check_c_call(sample):
     print(f"the C call answers {len(sample.records)} records as the reference does", flush=True)
 
 
-def check_bench_example():
-    """The example program for the bench prints an alphabet."""
-    program = command(linked(TOP / "examples" / "bench.c"))
+def check_example_program():
+    """The example program for C prints an alphabet."""
+    program = command(linked(TOP / "examples" / "call.c"))
     printed = run([*program, str(TOP / "examples" / "stripe-15-of-16.txt")])
     if printed != (TOP / "examples" / "stripe-15-of-16.expected").read_bytes():
-        raise Failed(f"examples/bench.c prints something else:\n{shown(printed)}")
+        raise Failed(f"examples/call.c prints something else:\n{shown(printed)}")
 
 
 def check_program():

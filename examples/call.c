@@ -1,6 +1,6 @@
 /* Prints the alphabet of the description in a file, as a bench program would ask for it:
  *
- *     bench examples/stripe-15-of-16.txt
+ *     target/call examples/stripe-15-of-16.txt
  *
  * How it is compiled and linked stands in examples/README.md.
  */
@@ -15,7 +15,7 @@ static uint8_t text[RIMECUTTER_TEXT_MAX];
 int main(int count, char **words)
 {
     if (count != 2) {
-        fprintf(stderr, "usage: bench DESCRIPTION\n");
+        fprintf(stderr, "usage: call DESCRIPTION\n");
         return 2;
     }
     FILE *file = fopen(words[1], "rb");
