@@ -12,7 +12,8 @@ use Rattle.meaning.specs.Answers.{amount}
 use Rattle.grammar.specs.Faults.{Found, fault, worse, unless, worst, rising}
 use Rattle.forms.specs.declared.Found.the-variants.{Fine}
 use Rattle.forms.specs.declared.faults.Tally.{Tally}
-use Rattle.forms.specs.Tallies.{foundOf, Said, floorOf, weightOf, allFaults, Counted}
+use Rattle.forms.specs.CodedFaults.{foundOf}
+use Rattle.forms.specs.Tallies.{Said, floorOf, weightOf, allFaults, Counted}
 use Rattle.forms.proofs.Ranks.{rank, by-rank, rank-worse, rank-and, rank-within, worst-snoc}
 
 -- the lists, one entry longer

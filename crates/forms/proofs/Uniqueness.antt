@@ -16,7 +16,7 @@ use Rattle.table.specs.Encoded.{wordOf, termWords, termFor, orderWords, orderFo
 use Rattle.grammar.specs.Text.{Past, past, stuck}
 use Rattle.grammar.specs.Forms.{termLine, orderLine}
 use Rattle.grammar.specs.Faults.{Found, fine, fault, termSaid, termFault, orderSaid, orderFault}
-use Rattle.forms.specs.Tallies.{foundOf}
+use Rattle.forms.specs.CodedFaults.{foundOf}
 use Rattle.forms.specs.Lists.{over}
 use Rattle.forms.specs.Places.{Steps, stepOf, placeOf}
 use Rattle.forms.specs.Terms.{TermRead, TermAnswer}

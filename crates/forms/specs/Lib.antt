@@ -1,4 +1,5 @@
 -- What the answers of the readers of one line stand for.
+pub mod CodedFaults
 pub mod Tallies
 pub mod Places
 pub mod Entries

@@ -4,25 +4,10 @@ use mathlib.Core.Path.{_≡_}
 use mathlib.Core.List.{List, [], _∷_, map}
 use Prim.Native.Nat.{ℕ, suc, _+_, _≤_, _<_, _^_, min}
 use lib.Dec.{leb}
-use Rattle.meaning.specs.Answers.{Fault, form, name, range, amount, operand}
-use Rattle.grammar.specs.Faults.{Found, fine, fault, worse, unless, worst, rising}
-use Rattle.forms.specs.declared.Fault as F
-use Rattle.forms.specs.declared.Fault.the-variants.{Form, Name, Range, Amount, Operand}
-use Rattle.forms.specs.declared.Found as G
-use Rattle.forms.specs.declared.Found.the-variants.{Fine, Faulty}
+use Rattle.meaning.specs.Answers.{amount}
+use Rattle.grammar.specs.Faults.{Found, worse, unless, worst, rising}
+use Rattle.forms.specs.CodedFaults.{foundOf}
 use Rattle.forms.specs.declared.faults.Tally.{Tally}
-
--- The faults of the code, with document 01's numbers through those of `meaning`.
-abbrev pub faultOf : F.Fault → Fault
-faultOf Form = form
-faultOf Name = name
-faultOf Range = range
-faultOf Amount = amount
-faultOf Operand = operand
-
-abbrev pub foundOf : G.Found → Found
-foundOf Fine = fine
-foundOf (Faulty f) = fault (faultOf f)
 
 -- An entry's fault, the number by which it is ordered, and a second number.
 pub record Said : Type 0 where

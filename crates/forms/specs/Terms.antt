@@ -16,7 +16,7 @@ use Rattle.forms.specs.declared.lists.ListKind.{ListKind}
 use Rattle.forms.specs.declared.lists.ListKind.the-variants.{Names, Pairs, Rules, Labels}
 use Rattle.table.specs.Encoded.{termWords, termFor, filled, slotsFrom}
 use Rattle.grammar.specs.Faults.{fine, termSaid, wordsOfFault, termFault}
-use Rattle.forms.specs.Tallies.{foundOf}
+use Rattle.forms.specs.CodedFaults.{foundOf}
 use Rattle.forms.specs.Lists.{over}
 use Rattle.forms.specs.declared.Found.the-variants.{Fine}
 use Rattle.forms.specs.declared.TermStep.{TermStep}

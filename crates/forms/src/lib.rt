@@ -11,9 +11,12 @@ pub mod terms;
 
 ghost use mathlib.Core.Path.{_≡_};
 ghost use Rattle.meaning.specs.Answers.{faultNumber};
-ghost use Rattle.forms.specs.Tallies.{faultOf};
+ghost use Rattle.forms.specs.CodedFaults.{faultOf};
 use table::Order;
 use table::Term;
+
+// No line of a description is longer than the whole may be.
+pub const LINE_BYTES: usize = 8192;
 
 // What was read, a number or a packed name, and the place after it.
 pub enum Step {

@@ -3,7 +3,7 @@ ghost use mathlib.Core.Path.{_≡_};
 ghost use mathlib.Core.List.{map};
 ghost use Rattle.table.specs.Decoded.{nameOf};
 ghost use Rattle.grammar.specs.Faults.{unless, nameNumber};
-ghost use Rattle.forms.specs.Tallies.{foundOf};
+ghost use Rattle.forms.specs.CodedFaults.{foundOf};
 ghost use Rattle.meaning.specs.Answers.{name};
 ghost use lib.Dec.{ltb};
 use crate::Fault;

@@ -17,7 +17,7 @@ use Rattle.forms.specs.Lists.{over}
 use Rattle.grammar.specs.Text.{Past, stuck}
 use Rattle.grammar.specs.Forms.{Line, termLine, OrderLine, orderLine}
 use Rattle.grammar.specs.Faults.{Found, fine, fault, termSaid, termFault, orderSaid, orderFault}
-use Rattle.forms.specs.Tallies.{faultOf, foundOf}
+use Rattle.forms.specs.CodedFaults.{faultOf, foundOf}
 use Rattle.forms.specs.declared.Fault as F
 use Rattle.forms.specs.declared.Found as G
 use Rattle.forms.specs.declared.Found.the-variants.{Fine, Faulty}

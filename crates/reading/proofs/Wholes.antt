@@ -20,7 +20,7 @@ use Rattle.table.specs.Encoded.{filled, wordOf, slotsFrom, termsWords, orderWor
 use Rattle.table.proofs.Filled.{filled-length, filled-two, filled-front}
 use Rattle.grammar.specs.Text.{Past, past, stuck}
 use Rattle.grammar.specs.Forms.{countLine}
-use Rattle.forms.specs.Tallies.{faultOf}
+use Rattle.forms.specs.CodedFaults.{faultOf}
 use Rattle.forms.specs.Lists.{over}
 use Rattle.forms.specs.declared.Fault.{Fault}
 use Rattle.forms.specs.declared.Fault.the-variants.{Form, Name, Range, Amount, Operand}

@@ -21,7 +21,7 @@ use Rattle.reading.specs.declared.Read.{Read}
 use Rattle.reading.specs.declared.Progress.{Progress}
 use Rattle.reading.specs.declared.Progress.the-variants as P
 use Rattle.reading.specs.declared.Progress.the-variants.{To}
-use Rattle.forms.specs.Tallies.{faultOf}
+use Rattle.forms.specs.CodedFaults.{faultOf}
 use Rattle.meaning.specs.Descriptions.{Description}
 
 abbrev pub faultFor : Fault → F.Fault

@@ -2,7 +2,7 @@ use borrow.Author.Needs.{needs}
 use native.Mathlib.Omega.{arith}
 use borrow.Author.Tests.{le-leb, lt-leb}
 use Rattle.meaning.specs.Answers.{faultNumber}
-use Rattle.forms.specs.Tallies.{faultOf}
+use Rattle.forms.specs.CodedFaults.{faultOf}
 use Rattle.forms.proofs.Rests.{asks-nothing}
 use Rattle.forms.proofs.faults.worse_of.Statement.{statement}
 use Rattle.forms.proofs.faults.worse_of.Tie as tie

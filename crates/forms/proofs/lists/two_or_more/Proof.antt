@@ -4,7 +4,7 @@ use mathlib.Core.Path.{refl, ap, _∙_}
 use lib.ListN.{drop}
 use Rattle.grammar.specs.Text.{past}
 use Rattle.grammar.specs.Faults.{worse}
-use Rattle.forms.specs.Tallies.{foundOf}
+use Rattle.forms.specs.CodedFaults.{foundOf}
 use Rattle.forms.proofs.Rests.{asks-nothing}
 use Rattle.forms.proofs.Seen.{said-same}
 use Rattle.forms.proofs.lists.two_or_more.Statement.{statement}

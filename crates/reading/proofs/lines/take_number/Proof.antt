@@ -2,7 +2,7 @@
 -- Assumes nothing.
 use borrow.Author.Needs.{needs}
 use native.Mathlib.Omega.{arith}
-use Rattle.forms.specs.Tallies.{faultOf}
+use Rattle.forms.specs.CodedFaults.{faultOf}
 use Rattle.forms.proofs.Steps.{went, says-stuck}
 use Rattle.forms.proofs.Rests.{asks-nothing}
 use Rattle.reading.proofs.Walking.{refuses, line-lacks, line-there, line-taken, next-spot}
