@@ -1,5 +1,4 @@
 -- What the answers of the readers of one line stand for.
-pub mod CodedFaults
 pub mod Tallies
 pub mod Places
 pub mod Entries

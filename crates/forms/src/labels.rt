@@ -7,20 +7,20 @@ ghost use Rattle.table.specs.Decoded.{nameOf};
 ghost use Rattle.grammar.specs.Text.{word};
 ghost use Rattle.grammar.specs.Forms.{part, label};
 ghost use Rattle.forms.specs.Places.{saidPlace, Says};
-ghost use Rattle.forms.specs.CodedFaults.{foundOf};
+ghost use Rattle.faults.specs.CodedFaults.{foundOf};
 ghost use Rattle.forms.specs.Entries.{seen, nameEntry, partSaid, labelEntry, unlessFaulty, Room};
-use crate::Found;
 use crate::Step;
 use crate::bytes::number_after;
 use crate::bytes::read_word;
 use crate::bytes::sign_at;
 use crate::bytes::stuck_at;
-use crate::faults::Tally;
-use crate::faults::amount_unless;
-use crate::faults::counted;
-use crate::faults::worse_of;
 use crate::names::find_name;
-use crate::names::name_fault;
+use faults::Found;
+use faults::Tally;
+use faults::amount_unless;
+use faults::counted;
+use faults::name_fault;
+use faults::worse_of;
 
 // What an entry of a list or a part of a label says: its fault, the number by which it is ordered, and a second number.
 pub struct Said {

@@ -2,7 +2,7 @@
 -- Assumes nothing.
 use Prim.Native.Nat.{_-_}
 use native.Mathlib.Omega.{arith}
-use Rattle.forms.proofs.Rests.{asks-nothing}
+use Rattle.faults.proofs.Calls.{asks-nothing}
 use Rattle.forms.proofs.Steps.{stuck-there}
 use Rattle.forms.proofs.Kinded.{Sought, sought-none, sought-found, sought-more, sought-all}
 use Rattle.forms.proofs.kinds.find_kind.Statement.{statement}

@@ -2,7 +2,7 @@
 -- Assumes nothing.
 use borrow.Author.Needs.{needs}
 use mathlib.Core.Path.{refl}
-use Rattle.forms.proofs.Rests.{asks-nothing}
+use Rattle.faults.proofs.Calls.{asks-nothing}
 use Rattle.forms.proofs.Steps.{stuck-there, went, halts, onwards, arrived, otherwise}
 use Rattle.forms.proofs.Seen.{said-same, name-faulted}
 use Rattle.forms.proofs.labels.read_name.Statement.{statement}

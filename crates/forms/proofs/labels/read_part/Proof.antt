@@ -3,8 +3,8 @@
 use borrow.Author.Needs.{needs}
 use mathlib.Core.Path.{refl, ap, _∙_}
 use Rattle.grammar.specs.Faults.{worse}
-use Rattle.forms.specs.CodedFaults.{foundOf}
-use Rattle.forms.proofs.Rests.{asks-nothing}
+use Rattle.faults.specs.CodedFaults.{foundOf}
+use Rattle.faults.proofs.Calls.{asks-nothing}
 use Rattle.forms.proofs.Steps.{stuck-there, went, halts, onwards, said-went, said-halted, said-onwards, arrived, otherwise}
 use Rattle.forms.proofs.Seen.{become, part-seen, said-same}
 use Rattle.forms.proofs.labels.read_part.Statement.{statement}

@@ -3,7 +3,7 @@
 use borrow.Author.Needs.{needs}
 use mathlib.Core.List.{map}
 use Rattle.table.specs.Decoded.{nameOf}
-use Rattle.forms.proofs.Rests.{asks-nothing}
+use Rattle.faults.proofs.Calls.{asks-nothing}
 use Rattle.forms.proofs.Steps.{said-stuck-there}
 use Rattle.forms.proofs.Ordered.{labels-stuck, labels-on, labels-taken}
 use Rattle.forms.proofs.orders.read_labels.Statement.{statement}

@@ -4,14 +4,14 @@ use borrow.Author.Needs.{needs}
 use Rattle.table.specs.declared.Order.the-variants.{All}
 use Rattle.grammar.specs.Text.{past}
 use Rattle.grammar.specs.Forms.{all}
-use Rattle.forms.specs.declared.Found.the-variants.{Fine}
+use Rattle.faults.specs.declared.Found.the-variants.{Fine}
 use Rattle.forms.specs.declared.OrderStep.the-variants.{To}
 use mathlib.Core.Path.{refl, sym, _∙_}
 use mathlib.Core.List.{[], map}
 use mathlib.Core.Bool.{true, false}
 use native.Mathlib.Omega.{arith}
 use Rattle.table.specs.Decoded.{nameOf}
-use Rattle.forms.proofs.Rests.{asks-nothing}
+use Rattle.faults.proofs.Calls.{asks-nothing}
 use Rattle.forms.proofs.Steps.{stuck-there, went, stays}
 use Rattle.forms.proofs.Ordered.{all-taken, order-stuck, order-passed, order-become}
 use Rattle.forms.proofs.orders.read_order.Statement.{statement}

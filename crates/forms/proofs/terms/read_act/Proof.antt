@@ -6,7 +6,8 @@ use mathlib.Core.List.{map}
 use native.Mathlib.Omega.{arith}
 use Rattle.table.specs.Decoded.{nameOf}
 use Rattle.grammar.specs.Forms.{space}
-use Rattle.forms.proofs.Rests.{asks-nothing, sign-within}
+use Rattle.faults.proofs.Calls.{asks-nothing}
+use Rattle.forms.proofs.Rests.{sign-within}
 use Rattle.forms.proofs.Steps.{said-stuck-there}
 use Rattle.forms.proofs.Operands.{act-no-space, act-no-name, act-no-end, act-line}
 use Rattle.forms.proofs.terms.read_act.Statement.{statement}

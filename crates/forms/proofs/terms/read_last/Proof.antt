@@ -5,7 +5,7 @@ use lib.ListN.{drop}
 use Rattle.table.specs.Terms.{IsPlain, bareTerm}
 use Rattle.grammar.specs.Text.{onward}
 use Rattle.forms.specs.Terms.{madeOf}
-use Rattle.forms.proofs.Rests.{asks-nothing}
+use Rattle.faults.proofs.Calls.{asks-nothing}
 use Rattle.forms.proofs.Steps.{stuck-there, went, stays}
 use Rattle.forms.proofs.Operands.{plain-kind, alone-with, one-seen, plain-become}
 use Rattle.forms.proofs.terms.read_last.Statement.{statement}

@@ -10,7 +10,7 @@ use Rattle.table.specs.Decoded.{nameOf}
 use Rattle.grammar.specs.Text.{onward}
 use Rattle.grammar.specs.Forms.{kinds, ofKind, termLine}
 use Rattle.forms.specs.Kinds.{fartherStep, KindFound}
-use Rattle.forms.proofs.Rests.{asks-nothing}
+use Rattle.faults.proofs.Calls.{asks-nothing}
 use Rattle.forms.proofs.Steps.{stuck-there, went, stays}
 use Rattle.forms.proofs.Operands.{line-become}
 use Rattle.forms.proofs.Farthest.{key-passed, line-farther}

@@ -5,7 +5,7 @@ use lib.ListN.{drop}
 use Rattle.grammar.specs.Text.{onward}
 use Rattle.grammar.specs.Forms.{ofOne}
 use Rattle.forms.specs.Terms.{madeOf}
-use Rattle.forms.proofs.Rests.{asks-nothing}
+use Rattle.faults.proofs.Calls.{asks-nothing}
 use Rattle.forms.proofs.Steps.{stuck-there, went, stays}
 use Rattle.forms.proofs.Operands.{two-seen, plain-become}
 use Rattle.forms.proofs.terms.read_two.Statement.{statement}

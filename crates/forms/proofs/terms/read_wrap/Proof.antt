@@ -10,7 +10,8 @@ use borrow.Author.Tests.{not-true, not-false}
 use Rattle.table.specs.Decoded.{nameOf}
 use Rattle.grammar.specs.Forms.{space}
 use Rattle.forms.specs.Kinds.{wrapOf}
-use Rattle.forms.proofs.Rests.{asks-nothing, sign-within}
+use Rattle.faults.proofs.Calls.{asks-nothing}
+use Rattle.forms.proofs.Rests.{sign-within}
 use Rattle.forms.proofs.Steps.{stuck-there, said-stuck-there}
 use Rattle.forms.proofs.Wraps.{operator-wrapped, no-operand, no-space, no-list, no-end, wrap-line}
 use Rattle.forms.proofs.terms.read_wrap.Statement.{statement}

@@ -3,10 +3,10 @@
 -- Assumes nothing.
 use Rattle.meaning.specs.Answers.{Fault, form, name, range, amount, operand}
 use Rattle.grammar.specs.Faults.{Found, fine, fault}
-use Rattle.forms.specs.declared.Fault as F
-use Rattle.forms.specs.declared.Fault.the-variants.{Form, Name, Range, Amount, Operand}
-use Rattle.forms.specs.declared.Found as G
-use Rattle.forms.specs.declared.Found.the-variants.{Fine, Faulty}
+use Rattle.faults.specs.declared.Fault as F
+use Rattle.faults.specs.declared.Fault.the-variants.{Form, Name, Range, Amount, Operand}
+use Rattle.faults.specs.declared.Found as G
+use Rattle.faults.specs.declared.Found.the-variants.{Fine, Faulty}
 
 abbrev pub faultOf : F.Fault → Fault
 faultOf Form = form
