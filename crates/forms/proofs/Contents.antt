@@ -17,7 +17,7 @@ use Rattle.forms.specs.Tallies.{Said, weightOf, allFaults}
 use Rattle.forms.specs.Entries.{nameEntry, pairEntry, ruleEntry, labelEntry, unlessFaulty}
 use Rattle.forms.specs.Lists.{listFaults, listWords}
 use Rattle.forms.specs.declared.lists.ListKind.the-variants.{Names, Pairs, Rules, Labels}
-use Rattle.forms.proofs.Ranks.{by-rank, rank-worse, worse-fine}
+use Rattle.faults.proofs.Ranks.{by-rank, rank-worse, worse-fine}
 use Rattle.forms.proofs.Parts.{worst-map, map-twice, worse-none}
 
 -- The weight of a list whose entries all weigh the same.

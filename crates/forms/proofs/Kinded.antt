@@ -18,7 +18,7 @@ use Rattle.grammar.specs.Forms.{Line, Kind, kinds, farther, ofKind, alone, ofNa
 use Rattle.meaning.specs.Descriptions.{tau, delta}
 use Rattle.table.specs.Packed.{either}
 use Rattle.forms.specs.Terms.{madeOf, WrapKind, Allow, contents, listed}
-use Rattle.forms.specs.Kinds.{restOf, noKind, fartherFrom, wrapOf, KindFound, KindRead}
+use Rattle.forms.specs.Kinds.{restOf, noKind, fartherFrom, wrapOf, kindPlace, KindFound, KindRead}
 use Rattle.forms.specs.declared.kinds.KindStep.{KindStep}
 use Rattle.forms.specs.declared.kinds.KindStep.the-variants as K
 use Rattle.forms.specs.Places.{Stands, Steps}
@@ -166,6 +166,10 @@ module _ (line : Text) (at far k : ℕ) (s : Sought line at far k) where
       ∙ join-stuck line far at (s .inside)
       ∙ ap (fartherFrom far line) (kind-none kinds k (drop at line) (rw kind-count h))
       ∙ s .so-far
+
+-- What is read off a kind's step that was stuck is where it was.
+pub kind-stuck-there : {r : KindStep} {p q : ℕ} → r ≡ K.Stuck p → q ≡ kindPlace r → r ≡ K.Stuck q
+kind-stuck-there e f = e ∙ ap K.Stuck (sym (f ∙ ap kindPlace e))
 
 -- The answer of a search for the kind, taken apart.
 module _ (line : Text) (due : Past Line) (r : KindStep) (h : KindRead line due r) where

@@ -2,7 +2,6 @@
 pub mod Rests
 pub mod Words
 pub mod Steps
-pub mod Ranks
 pub mod Tallied
 pub mod Looked
 pub mod Seen

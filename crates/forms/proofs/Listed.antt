@@ -15,7 +15,7 @@ use Rattle.forms.specs.Tallies.{Said, weightOf, allFaults}
 use Rattle.forms.specs.Entries.{nameEntry, pairEntry, ruleEntry, labelEntry}
 use Rattle.forms.specs.Lists.{entryOf, listFaults, weightFor, limitFor, wordCount, entryWord, entryWords, listWords, entryStored, over, ListRead}
 use Rattle.forms.specs.declared.labels.SaidStep.the-variants as S
-use Rattle.forms.specs.declared.Found.the-variants.{Fine}
+use Rattle.faults.specs.declared.Found.the-variants.{Fine}
 use Rattle.forms.specs.declared.lists.ListKind.{ListKind}
 use Rattle.forms.specs.declared.lists.ListKind.the-variants.{Names, Pairs, Rules, Labels}
 use Rattle.forms.proofs.Seen.{said-same}

@@ -13,7 +13,7 @@ use Rattle.grammar.specs.Forms.{Line, plain, acts, space, ofName, ofOne, ofTwo}
 use Rattle.forms.specs.declared.TermStep.{TermStep}
 use Rattle.forms.specs.Terms.{PlainRead, LineTerm, LineRead}
 use Rattle.grammar.specs.Faults.{wordsOfFault}
-use Rattle.forms.specs.Tallies.{foundOf}
+use Rattle.faults.specs.CodedFaults.{foundOf}
 use Rattle.forms.specs.Places.{saidOf, Says}
 use Rattle.forms.specs.Entries.{seen, nameEntry}
 use Rattle.forms.specs.Lists.{over}

@@ -14,7 +14,7 @@ use Rattle.forms.specs.Entries.{labelEntry}
 use Rattle.forms.specs.Lists.{wholeList, over, ListRead}
 use Rattle.forms.specs.Terms.{Allow}
 use Rattle.forms.specs.Orders.{OrderTaken, OrderDue, onlyThese}
-use Rattle.forms.specs.declared.Found.the-variants.{Fine}
+use Rattle.faults.specs.declared.Found.the-variants.{Fine}
 use Rattle.forms.specs.declared.OrderStep.{OrderStep}
 use Rattle.forms.specs.declared.labels.Said as C
 use Rattle.forms.specs.declared.labels.SaidStep.{SaidStep}

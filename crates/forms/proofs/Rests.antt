@@ -17,10 +17,6 @@ use Rattle.forms.specs.Places.{digitOf, Steps}
 use Rattle.forms.specs.declared.Step.{Step}
 use Rattle.forms.specs.declared.Step.the-variants.{To, Stuck}
 
--- a function without a `requires` asks nothing of its callers
-pub asks-nothing : {A B : Type 0} → A → B → Unit {0}
-asks-nothing c κs = tt
-
 -- the first byte from a place on, and the rest
 pub rest-cons : (s : Text) (n : ℕ) → n < length s → drop n s ≡ getD s n 0 ∷ drop (n + 1) s
 rest-cons s n h = rw add-one (drop-cons s n 0 h)

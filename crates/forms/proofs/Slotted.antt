@@ -23,9 +23,9 @@ use Rattle.table.specs.Packed.{packed, termWord, kindTerm, wordTerm}
 use Rattle.table.proofs.Packed.{taken-out}
 use Rattle.grammar.specs.Forms.{Line, termLine}
 use Rattle.grammar.specs.Faults.{Found, fine, worse, unless, inRange, operandsFit, termSaid, wordsOfFault, termFault}
-use Rattle.forms.specs.Tallies.{foundOf}
+use Rattle.faults.specs.CodedFaults.{foundOf}
 use Rattle.forms.specs.Terms.{LineTerm, LineRead, bareSlot, TermTaken, TermRead}
-use Rattle.forms.specs.declared.Found as G
+use Rattle.faults.specs.declared.Found as G
 use Rattle.forms.specs.declared.TermStep.{TermStep}
 use Rattle.forms.specs.declared.TermStep.the-variants as T
 use Rattle.forms.proofs.Parts.{worse-none}

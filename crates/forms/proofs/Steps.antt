@@ -15,7 +15,7 @@ use Rattle.forms.specs.declared.labels.Said as C
 use Rattle.forms.specs.declared.labels.SaidStep.{SaidStep}
 use Rattle.forms.specs.declared.labels.SaidStep.the-variants as S
 use Rattle.forms.specs.Tallies.{Said}
-use Rattle.forms.specs.Places.{Stands, Steps, saidOf, Says}
+use Rattle.forms.specs.Places.{placeOf, saidPlace, Stands, Steps, saidOf, Says}
 use Rattle.forms.proofs.Rests.{literal-other, literal-more}
 
 -- Said of any answer.
@@ -26,6 +26,13 @@ module _ {A B : Type 0} {line : Text} {at place : ℕ} {due : Past A} (k : A →
   goes : {a : A} {next : ℕ} {answer : Past B} → Stands line at place (past a (drop place line)) due → Stands line place next answer (k a (drop place line))
       → Stands line at next answer (onward due k)
   goes s t = record { says = t .says ∙ ap (λ d. onward d k) (s .says); after = le-trans (s .after) (t .after); within = t .within }
+
+-- What is read off a step that was stuck is where it was.
+pub stuck-there : {r : Step} {p q : ℕ} → r ≡ Stuck p → q ≡ placeOf r → r ≡ Stuck q
+stuck-there e f = e ∙ ap Stuck (sym (f ∙ ap placeOf e))
+
+pub said-stuck-there : {r : SaidStep} {p q : ℕ} → r ≡ S.Stuck p → q ≡ saidPlace r → r ≡ S.Stuck q
+said-stuck-there e f = e ∙ ap S.Stuck (sym (f ∙ ap saidPlace e))
 
 -- Said of a step with a number, and of one with an entry.
 pub went : {A : Type 0} {f : ℕ → ℕ → A} {line : Text} {at v next : ℕ} {r : Step} {due : Past A} → Steps f line at r due → r ≡ To v next

@@ -3,17 +3,19 @@
 use mathlib.Core.Path.{_≡_, refl, sym, ap, _∙_}
 use mathlib.Core.Bool.{Bool, true, false, _&&_}
 use mathlib.Core.List.{List, [], _∷_, _++_, map}
-use Prim.Native.Nat.{ℕ, _+_, _≤_, min}
+use Prim.Native.Nat.{ℕ, _+_, _^_, _≤_, _<_, min}
 use native.Mathlib.Numerals.{add-one}
 use native.Mathlib.Omega.{arith}
 use lib.Dec.{leb, ltb}
 use borrow.Author.Tests.{le-leb, lt-leb, leb-true, leb-false}
 use Rattle.meaning.specs.Answers.{amount}
 use Rattle.grammar.specs.Faults.{Found, fault, worse, unless, worst, rising}
-use Rattle.forms.specs.declared.Found.the-variants.{Fine}
-use Rattle.forms.specs.declared.faults.Tally.{Tally}
-use Rattle.forms.specs.Tallies.{foundOf, Said, floorOf, weightOf, allFaults, Counted}
-use Rattle.forms.proofs.Ranks.{rank, by-rank, rank-worse, rank-and, rank-within, worst-snoc}
+use Rattle.faults.specs.declared.Found.the-variants.{Fine}
+use Rattle.faults.specs.declared.Tally.{Tally}
+use Rattle.faults.specs.CodedFaults.{foundOf}
+use Rattle.forms.specs.Tallies.{Said, floorOf, weightOf, allFaults}
+use Rattle.faults.specs.Tallies.{plusWord, Counted}
+use Rattle.faults.proofs.Ranks.{rank, by-rank, rank-worse, rank-and, rank-within, worst-snoc}
 
 -- the lists, one entry longer
 map-snoc : {A B : Type 0} (f : A → B) (xs : List A) (x : A) → map f (xs ++ (x ∷ [])) ≡ map f xs ++ (f x ∷ [])
@@ -74,6 +76,13 @@ pub record Tallied (weight : Said → ℕ) (limit : ℕ) (es : List Said) (t : T
   pub floors : t .floor ≡ floorOf (map (λ e. e .first) es)
   pub totals : t .total ≡ min (limit + 1) (weightOf weight es)
 
+-- Small numbers, so that no sum of them leaves a word.
+pub record Modest (t : Tally) (key weight limit : ℕ) : Type 0 where
+  pub keys : key < 2 ^ 63
+  pub totals : t .total ≤ limit + 1
+  pub weights : weight ≤ 99
+  pub limits : limit ≤ 99
+
 module _ (weight : Said → ℕ) (limit : ℕ) where
   pub tallied-none : Tallied weight limit [] (record { fault = Fine; floor = 0; total = 0 })
   unfolding allFaults worst rising weightOf floorOf
@@ -93,11 +102,14 @@ module _ (weight : Said → ℕ) (limit : ℕ) where
       (rank-and (rising (map (λ d. d .first) es)) (leb (floorOf (map (λ d. d .first) es)) (e .first)))
       (rank-within (weightOf weight es) (weightOf weight es + weight e) limit (omega arith)))
 
-  pub tallied-more : {es : List Said} {t r : Tally} (e : Said) → Tallied weight limit es t → Counted t (e .found) (e .first) (weight e) limit r
-      → Tallied weight limit (es ++ (e ∷ [])) r
-  tallied-more {es} {t} {r} e p c =
+  pub tallied-more : {es : List Said} {t r : Tally} (e : Said) → Tallied weight limit es t → Modest t (e .first) (weight e) limit
+      → Counted t (e .found) (e .first) (weight e) limit r → Tallied weight limit (es ++ (e ∷ [])) r
+  tallied-more {es} {t} {r} e p m c =
+      let sum : plusWord (t .total) (weight e) ≡ t .total + weight e = omega (arith, m .totals, m .weights, m .limits) in
+      let most : plusWord limit 1 ≡ limit + 1 = omega (arith, m .limits) in
+      let next : plusWord (e .first) 1 ≡ e .first + 1 = omega (arith, m .keys) in
       record {
-        faults = c .faults ∙ rw (p .faults, p .floors, p .totals, kept-within limit (weightOf weight es) (weight e)) (sym (all-snoc es e));
-        floors = c .floors ∙ sym (ap floorOf (map-snoc (λ d. d .first) es e) ∙ floor-snoc (map (λ d. d .first) es) (e .first));
-        totals = c .totals ∙ rw (p .totals, weight-snoc weight es e) (kept limit (weightOf weight es) (weight e));
+        faults = c .faults ∙ rw (sum, p .faults, p .floors, p .totals, kept-within limit (weightOf weight es) (weight e)) (sym (all-snoc es e));
+        floors = c .floors ∙ next ∙ sym (ap floorOf (map-snoc (λ d. d .first) es e) ∙ floor-snoc (map (λ d. d .first) es) (e .first));
+        totals = c .totals ∙ rw (most, sum, p .totals, weight-snoc weight es e) (kept limit (weightOf weight es) (weight e));
       }

@@ -7,24 +7,22 @@ use native.Mathlib.Omega.{arith}
 use lib.ListN.{length, drop, length-drop}
 use Rattle.meaning.specs.Bytes.{Text}
 use Rattle.meaning.specs.Descriptions as D
-use Rattle.meaning.specs.Answers.{Fault, form, name, range, amount, operand}
-use Rattle.meaning.proofs.Alike.{alike, alike-through}
+use Rattle.meaning.proofs.Alike.{alike}
 use Rattle.table.specs.declared.Term.{Term}
 use Rattle.table.specs.declared.Order.{Order}
 use Rattle.table.specs.Decoded.{nameOf}
 use Rattle.table.specs.Encoded.{wordOf, termWords, termFor, orderWords, orderFor, filled, slotsFrom}
 use Rattle.grammar.specs.Text.{Past, past, stuck}
 use Rattle.grammar.specs.Forms.{termLine, orderLine}
-use Rattle.grammar.specs.Faults.{Found, fine, fault, termSaid, termFault, orderSaid, orderFault}
-use Rattle.forms.specs.Tallies.{foundOf}
+use Rattle.grammar.specs.Faults.{Found, fine, termSaid, termFault, orderSaid, orderFault}
+use Rattle.faults.specs.CodedFaults.{foundOf}
 use Rattle.forms.specs.Lists.{over}
 use Rattle.forms.specs.Places.{Steps, stepOf, placeOf}
 use Rattle.forms.specs.Terms.{TermRead, TermAnswer}
 use Rattle.forms.specs.Orders.{OrderRead, OrderAnswer}
-use Rattle.forms.specs.declared.Fault as F
-use Rattle.forms.specs.declared.Fault.the-variants.{Form, Name, Range, Amount, Operand}
-use Rattle.forms.specs.declared.Found as G
-use Rattle.forms.specs.declared.Found.the-variants.{Fine, Faulty}
+use Rattle.faults.specs.declared.Found as G
+use Rattle.faults.specs.declared.Found.the-variants.{Fine}
+use Rattle.faults.proofs.Uniqueness.{found-unique}
 use Rattle.forms.specs.declared.Step.{Step}
 use Rattle.forms.specs.declared.Step.the-variants.{To, Stuck}
 use Rattle.forms.specs.declared.TermStep.{TermStep}
@@ -32,30 +30,6 @@ use Rattle.forms.specs.declared.TermStep.the-variants as T
 use Rattle.forms.specs.declared.OrderStep.{OrderStep}
 use Rattle.forms.specs.declared.OrderStep.the-variants as O
 use Rattle.forms.proofs.Looked.{word-name}
-
--- A fault of the code from that of the definition.
-faultBack : Fault → F.Fault
-faultBack form = Form
-faultBack name = Name
-faultBack range = Range
-faultBack amount = Amount
-faultBack operand = Operand
-
-foundBack : Found → G.Found
-foundBack fine = Fine
-foundBack (fault f) = Faulty (faultBack f)
-
-found-back : (f : G.Found) → foundBack (foundOf f) ≡ f
-unfolding foundBack faultBack
-found-back Fine = refl
-found-back (Faulty Form) = refl
-found-back (Faulty Name) = refl
-found-back (Faulty Range) = refl
-found-back (Faulty Amount) = refl
-found-back (Faulty Operand) = refl
-
-pub found-unique : (f g : G.Found) (due : Found) → foundOf f ≡ due → foundOf g ≡ due → f ≡ g
-found-unique f g due p q = alike-through (λ (x : G.Found). foundOf x) foundBack found-back p q
 
 -- Steps of a line: the place is settled by the text from there on, since it lies in the line; the number by what it says.
 place-unique : (line : Text) (m n : ℕ) → m ≤ length line → n ≤ length line → drop m line ≡ drop n line → m ≡ n

@@ -34,6 +34,10 @@ pub record KindFound (line : Text) (due : Past Line) (k next far : ℕ) : Type 0
   pub within : next ≤ length line
   pub reached : far ≤ length line
 
+abbrev pub kindPlace : KindStep → ℕ
+kindPlace (To k next far) = next
+kindPlace (Stuck p) = p
+
 abbrev pub KindRead : Text → Past Line → KindStep → Type 0
 KindRead line due (To k next far) = KindFound line due k next far
 KindRead line due (Stuck p) = stuck (drop p line) ≡ due

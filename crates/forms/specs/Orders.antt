@@ -11,9 +11,9 @@ use Rattle.table.specs.declared.Order.{Order}
 use Rattle.grammar.specs.Text.{Past, past, stuck, onward, ended}
 use Rattle.grammar.specs.Forms.{OrderLine, only, labelList, orderLine}
 use Rattle.grammar.specs.Faults.{fine, orderSaid, orderFault}
-use Rattle.forms.specs.Tallies.{foundOf}
+use Rattle.faults.specs.CodedFaults.{foundOf}
 use Rattle.forms.specs.Lists.{over}
-use Rattle.forms.specs.declared.Found as G
+use Rattle.faults.specs.declared.Found as G
 use Rattle.forms.specs.declared.OrderStep.{OrderStep}
 use Rattle.forms.specs.declared.OrderStep.the-variants as O
 

@@ -7,7 +7,8 @@ use Prim.Native.Nat.{ℕ, _-_, _≤_}
 use lib.ListN.{length, drop}
 use Rattle.meaning.specs.Bytes.{Text}
 use Rattle.grammar.specs.Text.{Past, past, stuck, isDigit}
-use Rattle.forms.specs.Tallies.{foundOf, Said}
+use Rattle.faults.specs.CodedFaults.{foundOf}
+use Rattle.forms.specs.Tallies.{Said}
 use Rattle.forms.specs.declared.labels.Said as C
 use Rattle.forms.specs.declared.labels.SaidStep.{SaidStep}
 use Rattle.forms.specs.declared.labels.SaidStep.the-variants as S

@@ -1,28 +1,10 @@
 -- What the entries of a list or the parts of a label say, one by one and together.
 -- Assumes nothing.
-use mathlib.Core.Path.{_≡_}
 use mathlib.Core.List.{List, [], _∷_, map}
-use Prim.Native.Nat.{ℕ, suc, _+_, _≤_, _<_, _^_, min}
+use Prim.Native.Nat.{ℕ, suc, _+_}
 use lib.Dec.{leb}
-use Rattle.meaning.specs.Answers.{Fault, form, name, range, amount, operand}
-use Rattle.grammar.specs.Faults.{Found, fine, fault, worse, unless, worst, rising}
-use Rattle.forms.specs.declared.Fault as F
-use Rattle.forms.specs.declared.Fault.the-variants.{Form, Name, Range, Amount, Operand}
-use Rattle.forms.specs.declared.Found as G
-use Rattle.forms.specs.declared.Found.the-variants.{Fine, Faulty}
-use Rattle.forms.specs.declared.faults.Tally.{Tally}
-
--- The faults of the code, with document 01's numbers through those of `meaning`.
-abbrev pub faultOf : F.Fault → Fault
-faultOf Form = form
-faultOf Name = name
-faultOf Range = range
-faultOf Amount = amount
-faultOf Operand = operand
-
-abbrev pub foundOf : G.Found → Found
-foundOf Fine = fine
-foundOf (Faulty f) = fault (faultOf f)
+use Rattle.meaning.specs.Answers.{amount}
+use Rattle.grammar.specs.Faults.{Found, worse, unless, worst, rising}
 
 -- An entry's fault, the number by which it is ordered, and a second number.
 pub record Said : Type 0 where
@@ -45,15 +27,3 @@ unfoldable pub allFaults : (Said → ℕ) → ℕ → List Said → Found
 allFaults weight limit es =
     worse (worst (λ e. e .found) es)
     (worse (unless (rising (map (λ e. e .first) es)) amount) (unless (leb (weightOf weight es) limit) amount))
-
--- One entry more.
-pub record Modest (t : Tally) (key weight limit : ℕ) : Type 0 where
-  pub keys : key < 2 ^ 63
-  pub totals : t .total ≤ limit + 1
-  pub weights : weight ≤ 99
-  pub limits : limit ≤ 99
-
-pub record Counted (t : Tally) (found : Found) (key weight limit : ℕ) (r : Tally) : Type 0 where
-  pub faults : foundOf (r .fault) ≡ worse (worse (foundOf (t .fault)) found) (worse (unless (leb (t .floor) key) amount) (unless (leb (t .total + weight) limit) amount))
-  pub floors : r .floor ≡ key + 1
-  pub totals : r .total ≡ min (limit + 1) (t .total + weight)

@@ -16,12 +16,12 @@ use Rattle.forms.specs.declared.lists.ListKind.{ListKind}
 use Rattle.forms.specs.declared.lists.ListKind.the-variants.{Names, Pairs, Rules, Labels}
 use Rattle.table.specs.Encoded.{termWords, termFor, filled, slotsFrom}
 use Rattle.grammar.specs.Faults.{fine, termSaid, wordsOfFault, termFault}
-use Rattle.forms.specs.Tallies.{foundOf}
+use Rattle.faults.specs.CodedFaults.{foundOf}
 use Rattle.forms.specs.Lists.{over}
-use Rattle.forms.specs.declared.Found.the-variants.{Fine}
+use Rattle.faults.specs.declared.Found.the-variants.{Fine}
 use Rattle.forms.specs.declared.TermStep.{TermStep}
 use Rattle.forms.specs.declared.TermStep.the-variants as T
-use Rattle.forms.specs.declared.Found as G
+use Rattle.faults.specs.declared.Found as G
 use Rattle.table.specs.Decoded.{nameOf}
 
 -- A term of numbers alone: there is no name and no list in it that could have a fault.

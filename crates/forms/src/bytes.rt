@@ -9,8 +9,18 @@ ghost use mathlib.Core.Path.{_≡_};
 ghost use lib.Dec.{leb};
 ghost use Rattle.table.specs.Decoded.{nameOf};
 ghost use Rattle.grammar.specs.Text.{onward, literal, byte, starts, sameText, isLower, isDigit, number, word};
-ghost use Rattle.forms.specs.Places.{digitOf, Steps};
+ghost use Rattle.forms.specs.Places.{digitOf, placeOf, Steps};
 use crate::Step;
+
+// Where a step was stuck; of one that read something, the place after it.
+pub fn stuck_at(s: Step) -> usize
+    ensures { λ r. ⌜ r ≡ placeOf s ⌝ }
+{
+    match s {
+        Step::To(_, next) => next,
+        Step::Stuck(p) => p,
+    }
+}
 
 pub fn read_literal(line: &[u8], at: usize, due: &[u8]) -> Step
     requires { ⌜ at ≤ length (now line) ⌝ }

@@ -6,9 +6,10 @@ ghost use Rattle.table.specs.Decoded.{nameOf};
 ghost use Rattle.grammar.specs.Text.{literal};
 ghost use Rattle.grammar.specs.Forms.{ofKind, kinds};
 ghost use Rattle.forms.specs.Places.{Steps};
-ghost use Rattle.forms.specs.Kinds.{KindRead};
+ghost use Rattle.forms.specs.Kinds.{kindPlace, KindRead};
 use crate::Step;
 use crate::bytes::sign_at;
+use crate::bytes::stuck_at;
 
 // A packed word that must stand there as it is.
 fn read_packed(line: &[u8], at: usize, due: u64) -> Step
@@ -55,6 +56,16 @@ pub enum KindStep {
     Stuck(usize),
 }
 
+// The farthest place where a word was stuck, where none stands there; of a kind that was found, the place after its word.
+pub fn kind_stuck_at(s: KindStep) -> usize
+    ensures { λ r. ⌜ r ≡ kindPlace s ⌝ }
+{
+    match s {
+        KindStep::To(_, next, _) => next,
+        KindStep::Stuck(p) => p,
+    }
+}
+
 pub fn most(a: usize, b: usize) -> usize
     ensures { λ r. ⌜ r ≡ max a b ⌝ }
 {
@@ -71,14 +82,11 @@ pub fn find_kind(line: &[u8], at: usize) -> KindStep
     let mut k = 0;
     while k < 17 {
         let word = read_packed(line, at, words[k]);
-        match word {
-            Step::To(_, next) => {
-                return KindStep::To(k, next, far);
-            }
-            Step::Stuck(p) => {
-                far = most(far, p);
-            }
+        // This is a search and no reading step: a word that reads ends it, and one that does not is passed over.
+        if let Step::To(_, next) = word {
+            return KindStep::To(k, next, far);
         }
+        far = most(far, stuck_at(word));
         k += 1;
     }
     KindStep::Stuck(far)

@@ -6,20 +6,21 @@ ghost use lib.ListN.{length, drop};
 ghost use Rattle.table.specs.Decoded.{nameOf};
 ghost use Rattle.grammar.specs.Text.{word};
 ghost use Rattle.grammar.specs.Forms.{part, label};
-ghost use Rattle.forms.specs.Places.{Says};
-ghost use Rattle.forms.specs.Tallies.{foundOf};
+ghost use Rattle.forms.specs.Places.{saidPlace, Says};
+ghost use Rattle.faults.specs.CodedFaults.{foundOf};
 ghost use Rattle.forms.specs.Entries.{seen, nameEntry, partSaid, labelEntry, unlessFaulty, Room};
-use crate::Found;
 use crate::Step;
 use crate::bytes::number_after;
 use crate::bytes::read_word;
 use crate::bytes::sign_at;
-use crate::faults::Tally;
-use crate::faults::amount_unless;
-use crate::faults::counted;
-use crate::faults::worse_of;
+use crate::bytes::stuck_at;
 use crate::names::find_name;
-use crate::names::name_fault;
+use faults::Found;
+use faults::Tally;
+use faults::amount_unless;
+use faults::counted;
+use faults::name_fault;
+use faults::worse_of;
 
 // What an entry of a list or a part of a label says: its fault, the number by which it is ordered, and a second number.
 pub struct Said {
@@ -33,24 +34,32 @@ pub enum SaidStep {
     Stuck(usize),
 }
 
+// Where the reading of an entry was stuck; of one that was read, the place after it.
+pub fn said_stuck_at(s: SaidStep) -> usize
+    ensures { λ r. ⌜ r ≡ saidPlace s ⌝ }
+{
+    match s {
+        SaidStep::To(_, next) => next,
+        SaidStep::Stuck(p) => p,
+    }
+}
+
 // A name: its number.
 pub fn read_name(line: &[u8], at: usize, names: &[u64]) -> SaidStep
     requires { ⌜ at ≤ length (now line) ⌝ }
     ensures { λ r. ⌜ Says (now (line .entry)) at r (seen (nameEntry (map (nameOf 8) (now (names .entry)))) word (drop at (now (line .entry)))) ⌝ }
 {
     let name = read_word(line, at);
-    match name {
-        Step::Stuck(p) => SaidStep::Stuck(p),
-        Step::To(w, next) => {
-            let n = find_name(names, w);
-            let said = Said {
-                fault: name_fault(n, names.len()),
-                first: n as u64,
-                second: 0,
-            };
-            SaidStep::To(said, next)
-        }
-    }
+    let Step::To(w, next) = name else {
+        return SaidStep::Stuck(stuck_at(name));
+    };
+    let n = find_name(names, w);
+    let said = Said {
+        fault: name_fault(n, names.len()),
+        first: n as u64,
+        second: 0,
+    };
+    SaidStep::To(said, next)
 }
 
 // A part: its name's number and its count.
@@ -63,19 +72,17 @@ fn read_part(line: &[u8], at: usize, names: &[u64]) -> SaidStep
         return name;
     };
     let count = number_after(line, after, b':');
-    match count {
-        Step::Stuck(p) => SaidStep::Stuck(p),
-        Step::To(times, next) => {
-            let known = n.fault;
-            let some = amount_unless(1 <= times);
-            let said = Said {
-                fault: worse_of(known, some),
-                first: n.first,
-                second: times,
-            };
-            SaidStep::To(said, next)
-        }
-    }
+    let Step::To(times, next) = count else {
+        return SaidStep::Stuck(stuck_at(count));
+    };
+    let known = n.fault;
+    let some = amount_unless(1 <= times);
+    let said = Said {
+        fault: worse_of(known, some),
+        first: n.first,
+        second: times,
+    };
+    SaidStep::To(said, next)
 }
 
 // The number of a label with a part more, as long as there is no fault.

@@ -12,17 +12,17 @@ ghost use Rattle.forms.specs.Places.{saidPlace, Says};
 ghost use Rattle.forms.specs.Sides.{Enough, Sided};
 ghost use Rattle.forms.specs.Entries.{seen, pairEntry, ruleEntry};
 ghost use Rattle.forms.specs.Lists.{entryOf, wordCount, entryWord, weightFor, limitFor, entryStored, listOf, takesNone, wholeList, ListRead};
-use crate::Found;
 use crate::bytes::rest_is;
 use crate::bytes::sign_at;
-use crate::faults::Tally;
-use crate::faults::amount_unless;
-use crate::faults::counted;
-use crate::faults::worse_of;
 use crate::labels::Said;
 use crate::labels::SaidStep;
 use crate::labels::read_label;
 use crate::labels::read_name;
+use faults::Found;
+use faults::Tally;
+use faults::amount_unless;
+use faults::counted;
+use faults::worse_of;
 
 pub enum ListKind {
     Names,

@@ -2,12 +2,7 @@
 ghost use mathlib.Core.Path.{_≡_};
 ghost use mathlib.Core.List.{map};
 ghost use Rattle.table.specs.Decoded.{nameOf};
-ghost use Rattle.grammar.specs.Faults.{unless, nameNumber};
-ghost use Rattle.forms.specs.Tallies.{foundOf};
-ghost use Rattle.meaning.specs.Answers.{name};
-ghost use lib.Dec.{ltb};
-use crate::Fault;
-use crate::Found;
+ghost use Rattle.grammar.specs.Faults.{nameNumber};
 
 // The number of a name among those given; a name that is not there has the number after the last.
 pub fn find_name(names: &[u64], w: u64) -> usize
@@ -21,13 +16,4 @@ pub fn find_name(names: &[u64], w: u64) -> usize
         i += 1;
     }
     i
-}
-
-pub fn name_fault(n: usize, names: usize) -> Found
-    ensures { λ r. ⌜ foundOf r ≡ unless (ltb n names) name ⌝ }
-{
-    if n < names {
-        return Found::Fine;
-    }
-    Found::Faulty(Fault::Name)
 }

@@ -4,14 +4,18 @@ ghost use mathlib.Core.List.{map};
 ghost use lib.ListN.{length, drop};
 ghost use Rattle.table.specs.Decoded.{nameOf};
 ghost use Rattle.forms.specs.Orders.{OrderDue, onlyThese, OrderAnswer};
-use crate::Found;
+use crate::LINE_BYTES;
 use crate::OrderStep;
 use crate::Step;
 use crate::bytes::read_literal;
 use crate::bytes::rest_is;
+use crate::bytes::stuck_at;
 use crate::labels::SaidStep;
+use crate::labels::said_stuck_at;
 use crate::lists::ListKind;
 use crate::lists::read_whole;
+use faults::Found;
+use table::NAMES;
 use table::Order;
 use table::Place;
 
@@ -23,40 +27,36 @@ fn read_labels(line: &[u8], at: usize, names: &[u64], store: &mut [u64]) -> Orde
     ensures { λ r. ⌜ OrderDue (map (nameOf 8) (now (names .entry))) (now (line .entry)) (onlyThese (drop at (now (line .entry)))) (now (store .entry)) (now (store .exit)) r ⌝ }
 {
     let list = read_whole(ListKind::Labels, line, at, names, store);
-    match list {
-        SaidStep::Stuck(p) => OrderStep::Stuck(p),
-        SaidStep::To(said, next) => {
-            if next < line.len() {
-                return OrderStep::Stuck(next);
-            }
-            let place = Place {
-                at: ORDER_AT,
-                entries: said.first as usize,
-            };
-            let fault = said.fault;
-            OrderStep::To(Order::Only(place), fault)
-        }
+    let SaidStep::To(said, next) = list else {
+        return OrderStep::Stuck(said_stuck_at(list));
+    };
+    if next < line.len() {
+        return OrderStep::Stuck(next);
     }
+    let place = Place {
+        at: ORDER_AT,
+        entries: said.first as usize,
+    };
+    let fault = said.fault;
+    OrderStep::To(Order::Only(place), fault)
 }
 
 // The store is the part of the list store that belongs to the order.
 pub fn read_order(line: &[u8], names: &[u64], store: &mut [u64]) -> OrderStep
     ensures { λ r. ⌜ OrderAnswer (now (names .entry)) (now (line .entry)) (now (store .entry)) (now (store .exit)) r ⌝ }
 {
-    if 12 < names.len() {
+    if NAMES < names.len() {
         return OrderStep::Stuck(0);
     }
-    if 8192 < line.len() {
+    if LINE_BYTES < line.len() {
         return OrderStep::Stuck(0);
     }
     let key = read_literal(line, 0, b"order=");
-    match key {
-        Step::Stuck(p) => OrderStep::Stuck(p),
-        Step::To(_, at) => {
-            if rest_is(line, at, b"all") {
-                return OrderStep::To(Order::All, Found::Fine);
-            }
-            read_labels(line, at, names, store)
-        }
+    let Step::To(_, at) = key else {
+        return OrderStep::Stuck(stuck_at(key));
+    };
+    if rest_is(line, at, b"all") {
+        return OrderStep::To(Order::All, Found::Fine);
     }
+    read_labels(line, at, names, store)
 }

@@ -12,25 +12,31 @@ ghost use Rattle.grammar.specs.Faults.{bothBelow, inRange, worse, unless, opera
 ghost use Rattle.forms.specs.Terms.{PlainRead, madeOf, LineRead, Storeless, listKind, contents, listed, bareSlot, TermAnswer};
 ghost use Rattle.meaning.specs.Answers.{range, operand};
 ghost use Rattle.meaning.specs.Descriptions.{delta};
-ghost use Rattle.forms.specs.Tallies.{foundOf};
+ghost use Rattle.faults.specs.CodedFaults.{foundOf};
 ghost use Rattle.forms.specs.Kinds.{restOf, wrapOf, fartherStep};
-use crate::Fault;
-use crate::Found;
+use crate::LINE_BYTES;
 use crate::Step;
 use crate::TermStep;
 use crate::bytes::number_after;
 use crate::bytes::read_literal;
 use crate::bytes::sign_at;
-use crate::faults::found_unless;
-use crate::faults::worse_of;
+use crate::bytes::stuck_at;
 use crate::kinds::KindStep;
 use crate::kinds::find_kind;
+use crate::kinds::kind_stuck_at;
 use crate::kinds::most;
 use crate::labels::SaidStep;
 use crate::labels::read_name;
+use crate::labels::said_stuck_at;
 use crate::lists::ListKind;
 use crate::lists::read_whole;
+use faults::Fault;
+use faults::Found;
+use faults::found_unless;
+use faults::worse_of;
+use table::NAMES;
 use table::Place;
+use table::TERMS;
 use table::Term;
 use table::packing::operator;
 use table::packing::plain;
@@ -53,10 +59,10 @@ fn read_last(k: usize, t: usize, line: &[u8], at: usize) -> TermStep
     ensures { λ r. ⌜ PlainRead (now (line .entry)) (ofOne (madeOf k t) (drop at (now (line .entry)))) r ⌝ }
 {
     let last = number_after(line, at, b' ');
-    match last {
-        Step::To(u, next) => finish(line, next, plain(k, t, u as usize)),
-        Step::Stuck(p) => TermStep::Stuck(p),
-    }
+    let Step::To(u, next) = last else {
+        return TermStep::Stuck(stuck_at(last));
+    };
+    finish(line, next, plain(k, t, u as usize))
 }
 
 fn read_two(k: usize, line: &[u8], at: usize) -> TermStep
@@ -64,10 +70,10 @@ fn read_two(k: usize, line: &[u8], at: usize) -> TermStep
     ensures { λ r. ⌜ PlainRead (now (line .entry)) (ofTwo (madeOf k) (drop at (now (line .entry)))) r ⌝ }
 {
     let first = number_after(line, at, b' ');
-    match first {
-        Step::To(t, after) => read_last(k, t as usize, line, after),
-        Step::Stuck(p) => TermStep::Stuck(p),
-    }
+    let Step::To(t, after) = first else {
+        return TermStep::Stuck(stuck_at(first));
+    };
+    read_last(k, t as usize, line, after)
 }
 
 fn read_act(line: &[u8], at: usize, names: &[u64], n: usize) -> TermStep
@@ -78,16 +84,14 @@ fn read_act(line: &[u8], at: usize, names: &[u64], n: usize) -> TermStep
         return TermStep::Stuck(at);
     }
     let name = read_name(line, at + 1, names);
-    match name {
-        SaidStep::Stuck(p) => TermStep::Stuck(p),
-        SaidStep::To(said, next) => {
-            if next < line.len() {
-                return TermStep::Stuck(next);
-            }
-            let fault = said.fault;
-            TermStep::To(Term::Act(said.first as usize), fault)
-        }
+    let SaidStep::To(said, next) = name else {
+        return TermStep::Stuck(said_stuck_at(name));
+    };
+    if next < line.len() {
+        return TermStep::Stuck(next);
     }
+    let fault = said.fault;
+    TermStep::To(Term::Act(said.first as usize), fault)
 }
 
 // What the list of a kind is of, by the kind's place.
@@ -115,32 +119,28 @@ fn read_wrap(
     ensures { λ r. ⌜ LineRead (map (nameOf 8) (now (names .entry))) n (now (line .entry)) (ofList (contents (wrapOf k)) (listed (wrapOf k)) (drop at (now (line .entry)))) (now (store .entry)) (now (store .exit)) r ⌝ }
 {
     let operand = number_after(line, at, b' ');
-    match operand {
-        Step::Stuck(p) => TermStep::Stuck(p),
-        Step::To(t, after) => {
-            if !sign_at(line, after, b' ') {
-                return TermStep::Stuck(after);
-            }
-            let kind = list_kind(k);
-            let list = read_whole(kind, line, after + 1, names, store);
-            match list {
-                SaidStep::Stuck(p) => TermStep::Stuck(p),
-                SaidStep::To(said, next) => {
-                    if next < line.len() {
-                        return TermStep::Stuck(next);
-                    }
-                    let first = 32 * n;
-                    let place = Place {
-                        at: first,
-                        entries: said.first as usize,
-                    };
-                    let fault = said.fault;
-                    let with_list = operator(k, place);
-                    TermStep::To(Term::Wrap(with_list, t as usize), fault)
-                }
-            }
-        }
+    let Step::To(t, after) = operand else {
+        return TermStep::Stuck(stuck_at(operand));
+    };
+    if !sign_at(line, after, b' ') {
+        return TermStep::Stuck(after);
     }
+    let kind = list_kind(k);
+    let list = read_whole(kind, line, after + 1, names, store);
+    let SaidStep::To(said, next) = list else {
+        return TermStep::Stuck(said_stuck_at(list));
+    };
+    if next < line.len() {
+        return TermStep::Stuck(next);
+    }
+    let first = 32 * n;
+    let place = Place {
+        at: first,
+        entries: said.first as usize,
+    };
+    let fault = said.fault;
+    let with_list = operator(k, place);
+    TermStep::To(Term::Wrap(with_list, t as usize), fault)
 }
 
 fn both_below(t: usize, u: usize, n: usize) -> bool
@@ -221,18 +221,14 @@ fn read_line(line: &[u8], names: &[u64], n: usize, store: &mut [u64]) -> TermSte
     ensures { λ r. ⌜ LineRead (map (nameOf 8) (now (names .entry))) n (now (line .entry)) (termLine (now (line .entry))) (now (store .entry)) (now (store .exit)) r ⌝ }
 {
     let key = read_literal(line, 0, b"term=");
-    match key {
-        Step::Stuck(p) => TermStep::Stuck(p),
-        Step::To(_, at) => {
-            let kind = find_kind(line, at);
-            match kind {
-                KindStep::Stuck(p) => TermStep::Stuck(p),
-                KindStep::To(k, next, far) => {
-                    farthest(read_kind(line, next, k, names, n, store), far)
-                }
-            }
-        }
-    }
+    let Step::To(_, at) = key else {
+        return TermStep::Stuck(stuck_at(key));
+    };
+    let kind = find_kind(line, at);
+    let KindStep::To(k, next, far) = kind else {
+        return TermStep::Stuck(kind_stuck_at(kind));
+    };
+    farthest(read_kind(line, next, k, names, n, store), far)
 }
 
 // Whether the term at a number is a multi-action; past the slots there is none.
@@ -274,13 +270,13 @@ pub fn read_term(
 ) -> TermStep
     ensures { λ r. ⌜ TermAnswer (now (names .entry)) equations (now (slots .entry)) n (now (line .entry)) (now (store .entry)) (now (store .exit)) r ⌝ }
 {
-    if 12 < names.len() {
+    if NAMES < names.len() {
         return TermStep::Stuck(0);
     }
-    if 8192 < line.len() {
+    if LINE_BYTES < line.len() {
         return TermStep::Stuck(0);
     }
-    if 96 <= n {
+    if TERMS <= n {
         return TermStep::Stuck(0);
     }
     let said = read_line(line, names, n, store);

@@ -127,7 +127,8 @@ kinds =
     ∷ kind (ascii "allow") (ofList labelList allow)
     ∷ []
 
--- the farther of two places in one text
+-- The farther of two places in one text. It serves the column of a fault (document 02, 2026-04), the byte at which no line that is
+-- due there goes on; whether a line is refused does not depend on it.
 abbrev pub shorter : Bool → Text → Text → Text
 shorter true s t = s
 shorter false s t = t

@@ -8,6 +8,7 @@ use lib.Dec.{leb, eqb}
 use lib.ListN.{length}
 use Rattle.meaning.specs.Bytes.{Text}
 
+-- The text in `stuck` serves the column of a fault too (document 02, 2026-04); whether a line is refused does not depend on it.
 pub data Past (A : Type 0) : Type 0 where
   past : A → Text → Past A
   stuck : Text → Past A

@@ -17,10 +17,10 @@ use Rattle.forms.specs.Lists.{over}
 use Rattle.grammar.specs.Text.{Past, stuck}
 use Rattle.grammar.specs.Forms.{Line, termLine, OrderLine, orderLine}
 use Rattle.grammar.specs.Faults.{Found, fine, fault, termSaid, termFault, orderSaid, orderFault}
-use Rattle.forms.specs.Tallies.{faultOf, foundOf}
-use Rattle.forms.specs.declared.Fault as F
-use Rattle.forms.specs.declared.Found as G
-use Rattle.forms.specs.declared.Found.the-variants.{Fine, Faulty}
+use Rattle.faults.specs.CodedFaults.{faultOf, foundOf}
+use Rattle.faults.specs.declared.Fault as F
+use Rattle.faults.specs.declared.Found as G
+use Rattle.faults.specs.declared.Found.the-variants.{Fine, Faulty}
 use Rattle.forms.specs.Terms.{TermTaken}
 use Rattle.forms.specs.Orders.{OrderTaken}
 use Rattle.grammar.specs.Reading.{Taken, taken, faulty, takenUnless, formed, takeTerm, takeOrder}

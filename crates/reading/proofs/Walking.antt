@@ -10,8 +10,8 @@ use Rattle.meaning.specs.Bytes.{Text}
 use Rattle.meaning.specs.Answers.{Fault, form}
 use Rattle.grammar.specs.Reading.{Taken, taken, firstLine, Walk, reached, halted, walk, afterLine, lineWalk, oneLine, lines}
 use Rattle.reading.specs.Lines.{LineEnd}
-use Rattle.forms.specs.Tallies.{faultOf}
-use Rattle.forms.specs.declared.Fault as F
+use Rattle.faults.specs.CodedFaults.{faultOf}
+use Rattle.faults.specs.declared.Fault as F
 use Rattle.reading.specs.Walks.{Spot, Walks, NumberTo}
 use Rattle.reading.specs.declared.Progress.{Progress}
 use Rattle.reading.specs.declared.Progress.the-variants.{To, Bad}

@@ -20,10 +20,10 @@ use Rattle.table.specs.Encoded.{filled, wordOf, slotsFrom, termsWords, orderWor
 use Rattle.table.proofs.Filled.{filled-length, filled-two, filled-front}
 use Rattle.grammar.specs.Text.{Past, past, stuck}
 use Rattle.grammar.specs.Forms.{countLine}
-use Rattle.forms.specs.Tallies.{faultOf}
+use Rattle.faults.specs.CodedFaults.{faultOf}
 use Rattle.forms.specs.Lists.{over}
-use Rattle.forms.specs.declared.Fault.{Fault}
-use Rattle.forms.specs.declared.Fault.the-variants.{Form, Name, Range, Amount, Operand}
+use Rattle.faults.specs.declared.Fault.{Fault}
+use Rattle.faults.specs.declared.Fault.the-variants.{Form, Name, Range, Amount, Operand}
 use Rattle.forms.proofs.Rests.{rest-cons}
 use Rattle.forms.proofs.Looked.{word-name}
 use Rattle.grammar.specs.Reading.{takenIf, formed, takeNumber, nameCount, equationCount, termCount, Cut, cut, noLine, firstLine, Walk, reached, halted, walk, afterLine, lineWalk, oneLine, read, badLine, Whole, described}

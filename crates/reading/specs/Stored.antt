@@ -12,8 +12,8 @@ use Rattle.table.specs.declared.Order.the-variants.{All}
 use Rattle.table.specs.declared.Table.{Table}
 use Rattle.table.specs.Decoded.{nameOf}
 use Rattle.table.specs.Encoded.{filled, termsWords, tableOf, blank, orderFor, storeOf}
-use Rattle.forms.specs.declared.Fault as F
-use Rattle.forms.specs.declared.Fault.the-variants.{Form, Name, Range, Amount, Operand}
+use Rattle.faults.specs.declared.Fault as F
+use Rattle.faults.specs.declared.Fault.the-variants.{Form, Name, Range, Amount, Operand}
 use Rattle.grammar.specs.Reading.{Reading, read, overlong, badLine, readText}
 use Rattle.reading.specs.declared.Answer.{Answer}
 use Rattle.reading.specs.declared.Answer.the-variants.{Fine, TooLong, Bad}
@@ -21,7 +21,7 @@ use Rattle.reading.specs.declared.Read.{Read}
 use Rattle.reading.specs.declared.Progress.{Progress}
 use Rattle.reading.specs.declared.Progress.the-variants as P
 use Rattle.reading.specs.declared.Progress.the-variants.{To}
-use Rattle.forms.specs.Tallies.{faultOf}
+use Rattle.faults.specs.CodedFaults.{faultOf}
 use Rattle.meaning.specs.Descriptions.{Description}
 
 abbrev pub faultFor : Fault → F.Fault

@@ -12,7 +12,7 @@ use Rattle.table.specs.declared.Term.{Term}
 use Rattle.table.specs.declared.Order.{Order}
 use Rattle.table.specs.Decoded.{nameOf}
 use Rattle.table.specs.Encoded.{filled, termWords, termFor, slotsFrom, termsWords, orderWords, orderFor}
-use Rattle.forms.specs.Tallies.{faultOf}
+use Rattle.faults.specs.CodedFaults.{faultOf}
 use Rattle.forms.specs.Lists.{over}
 use Rattle.grammar.specs.Reading.{Walk, reached, halted}
 use Rattle.reading.specs.declared.Progress.{Progress}

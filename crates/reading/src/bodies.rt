@@ -5,7 +5,7 @@ ghost use Rattle.grammar.specs.Reading.{takeBody, lines};
 ghost use Rattle.reading.specs.Walks.{Spot, Walks};
 use crate::Progress;
 use crate::lines::take_number;
-use forms::Fault;
+use faults::Fault;
 
 // As many bodies as there is room for.
 pub fn take_bodies(

@@ -9,7 +9,7 @@ mod whole;
 ghost use Rattle.reading.specs.Stored.{Stored};
 use crate::whole::read_lines;
 use crate::whole::refused;
-use forms::Fault;
+use faults::Fault;
 use table::Order;
 use table::STORE_WORDS;
 use table::Table;

@@ -1,11 +1,11 @@
 // Where a line of the text ends, and the lines with a number.
 use crate::Progress;
-use forms::Fault;
+use faults::Fault;
 use forms::Step;
 use forms::lines::read_count;
 ghost use Prim.Native.Nat.{_≤_};
 ghost use lib.ListN.{length, drop};
-ghost use Rattle.forms.specs.Tallies.{faultOf};
+ghost use Rattle.faults.specs.CodedFaults.{faultOf};
 ghost use Rattle.grammar.specs.Reading.{firstLine, oneLine, takeNumber};
 ghost use Rattle.reading.specs.Lines.{LineEnd};
 ghost use Rattle.reading.specs.Walks.{between, Spot, NumberTo};

@@ -7,7 +7,7 @@ ghost use Rattle.grammar.specs.Reading.{isFree, takeName, oneLine, lines};
 ghost use Rattle.reading.specs.Walks.{Spot, Walks, NamesTo};
 use crate::Progress;
 use crate::lines::line_end;
-use forms::Fault;
+use faults::Fault;
 use forms::Step;
 use forms::lines::read_name_line;
 use forms::names::find_name;

@@ -19,7 +19,7 @@ use crate::orders::OrderProgress;
 use crate::orders::fault_of;
 use crate::orders::take_order;
 use crate::terms::take_terms;
-use forms::Fault;
+use faults::Fault;
 use table::Order;
 use table::Table;
 use table::empty;

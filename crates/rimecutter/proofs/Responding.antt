@@ -18,8 +18,8 @@ use Rattle.grammar.proofs.Acceptance.{accepted→}
 use Rattle.table.specs.Encoded.{tableOf, storeOf}
 use Rattle.table.specs.Areas.{zeroed}
 use Rattle.table.proofs.Zeroed.{zeroed-front}
-use Rattle.forms.specs.Tallies.{faultOf}
-use Rattle.forms.specs.declared.Fault as F
+use Rattle.faults.specs.CodedFaults.{faultOf}
+use Rattle.faults.specs.declared.Fault as F
 use Rattle.rimecutter.specs.declared.Answer.{Answer}
 use Rattle.rimecutter.specs.declared.Answer.the-variants as C
 use Rattle.rimecutter.specs.declared.calls.Response.{Response}

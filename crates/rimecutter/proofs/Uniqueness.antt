@@ -5,7 +5,7 @@ use mathlib.Core.List.{List}
 use Prim.Native.Nat.{ℕ, zero, suc}
 use Rattle.meaning.specs.Answers.{Verdict}
 use Rattle.meaning.proofs.Alike.{alike, alike-through}
-use Rattle.forms.specs.declared.Fault.the-variants.{Form, Name, Range, Amount, Operand}
+use Rattle.faults.specs.declared.Fault.the-variants.{Form, Name, Range, Amount, Operand}
 use Rattle.rimecutter.specs.declared.Answer.{Answer}
 use Rattle.rimecutter.specs.declared.Answer.the-variants.{Listed, TooLong, Bad, TooLarge}
 use Rattle.rimecutter.specs.Calls.{Call, verdictOf}

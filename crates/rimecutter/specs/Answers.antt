@@ -5,7 +5,7 @@ use mathlib.Core.List.{List, map}
 use Prim.Native.Nat.{ℕ}
 use Rattle.meaning.specs.Answers as A
 use Rattle.meaning.specs.Answers.{tooLong, inLine, large, Verdict}
-use Rattle.forms.specs.Tallies.{faultOf}
+use Rattle.faults.specs.CodedFaults.{faultOf}
 use Rattle.table.specs.Encoded.{filled, wordOf}
 use Rattle.rimecutter.specs.declared.Answer.{Answer}
 use Rattle.rimecutter.specs.declared.Answer.the-variants.{Listed, TooLong, Bad, TooLarge}

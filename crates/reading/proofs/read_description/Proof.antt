@@ -8,7 +8,7 @@ use lib.Seq.{take-at, drop-at, length-take-le}
 use Rattle.table.specs.Encoded.{filled}
 use Rattle.table.proofs.Filled.{filled-length}
 use Rattle.table.proofs.Zeroed.{zeroed-whole}
-use Rattle.forms.proofs.Rests.{asks-nothing}
+use Rattle.faults.proofs.Calls.{asks-nothing}
 use Rattle.reading.proofs.Stores.{text-long, room-short, both-fit, refused-first, fine-stored, bad-stored, not-fine}
 use Rattle.reading.proofs.read_description.Statement.{statement}
 use Rattle.reading.proofs.read_description.Tie as tie

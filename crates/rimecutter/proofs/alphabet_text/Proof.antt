@@ -5,7 +5,7 @@ use native.Mathlib.Omega.{arith}
 use lib.ListN.{length-take}
 use Prim.Native.Nat.{ℕ}
 use Rattle.grammar.specs.Printed.{refusedText}
-use Rattle.forms.specs.Tallies.{faultOf}
+use Rattle.faults.specs.CodedFaults.{faultOf}
 use Rattle.rimecutter.specs.Calls.{call, textOf}
 use Rattle.rimecutter.specs.declared.Answer.the-variants.{TooLong, Bad, TooLarge}
 use Rattle.rimecutter.proofs.Texts.{listing, refusal, printed, faults-numbered}

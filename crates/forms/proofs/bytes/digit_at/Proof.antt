@@ -3,7 +3,8 @@
 use mathlib.Core.Path.{sym, _∙_}
 use native.Mathlib.Omega.{arith}
 use borrow.Author.Tests.{not-true, not-false}
-use Rattle.forms.proofs.Rests.{asks-nothing, digit-none, digit-other, digit-here, digit-low}
+use Rattle.faults.proofs.Calls.{asks-nothing}
+use Rattle.forms.proofs.Rests.{digit-none, digit-other, digit-here, digit-low}
 use Rattle.forms.proofs.bytes.digit_at.Statement.{statement}
 use Rattle.forms.proofs.bytes.digit_at.Tie as tie
 

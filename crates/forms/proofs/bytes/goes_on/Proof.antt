@@ -2,7 +2,7 @@
 -- Assumes nothing.
 use mathlib.Core.Path.{sym, _∙_}
 use Rattle.grammar.specs.Text.{isLower, isDigit}
-use Rattle.forms.proofs.Rests.{asks-nothing}
+use Rattle.faults.proofs.Calls.{asks-nothing}
 use Rattle.forms.proofs.bytes.goes_on.Statement.{statement}
 use Rattle.forms.proofs.bytes.goes_on.Tie as tie
 

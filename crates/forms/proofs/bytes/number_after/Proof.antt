@@ -3,7 +3,8 @@
 use mathlib.Core.Path.{sym, _∙_}
 use native.Mathlib.Omega.{arith}
 use borrow.Author.Tests.{not-true, not-false}
-use Rattle.forms.proofs.Rests.{asks-nothing, sign-within}
+use Rattle.faults.proofs.Calls.{asks-nothing}
+use Rattle.forms.proofs.Rests.{sign-within}
 use Rattle.forms.proofs.Steps.{no-sign, past-sign}
 use Rattle.forms.proofs.bytes.number_after.Statement.{statement}
 use Rattle.forms.proofs.bytes.number_after.Tie as tie

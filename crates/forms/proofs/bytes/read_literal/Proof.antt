@@ -6,7 +6,8 @@ use native.Mathlib.Omega.{arith}
 use native.Mathlib.Nat.{le-refl}
 use Prim.Native.Nat.{_-_}
 use lib.ListN.{length, drop, drop-of-length-le}
-use Rattle.forms.proofs.Rests.{asks-nothing, rest-cons, Spelling, spelled-other, spelled-more, spelled-all}
+use Rattle.faults.proofs.Calls.{asks-nothing}
+use Rattle.forms.proofs.Rests.{rest-cons, Spelling, spelled-other, spelled-more, spelled-all}
 use Rattle.forms.proofs.bytes.read_literal.Statement.{statement}
 use Rattle.forms.proofs.bytes.read_literal.Tie as tie
 

@@ -1,7 +1,8 @@
 -- `forms::bytes::read_number` meets its contract: by its first digit and the one after it.
 -- Assumes nothing.
 use native.Mathlib.Omega.{arith}
-use Rattle.forms.proofs.Rests.{asks-nothing, number-none, first-within, zero-read, one-read, two-read}
+use Rattle.faults.proofs.Calls.{asks-nothing}
+use Rattle.forms.proofs.Rests.{number-none, first-within, zero-read, one-read, two-read}
 use Rattle.forms.proofs.bytes.read_number.Statement.{statement}
 use Rattle.forms.proofs.bytes.read_number.Tie as tie
 

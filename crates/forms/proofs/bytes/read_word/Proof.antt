@@ -7,7 +7,7 @@ use native.Mathlib.Omega.{arith}
 use borrow.Author.Tests.{not-true, not-false}
 use lib.Dec.{lit<}
 use lib.ListN.{getD, take, drop}
-use Rattle.forms.proofs.Rests.{asks-nothing}
+use Rattle.faults.proofs.Calls.{asks-nothing}
 use Rattle.forms.proofs.Words.{word-none, word-other, on-full, on-none, on-other, Worded, worded-start, worded-end, worded-more}
 use Rattle.forms.proofs.bytes.read_word.Statement.{statement}
 use Rattle.forms.proofs.bytes.read_word.Tie as tie

@@ -2,7 +2,8 @@
 -- Assumes nothing.
 use Prim.Native.Nat.{_-_}
 use native.Mathlib.Omega.{arith}
-use Rattle.forms.proofs.Rests.{asks-nothing}
+use Rattle.faults.proofs.Calls.{asks-nothing}
+use Rattle.forms.proofs.Steps.{stuck-there}
 use Rattle.forms.proofs.Kinded.{Sought, sought-none, sought-found, sought-more, sought-all}
 use Rattle.forms.proofs.kinds.find_kind.Statement.{statement}
 use Rattle.forms.proofs.kinds.find_kind.Tie as tie
@@ -28,8 +29,8 @@ read-packed-requires c κs = c .before .before .before .pre .1
 enum-known-word : tie.Need-enum-known-word Inv-loop μ-loop
 enum-known-word c = c .match .keys1
 
-enum-known-word-2 : tie.Need-enum-known-word-2 Inv-loop μ-loop
-enum-known-word-2 c = c .match .keys2
+enum-told : tie.Need-enum-told Inv-loop μ-loop
+enum-told c = c .match .keys2
 
 returns : tie.Need-returns Inv-loop μ-loop
 returns c =
@@ -44,8 +45,10 @@ loop-less c = omega arith
 
 loop-again : tie.Need-loop-again Inv-loop μ-loop
 loop-again c =
-    sought-more _ _ _ _ (c .before .before .before .before .before .before .loop .inv) (c .before .before .before .before .before .loop-test .taken) (c .before .before .before .before .read-packed .ensures)
-    (c .before .before .before .before .before .before .before .before .pre .0) (c .before .before .word2 .given .1) (c .most .ensures)
+    let told = c .before .before in
+    let read = told .before .before in
+    sought-more _ _ _ _ (read .before .before .loop .inv) (read .before .loop-test .taken) (read .read-packed .ensures)
+    (read .before .before .before .before .pre .0) (stuck-there (told .enum-told .given .1) (c .before .stuck-at .ensures)) (c .most .ensures)
 
 returns-2 : tie.Need-returns-2 Inv-loop μ-loop
 returns-2 c = sought-all _ _ _ _ (c .before .loop .inv) (c .loop-test .left)
@@ -53,5 +56,5 @@ returns-2 c = sought-all _ _ _ _ (c .before .loop .inv) (c .loop-test .left)
 pub find-kind-spec : {M : Type 1} → statement M
 find-kind-spec =
     tie.close
-    (tie.spec Inv-loop μ-loop loop-holds mul-read-packed array-read-read-packed read-packed-requires enum-known-word returns enum-known-word-2
-    asks-nothing add-k loop-less loop-again returns-2)
+    (tie.spec Inv-loop μ-loop loop-holds mul-read-packed array-read-read-packed read-packed-requires enum-known-word returns enum-told
+    asks-nothing asks-nothing add-k loop-less loop-again returns-2)

@@ -6,7 +6,8 @@ use native.Mathlib.Omega.{arith}
 use native.Mathlib.Nat.{le-refl}
 use Prim.Native.Nat.{ℕ, _<_, _^_}
 use Rattle.table.specs.Decoded.{nameOf}
-use Rattle.forms.proofs.Rests.{asks-nothing, Spelling, spelled-other, spelled-more, spelled-all}
+use Rattle.faults.proofs.Calls.{asks-nothing}
+use Rattle.forms.proofs.Rests.{Spelling, spelled-other, spelled-more, spelled-all}
 use Rattle.forms.proofs.Kinded.{packed-split, packed-all}
 use Rattle.forms.proofs.kinds.read_packed.Statement.{statement}
 use Rattle.forms.proofs.kinds.read_packed.Tie as tie

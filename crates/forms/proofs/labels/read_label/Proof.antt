@@ -12,7 +12,7 @@ use Rattle.grammar.specs.Forms.{part, dot}
 use Rattle.forms.specs.Tallies.{Said}
 use Rattle.forms.specs.Places.{saidOf}
 use Rattle.forms.specs.Entries.{seen, partSaid}
-use Rattle.forms.proofs.Rests.{asks-nothing}
+use Rattle.faults.proofs.Calls.{asks-nothing}
 use Rattle.forms.proofs.Steps.{said-went, otherwise}
 use Rattle.forms.proofs.Seen.{become, said-same}
 use Rattle.forms.proofs.Tallied.{Tallied, tallied-none, tallied-more}
@@ -53,11 +53,12 @@ returns c =
 known : (c : tie.After-known-told Inv-loop μ-loop) → Known (saidOf (c .before .part .given .0 .0))
 known c = part-known _ (rw length-map (c .before .before .before .before .before .before .before .pre .1)) _ (said-went (c .before .before .before .read-part .ensures) (c .before .part .given .1) .says)
 
-counted-requires : tie.Need-counted-requires Inv-loop μ-loop
-counted-requires c κs = let k = known c in record { keys = omega (arith, k .low); totals = omega (arith, c .before .before .before .before .loop .inv .2 .totals); weights = k .few; limits = omega arith }
-
 tallied : (c : tie.After-counted Inv-loop μ-loop) → Tallied sizes 31 (c .before .before .before .before .before .loop .inv .0 ++ (saidOf (c .before .before .part .given .0 .0) ∷ [])) (c .counted .result)
-tallied c = tallied-more sizes 31 (saidOf (c .before .before .part .given .0 .0)) (c .before .before .before .before .before .loop .inv .2) (c .counted .ensures)
+tallied c =
+    let t = c .before .before .before .before .before .loop .inv .2 in
+    let k = known (c .before) in
+    tallied-more sizes 31 (saidOf (c .before .before .part .given .0 .0)) t
+    (record { keys = omega (arith, k .low); totals = omega (arith, t .totals); weights = k .few; limits = omega arith }) (c .counted .ensures)
 
 added-requires : tie.Need-added-requires Inv-loop μ-loop
 added-requires c κs = room-for (c .before .before .before .before .before .loop .inv .0) (saidOf (c .before .before .part .given .0 .0)) (c .before .before .before .before .before .loop .inv .3) (known (c .before)) (c .before .before .before .before .before .loop .number) (c .before .before .before .before .before .loop .inv .4) (tallied c .faults)
@@ -99,5 +100,5 @@ loop-again c = (
 pub read-label-spec : {M : Type 1} → statement M
 read-label-spec =
     tie.close
-    (tie.spec Inv-loop μ-loop loop-holds read-part-requires enum-known-part enum-told returns counted-requires added-requires asks-nothing returns-2
+    (tie.spec Inv-loop μ-loop loop-holds read-part-requires enum-known-part enum-told returns asks-nothing added-requires asks-nothing returns-2
     add-from loop-less loop-again)

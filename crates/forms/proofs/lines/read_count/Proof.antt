@@ -3,7 +3,7 @@
 use native.Mathlib.Omega.{arith}
 use Rattle.grammar.specs.Text.{number}
 use Rattle.grammar.specs.Forms.{countLine}
-use Rattle.forms.proofs.Rests.{asks-nothing}
+use Rattle.faults.proofs.Calls.{asks-nothing}
 use Rattle.forms.proofs.Steps.{went}
 use Rattle.forms.proofs.Ends.{key-stuck, key-read}
 use Rattle.forms.proofs.lines.read_count.Statement.{statement}

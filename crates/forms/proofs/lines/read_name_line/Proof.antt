@@ -5,7 +5,7 @@ use mathlib.Core.Path.{refl}
 use Rattle.meaning.specs.Bytes.{ascii}
 use Rattle.grammar.specs.Text.{word}
 use Rattle.grammar.specs.Forms.{nameLine}
-use Rattle.forms.proofs.Rests.{asks-nothing}
+use Rattle.faults.proofs.Calls.{asks-nothing}
 use Rattle.forms.proofs.Steps.{went}
 use Rattle.forms.proofs.Ends.{key-stuck, key-read}
 use Rattle.forms.proofs.lines.read_name_line.Statement.{statement}

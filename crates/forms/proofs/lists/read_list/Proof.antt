@@ -11,7 +11,7 @@ use Rattle.grammar.specs.Forms.{comma}
 use Rattle.forms.specs.Tallies.{Said}
 use Rattle.forms.specs.Places.{saidOf}
 use Rattle.forms.specs.Lists.{entryOf, weightFor, limitFor, wordCount, entryWord, entryStored, listEntry, listWords, over}
-use Rattle.forms.proofs.Rests.{asks-nothing}
+use Rattle.faults.proofs.Calls.{asks-nothing}
 use Rattle.forms.proofs.Steps.{said-went, otherwise}
 use Rattle.forms.proofs.Seen.{said-same}
 use Rattle.forms.proofs.Tallied.{Tallied, tallied-none, tallied-more}
@@ -56,24 +56,18 @@ entered : (c : tie.After-known-told Inv-loop μ-loop)
     → (c .before .entry .given .0 .0 .first < 2 ^ 63) × (entryWord (c .before .before .before .before .before .before .before .before .before .args .kind) (c .before .entry .given .0 .0 .first) (c .before .entry .given .0 .0 .second) < 2 ^ 64)
 entered c = entry-small _ (rw length-map (c .before .before .before .before .before .before .before .before .before .pre .1)) (c .before .before .before .before .before .before .before .before .before .args .kind) _ (said-went (c .before .before .before .read-entry .ensures) (c .before .entry .given .1) .says)
 
-counted-requires : tie.Need-counted-requires Inv-loop μ-loop
-counted-requires c κs =
-    let w = weight-most (c .before .before .before .before .before .before .before .before .before .args .kind) in
-    let m = limit-most (c .before .before .before .before .before .before .before .before .before .args .kind) in
-    record {
-      keys = entered c .0;
-      totals = omega (arith, c .before .before .before .before .loop .inv .2 .totals, c .before .before .before .before .loop .inv .7);
-      weights = omega (arith, c .before .before .before .before .loop .inv .6);
-      limits = omega (arith, c .before .before .before .before .loop .inv .7);
-    }
-
 entry-word-requires : tie.Need-entry-word-requires Inv-loop μ-loop
 entry-word-requires c κs = entered (c .before) .1
 
 tallied : (c : tie.After-counted Inv-loop μ-loop) → Tallied (λ e. weightFor (c .before .before .before .before .before .before .before .before .before .before .args .kind)) (limitFor (c .before .before .before .before .before .before .before .before .before .before .args .kind)) (c .before .before .before .before .before .loop .inv .0 ++ (saidOf (c .before .before .entry .given .0 .0) ∷ [])) (c .counted .result)
 tallied c =
+    let l = c .before .before .before .before .before .loop .inv in
+    let kind = c .before .before .before .before .before .before .before .before .before .before .args .kind in
     let k = c .counted .ensures in
-    tallied-more (λ e. weightFor (c .before .before .before .before .before .before .before .before .before .before .args .kind)) (limitFor (c .before .before .before .before .before .before .before .before .before .before .args .kind)) (saidOf (c .before .before .entry .given .0 .0)) (c .before .before .before .before .before .loop .inv .2) (rw (c .before .before .before .before .before .loop .inv .6, c .before .before .before .before .before .loop .inv .7) at k)
+    let w = weight-most kind in
+    let m = limit-most kind in
+    tallied-more (λ e. weightFor kind) (limitFor kind) (saidOf (c .before .before .entry .given .0 .0)) (l .2)
+    (record { keys = entered (c .before) .0; totals = omega (arith, l .2 .totals); weights = omega arith; limits = omega arith }) (rw (l .6, l .7) at k)
 
 put-entry-requires : tie.Need-put-entry-requires Inv-loop μ-loop
 put-entry-requires c κs = omega (arith, c .before .before .before .before .before .before .before .loop .inv .3 .index-most, c .before .before .before .before .before .before .before .loop .inv .4, c .before .before .before .before .before .before .before .loop .inv .1 .within, c .before .before .before .before .before .before .before .before .before .before .before .before .pre .2)
@@ -130,5 +124,5 @@ loop-again c =
 pub read-list-spec : {M : Type 1} → statement M
 read-list-spec =
     tie.close
-    (tie.spec Inv-loop μ-loop asks-nothing loop-holds read-entry-requires enum-known-entry enum-told same-length returns counted-requires
+    (tie.spec Inv-loop μ-loop asks-nothing loop-holds read-entry-requires enum-known-entry enum-told same-length returns asks-nothing
     entry-word-requires put-entry-requires add-index add-entries asks-nothing same-length-2 returns-2 add-from loop-less loop-again)

@@ -1,7 +1,7 @@
 -- `forms::lists::read_rule` meets its contract: a label, and its right side.
 -- Assumes nothing.
 use borrow.Author.Needs.{needs}
-use Rattle.forms.proofs.Rests.{asks-nothing}
+use Rattle.faults.proofs.Calls.{asks-nothing}
 use Rattle.forms.proofs.Seen.{both-sides, enough-said, rule-seen}
 use Rattle.forms.proofs.lists.read_rule.Statement.{statement}
 use Rattle.forms.proofs.lists.read_rule.Tie as tie

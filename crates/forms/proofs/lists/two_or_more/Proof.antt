@@ -4,8 +4,8 @@ use mathlib.Core.Path.{refl, ap, _∙_}
 use lib.ListN.{drop}
 use Rattle.grammar.specs.Text.{past}
 use Rattle.grammar.specs.Faults.{worse}
-use Rattle.forms.specs.Tallies.{foundOf}
-use Rattle.forms.proofs.Rests.{asks-nothing}
+use Rattle.faults.specs.CodedFaults.{foundOf}
+use Rattle.faults.proofs.Calls.{asks-nothing}
 use Rattle.forms.proofs.Seen.{said-same}
 use Rattle.forms.proofs.lists.two_or_more.Statement.{statement}
 use Rattle.forms.proofs.lists.two_or_more.Tie as tie

@@ -6,7 +6,8 @@ use native.Mathlib.Omega.{arith}
 use borrow.Author.Tests.{not-true, not-false}
 use Rattle.grammar.specs.Forms.{greater}
 use Rattle.forms.specs.Places.{saidOf}
-use Rattle.forms.proofs.Rests.{asks-nothing, sign-within}
+use Rattle.faults.proofs.Calls.{asks-nothing}
+use Rattle.forms.proofs.Rests.{sign-within}
 use Rattle.forms.proofs.Steps.{no-sign, past-sign, said-went, said-halted, said-onwards, arrived, otherwise}
 use Rattle.forms.proofs.Seen.{become, right-seen, said-same}
 use Rattle.forms.proofs.lists.with_right.Statement.{statement}

@@ -2,7 +2,7 @@
 -- Assumes nothing.
 use mathlib.Core.Path.{ap}
 use Rattle.forms.specs.declared.TermStep.the-variants as TermStep
-use Rattle.forms.proofs.Rests.{asks-nothing}
+use Rattle.faults.proofs.Calls.{asks-nothing}
 use Rattle.forms.proofs.terms.farthest.Statement.{statement}
 use Rattle.forms.proofs.terms.farthest.Tie as tie
 

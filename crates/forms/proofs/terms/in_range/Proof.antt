@@ -13,7 +13,7 @@ use Rattle.table.proofs.Term.{the-type}
 use Rattle.table.specs.Terms.{bareTerm}
 use Rattle.grammar.specs.Faults.{inRange}
 use borrow.Author.Needs.{needs}
-use Rattle.forms.proofs.Rests.{asks-nothing}
+use Rattle.faults.proofs.Calls.{asks-nothing}
 use Rattle.forms.proofs.terms.in_range.Statement.{statement}
 use Rattle.forms.proofs.terms.in_range.Tie as tie
 

@@ -3,8 +3,8 @@
 use mathlib.Core.Path.{ap, ap₂, _∙_}
 use Rattle.meaning.specs.Answers.{range, operand}
 use Rattle.grammar.specs.Faults.{worse, unless}
-use Rattle.forms.specs.Tallies.{foundOf}
-use Rattle.forms.proofs.Rests.{asks-nothing}
+use Rattle.faults.specs.CodedFaults.{foundOf}
+use Rattle.faults.proofs.Calls.{asks-nothing}
 use Rattle.forms.proofs.terms.joined_fault.Statement.{statement}
 use Rattle.forms.proofs.terms.joined_fault.Tie as tie
 

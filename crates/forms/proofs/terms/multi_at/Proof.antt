@@ -11,7 +11,7 @@ use Rattle.table.specs.declared.Term.{Term}
 use Rattle.table.specs.Terms.{bareTerm}
 use Rattle.table.specs.Packed.{wordTerm}
 use Rattle.forms.specs.Terms.{bareSlot}
-use Rattle.forms.proofs.Rests.{asks-nothing}
+use Rattle.faults.proofs.Calls.{asks-nothing}
 use Rattle.forms.proofs.terms.multi_at.Statement.{statement}
 use Rattle.forms.proofs.terms.multi_at.Tie as tie
 

@@ -3,7 +3,7 @@
 use mathlib.Core.Path.{sym, _∙_}
 use mathlib.Core.List.{map}
 use Rattle.forms.specs.Terms.{bareSlot}
-use Rattle.forms.proofs.Rests.{asks-nothing}
+use Rattle.faults.proofs.Calls.{asks-nothing}
 use Rattle.forms.proofs.Slotted.{fit-other}
 use Rattle.forms.proofs.terms.operands_fit.Statement.{statement}
 use Rattle.forms.proofs.terms.operands_fit.Tie as tie

@@ -5,7 +5,7 @@ use mathlib.Core.Path.{_≡_}
 use mathlib.Core.List.{map}
 use lib.ListN.{length}
 use Rattle.table.specs.Decoded.{nameOf}
-use Rattle.forms.proofs.Rests.{asks-nothing}
+use Rattle.faults.proofs.Calls.{asks-nothing}
 use Rattle.forms.proofs.Slotted.{term-stays, term-taken}
 use native.Mathlib.Omega.{arith}
 use Rattle.forms.proofs.terms.read_term.Statement.{statement}

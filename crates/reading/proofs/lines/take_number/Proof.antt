@@ -2,9 +2,9 @@
 -- Assumes nothing.
 use borrow.Author.Needs.{needs}
 use native.Mathlib.Omega.{arith}
-use Rattle.forms.specs.Tallies.{faultOf}
+use Rattle.faults.specs.CodedFaults.{faultOf}
 use Rattle.forms.proofs.Steps.{went, says-stuck}
-use Rattle.forms.proofs.Rests.{asks-nothing}
+use Rattle.faults.proofs.Calls.{asks-nothing}
 use Rattle.reading.proofs.Walking.{refuses, line-lacks, line-there, line-taken, next-spot}
 use Rattle.reading.proofs.Taking.{number-stuck, number-low, number-high, number-between}
 use Rattle.reading.proofs.lines.take_number.Statement.{statement}

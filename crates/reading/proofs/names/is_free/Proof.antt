@@ -7,7 +7,7 @@ use native.Mathlib.Omega.{arith}
 use lib.Dec.{leb}
 use lib.ListN.{length-map}
 use Rattle.table.specs.Decoded.{nameOf}
-use Rattle.forms.proofs.Rests.{asks-nothing}
+use Rattle.faults.proofs.Calls.{asks-nothing}
 use Rattle.reading.proofs.Freedom.{held-before, free-if}
 use Rattle.reading.proofs.names.is_free.Statement.{statement}
 use Rattle.reading.proofs.names.is_free.Tie as tie

@@ -7,7 +7,7 @@ use native.Mathlib.Omega.{arith}
 use borrow.Author.Tests.{not-true, not-false}
 use Rattle.table.specs.Decoded.{nameOf}
 use Rattle.forms.proofs.Steps.{went, says-stuck}
-use Rattle.forms.proofs.Rests.{asks-nothing}
+use Rattle.faults.proofs.Calls.{asks-nothing}
 use Rattle.reading.proofs.Walking.{line-lacks, line-there, line-taken, next-spot}
 use Rattle.reading.proofs.Taking.{name-stuck, name-held, name-free}
 use Rattle.reading.proofs.names.take_name.Statement.{statement}

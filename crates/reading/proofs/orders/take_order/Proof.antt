@@ -9,7 +9,7 @@ use lib.ListN.{drop, take}
 use Rattle.table.specs.Decoded.{nameOf}
 use Rattle.grammar.specs.Faults.{orderSaid}
 use Rattle.forms.specs.Orders.{OrderRead}
-use Rattle.forms.proofs.Rests.{asks-nothing}
+use Rattle.faults.proofs.Calls.{asks-nothing}
 use Rattle.reading.proofs.Walking.{line-lacks, line-there, line-taken, next-spot}
 use Rattle.reading.proofs.Termed.{part-short, found-fine, order-stuck, order-fine, order-faulty}
 use Rattle.reading.proofs.orders.take_order.Statement.{statement}

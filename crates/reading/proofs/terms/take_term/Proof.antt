@@ -11,7 +11,7 @@ use Rattle.table.specs.Decoded.{nameOf}
 use Rattle.grammar.specs.Faults.{termSaid}
 use Rattle.reading.specs.Walks.{TermsBefore}
 use Rattle.forms.specs.Terms.{TermRead}
-use Rattle.forms.proofs.Rests.{asks-nothing}
+use Rattle.faults.proofs.Calls.{asks-nothing}
 use Rattle.reading.proofs.Walking.{line-lacks, line-there, line-taken, next-spot}
 use Rattle.reading.proofs.Termed.{part-short, found-fine, term-stuck, term-fine, term-faulty}
 use Rattle.reading.proofs.terms.take_term.Statement.{statement}

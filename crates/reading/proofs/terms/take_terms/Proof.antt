@@ -11,7 +11,7 @@ use Rattle.table.specs.Encoded.{filled, slotsFrom, termsWords}
 use Rattle.table.proofs.Filled.{filled-length}
 use Rattle.grammar.specs.Reading.{takeTerm, oneLine, lines}
 use Rattle.reading.specs.Walks.{TermTo, Termed}
-use Rattle.forms.proofs.Rests.{asks-nothing}
+use Rattle.faults.proofs.Calls.{asks-nothing}
 use Rattle.reading.proofs.Walking.{Onto, lines-begin, lines-more, lines-halt, lines-done}
 use Rattle.reading.proofs.Termed.{store-more, slot-more, one-more}
 use Rattle.reading.proofs.terms.take_terms.Statement.{statement}

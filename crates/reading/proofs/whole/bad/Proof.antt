@@ -1,7 +1,7 @@
 -- `reading::whole::bad` meets its contract.
 -- Assumes nothing.
 use borrow.Author.Needs.{needs}
-use Rattle.forms.proofs.Rests.{asks-nothing}
+use Rattle.faults.proofs.Calls.{asks-nothing}
 use Rattle.reading.proofs.whole.bad.Statement.{statement}
 use Rattle.reading.proofs.whole.bad.Tie as tie
 

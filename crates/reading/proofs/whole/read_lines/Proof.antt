@@ -12,7 +12,7 @@ use Rattle.meaning.specs.Answers.{form}
 use Rattle.table.proofs.Filled.{filled-replicate}
 use Rattle.grammar.specs.Reading.{nameCount, equationCount, termCount, takeNumber, takeName, reached, oneLine, lines, wholeText}
 use Rattle.reading.specs.Walks.{between, NamesTo}
-use Rattle.forms.proofs.Rests.{asks-nothing}
+use Rattle.faults.proofs.Calls.{asks-nothing}
 use Rattle.reading.proofs.Walking.{gone-to, gone-spot, gone-bad, gone-below}
 use Rattle.reading.proofs.Wholes.{other-test, names-test, equations-test, terms-test, ends-bad, ends-on, names-front, names-padded}
 use Rattle.reading.proofs.whole.read_lines.Statement.{statement}

@@ -13,7 +13,7 @@ use Rattle.meaning.specs.Answers.{range}
 use Rattle.grammar.specs.Reading.{takeNumber, takeOrder, reached, oneLine}
 use Rattle.reading.specs.Walks.{between, OrderTo, orderProgress}
 use Rattle.reading.specs.Stored.{Held}
-use Rattle.forms.proofs.Rests.{asks-nothing}
+use Rattle.faults.proofs.Calls.{asks-nothing}
 use Rattle.reading.proofs.Walking.{gone-to, gone-spot, gone-bad}
 use Rattle.reading.proofs.Wholes.{other-test, below-test, ends-bad, ends-on, ends-short, ends-whole, whole-with, order-stored, with-root}
 use Rattle.reading.proofs.whole.read_tail.Statement.{statement}

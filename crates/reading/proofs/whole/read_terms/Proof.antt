@@ -13,7 +13,7 @@ use Rattle.table.proofs.Filled.{filled-length, filled-replicate}
 use Rattle.grammar.specs.Reading.{takeTerm, takeBody, lines}
 use Rattle.reading.specs.Walks.{Walks, TermsTo}
 use Rattle.reading.specs.Stored.{Held}
-use Rattle.forms.proofs.Rests.{asks-nothing}
+use Rattle.faults.proofs.Calls.{asks-nothing}
 use Rattle.reading.proofs.Walking.{gone-to, gone-spot, gone-bad}
 use Rattle.reading.proofs.Wholes.{front-free, rest-free, ends-bad, ends-on, held-length, names-length, table-read}
 use Rattle.reading.proofs.whole.read_terms.Statement.{statement}

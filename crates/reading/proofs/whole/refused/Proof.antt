@@ -3,7 +3,7 @@
 use mathlib.Core.Path.{ap}
 use Rattle.table.specs.declared.Order.the-variants.{All}
 use Rattle.reading.specs.declared.Read.{Read}
-use Rattle.forms.proofs.Rests.{asks-nothing}
+use Rattle.faults.proofs.Calls.{asks-nothing}
 use Rattle.reading.proofs.whole.refused.Statement.{statement}
 use Rattle.reading.proofs.whole.refused.Tie as tie
 

@@ -1,8 +1,8 @@
--- `forms::number_of` meets its contract; written out so that a change is refused here and not at a caller.
+-- `faults::number_of` meets its contract; written out so that a change is refused here and not at a caller.
 -- Assumes nothing.
 use borrow.Author.Needs.{needs}
-use Rattle.forms.proofs.number_of.Statement.{statement}
-use Rattle.forms.proofs.number_of.Tie as tie
+use Rattle.faults.proofs.number_of.Statement.{statement}
+use Rattle.faults.proofs.number_of.Tie as tie
 
 enum-told : tie.Need-enum-told
 enum-told c = search needs

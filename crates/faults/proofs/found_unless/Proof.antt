@@ -1,7 +1,7 @@
--- `forms::faults::found_unless` meets its contract: a fault unless the test holds.
+-- `faults::found_unless` meets its contract: a fault unless the test holds.
 -- Assumes nothing.
-use Rattle.forms.proofs.faults.found_unless.Statement.{statement}
-use Rattle.forms.proofs.faults.found_unless.Tie as tie
+use Rattle.faults.proofs.found_unless.Statement.{statement}
+use Rattle.faults.proofs.found_unless.Tie as tie
 
 returns : tie.Need-returns
 returns c = rw (c .if1 .taken)

@@ -1,12 +1,12 @@
+-- `faults::name_fault` meets its contract: by the test.
+-- Assumes nothing.
 use borrow.Author.Tests.{lt-ltb, le-ltb}
-use Rattle.forms.proofs.names.name_fault.Statement.{statement}
-use Rattle.forms.proofs.names.name_fault.Tie as tie
+use Rattle.faults.proofs.name_fault.Statement.{statement}
+use Rattle.faults.proofs.name_fault.Tie as tie
 
--- src/names.rt:30:9
 returns : tie.Need-returns
 returns c = rw (lt-ltb _ _ (c .if1 .taken))
 
--- src/names.rt:26:1
 returns-2 : tie.Need-returns-2
 returns-2 c = rw (le-ltb _ _ (c .if1 .left))
 

@@ -1,46 +1,38 @@
+-- `faults::worse_of` meets its contract: by which of the two is a fault, and then by their numbers.
+-- Assumes nothing.
 use borrow.Author.Needs.{needs}
 use native.Mathlib.Omega.{arith}
 use borrow.Author.Tests.{le-leb, lt-leb}
 use Rattle.meaning.specs.Answers.{faultNumber}
-use Rattle.forms.specs.Tallies.{faultOf}
-use Rattle.forms.proofs.Rests.{asks-nothing}
-use Rattle.forms.proofs.faults.worse_of.Statement.{statement}
-use Rattle.forms.proofs.faults.worse_of.Tie as tie
+use Rattle.faults.specs.CodedFaults.{faultOf}
+use Rattle.faults.proofs.Calls.{asks-nothing}
+use Rattle.faults.proofs.worse_of.Statement.{statement}
+use Rattle.faults.proofs.worse_of.Tie as tie
 
--- src/faults.rt:36:23
 enum-known-a : tie.Need-enum-known-a
 enum-known-a c = c .match .keys1
 
--- src/faults.rt:37:9
 enum-told : tie.Need-enum-told
 enum-told c = c .match .keys2
 
--- src/faults.rt:37:9
 returns : tie.Need-returns
 returns c = search needs
 
--- src/faults.rt:39:23
 enum-known-b : tie.Need-enum-known-b
 enum-known-b c = c .match2 .keys1
 
--- src/faults.rt:40:9
 enum-told-2 : tie.Need-enum-told-2
 enum-told-2 c = c .match2 .keys2
 
--- src/faults.rt:40:9
 returns-2 : tie.Need-returns-2
 returns-2 c = rw (c .before .before .before .a .given .1, c .enum-told2 .given .1)
 
--- src/faults.rt:42:8
--- src/faults.rt:42:24
--- src/faults.rt:43:9
 returns-3 : tie.Need-returns-3
 returns-3 c =
     let h = c .before .number-of2 .ensures in
     let g = c .before .before .number-of .ensures in
     rw (c .before .before .before .before .before .before .before .a .given .1, c .before .before .before .before .b .given .1, le-leb (faultNumber (faultOf (c .before .before .before .before .before .before .before .a .given .0 .0))) (faultNumber (faultOf (c .before .before .before .before .b .given .0 .0))) (omega arith))
 
--- src/faults.rt:33:1
 returns-4 : tie.Need-returns-4
 returns-4 c =
     let h = c .before .number-of2 .ensures in

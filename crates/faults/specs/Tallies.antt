@@ -1,0 +1,19 @@
+-- A tally with one entry more.
+-- Assumes nothing.
+use mathlib.Core.Path.{_≡_}
+use Prim.Native.Nat.{ℕ, _+_, min}
+use lib.Dec.{leb}
+use Rattle.meaning.specs.Answers.{amount}
+use Rattle.grammar.specs.Faults.{Found, worse, unless}
+use Rattle.faults.specs.CodedFaults.{foundOf}
+use Rattle.faults.specs.declared.Tally.{Tally}
+
+-- a sum that stays in a word
+abbrev pub plusWord : ℕ → ℕ → ℕ
+plusWord a b = min (a + b) 18446744073709551615
+
+pub record Counted (t : Tally) (found : Found) (key weight limit : ℕ) (r : Tally) : Type 0 where
+  pub faults : foundOf (r .fault)
+      ≡ worse (worse (foundOf (t .fault)) found) (worse (unless (leb (t .floor) key) amount) (unless (leb (plusWord (t .total) weight) limit) amount))
+  pub floors : r .floor ≡ plusWord key 1
+  pub totals : r .total ≡ min (plusWord limit 1) (plusWord (t .total) weight)
