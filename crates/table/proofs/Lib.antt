@@ -4,3 +4,4 @@ pub mod Zeroed
 pub mod Stored
 pub mod Filled
 pub mod Packed
+pub mod Decoded

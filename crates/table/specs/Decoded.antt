@@ -13,6 +13,7 @@ use Rattle.table.specs.declared.Term.the-variants.{Delta, Tau, Act, Ref,
 use Rattle.meaning.specs.Bytes.{Text}
 use Rattle.meaning.specs.Labels.{labelOf}
 use Rattle.meaning.specs.Descriptions as D
+use Rattle.labels.specs.Names.{pairsIn}
 
 -- A name's bytes, the first in the lowest eight bits of its word; a byte 0 ends it.
 unfoldable pub nameOf : ℕ → ℕ → Text
@@ -24,8 +25,13 @@ nameOf (suc more) w = elim (eqb w 0) [ true ↦ [] | false ↦ w % 256 ∷ nameO
 abbrev pub wordsAt : List ℕ → Place → ℕ → List ℕ
 wordsAt store p size = take (p .entries * size) (drop (p .at) store)
 
-abbrev pub pairOf : ℕ → D.Pair
-pairOf w = record { left = w % 32; right = w / 32 }
+-- the words of an operator's list
+abbrev pub listIn : List ℕ → Operator → List ℕ
+listIn store (Block p) = wordsAt store p 1
+listIn store (Hide p) = wordsAt store p 1
+listIn store (Rename p) = wordsAt store p 1
+listIn store (Comm p) = wordsAt store p 2
+listIn store (Allow p) = wordsAt store p 1
 
 unfoldable pub rulesOf : ℕ → List ℕ → List D.Rule
 rulesOf names [] = []
@@ -35,7 +41,7 @@ rulesOf names (a ∷ b ∷ ws) = record { left = labelOf names a; right = b } �
 abbrev pub operatorOf : ℕ → List ℕ → Operator → D.Operator
 operatorOf names store (Block p) = D.block (wordsAt store p 1)
 operatorOf names store (Hide p) = D.hide (wordsAt store p 1)
-operatorOf names store (Rename p) = D.rename (map pairOf (wordsAt store p 1))
+operatorOf names store (Rename p) = D.rename (pairsIn (wordsAt store p 1))
 operatorOf names store (Comm p) = D.comm (rulesOf names (wordsAt store p 2))
 operatorOf names store (Allow p) = D.allow (map (labelOf names) (wordsAt store p 1))
 
