@@ -17,7 +17,8 @@ use Rattle.meaning.specs.Descriptions.{Pair}
 use Rattle.meaning.specs.Rounds.{pick, target}
 use Rattle.meaning.proofs.Bags.{number-plus}
 use Rattle.labels.specs.Bags.{bag}
-use Rattle.labels.specs.Names.{pairOf, pairsIn, listed, targets}
+use Rattle.labels.specs.Pairs.{pairOf, pairsIn}
+use Rattle.labels.specs.Names.{listed, targets}
 use Rattle.labels.proofs.Words.{number-bag, bag-cleared, number-less, number-several, number-none}
 
 -- The list from the place before a given one.

@@ -19,9 +19,11 @@ use Rattle.meaning.proofs.Digits.{Small, small}
 use Rattle.labels.specs.declared.Sum.the-variants.{Over, Of}
 use Rattle.labels.specs.Packing.{packed}
 use Rattle.labels.specs.Bags.{bag, sizeOf, pickSum, sumOf}
-use Rattle.labels.specs.Names.{pairsIn, listed, targets}
-use Rattle.labels.specs.Stored.{pairWord, pairWords}
+use Rattle.labels.specs.Pairs.{pairsIn}
+use Rattle.labels.specs.Names.{listed, targets}
+use Rattle.labels.proofs.Stored.{pairWords}
 use Rattle.labels.proofs.Words.{number-empty, number-several}
+use Rattle.labels.proofs.Sizes.{folded-few}
 
 -- A label over so many names, with at most 31 actions: what a word packs.
 pub record Packs (names : ℕ) (a : Label) : Type 0 where
@@ -51,6 +53,12 @@ unfolding padded number
 number-padded zero [] = refl
 number-padded (suc more) [] = omega (arith, number-padded more [])
 number-padded more (x ∷ a) = ap (λ (n : ℕ). x + 32 * n) (number-padded more a)
+
+size-padded : (more : ℕ) (a : Label) → size (padded more a) ≡ size a
+unfolding padded size
+size-padded zero [] = refl
+size-padded (suc more) [] = omega (arith, size-padded more [])
+size-padded more (x ∷ a) = ap (λ (n : ℕ). x + n) (size-padded more a)
 
 clear-padded : (more : ℕ) (a : Label) (ns : List ℕ) → clear ns (padded more a) ≡ clear ns a
 unfolding clear
@@ -120,22 +128,6 @@ module _ (names : ℕ) (few : names ≤ 12) where
   single-number n h = number-several 12 n 1 (omega arith) ∙ sym (number-several names n 1 h)
 
 -- Size, sum, difference.
-size-residue : (a : Label) → (k : ℕ) × (number a ≡ size a + 31 * k)
-unfolding number size
-size-residue [] = (0, refl)
-size-residue (x ∷ a) = let p = size-residue a in (size a + 32 * p .0, omega (arith, p .1))
-
-size-zero : (a : Label) → size a ≡ 0 → number a ≡ 0
-unfolding number size
-size-zero [] h = refl
-size-zero (x ∷ a) h = let e = size-zero a (omega arith) in omega arith
-
-pub size-number : (a : Label) → size a ≤ 31 → sizeOf (number a) ≡ size a
-size-number a h = elim (decLt 0 (size a)) [
-  | yes p ↦ let k = size-residue a in omega (arith, k .1)
-  | no p ↦ let e = size-zero a (omega arith) in omega arith
-]
-
 number-bound : (a : Label) → Small a → number a < 32 ^ length a
 unfolding number
 number-bound [] h = lit< tt
@@ -145,13 +137,17 @@ pub number-fits : {names : ℕ} (a : Label) → names ≤ 12 → Packs names a �
 number-fits {names} a l p =
     lt-of-lt-of-le (number-bound a (packs-small p)) (pow-le-pow-right {n = 32} (lit< tt) {j = 12} (omega (arith, p .wide)))
 
+pub size-number : {names : ℕ} (a : Label) → names ≤ 12 → Packs names a → sizeOf (number a) ≡ size a
+unfolding sizeOf
+size-number {names} a l p = rw (bag-number names l a p, size-padded (13 - names) a) (folded-few (size a) (p .few))
+
 pub sum-number : {names : ℕ} (a b : Label) → names ≤ 12 → Packs names a → Packs names b
     → sumOf (number a) (number b) ≡ pickSum (ltb 31 (size (plus a b))) Over (Of (packed (number (plus a b))))
 unfolding sumOf
 sum-number a b l p q =
     let fits : (number a + number b) % 2 ^ 64 ≡ number (plus a b) =
     mod-eq-of-lt (omega (arith, number-fits a l p, number-fits b l q)) ∙ sym (number-plus a b) in
-    rw (size-number a (p .few), size-number b (q .few), fits, size-plus a b)
+    rw (size-number a l p, size-number b l q, fits, size-plus a b)
 
 pub difference-number : (a b : Label) → T (inside b a) → number a - number b ≡ number (minus a b)
 difference-number a b t = let e = number-minus a b t in omega arith
@@ -213,7 +209,6 @@ renamed-number names ps a l h p =
 
 -- Pairs are read as they are stored.
 pub pairs-read : (ps : List Pair) → Each (λ p. p .left < 32) ps → pairsIn (pairWords ps) ≡ ps
-unfolding pairWord
 pairs-read [] h = refl
 pairs-read (p ∷ ps) h =
     let lo : (p .left + 32 * p .right) % 32 ≡ p .left = omega (arith, h .0) in
