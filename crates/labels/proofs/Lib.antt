@@ -2,7 +2,6 @@
 pub mod Stored
 pub mod Words
 pub mod Sizes
-pub mod Lists
 pub mod Moving
 pub mod Meant
 pub mod Uniqueness

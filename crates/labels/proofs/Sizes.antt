@@ -1,6 +1,6 @@
 -- The size of a word's bag, by a division: 32 is 1 modulo 31, so that a number and the sum of its digits leave the same remainder.
 -- Assumes nothing.
-use mathlib.Core.Path.{_≡_, refl, sym, _∙_}
+use mathlib.Core.Path.{_≡_, refl, _∙_}
 use mathlib.Core.List.{[], _∷_}
 use Prim.Native.Nat.{ℕ, _+_, _-_, _*_, _/_, _^_, _≤_, _<_}
 use native.Mathlib.Decide.{decLt, decLe}

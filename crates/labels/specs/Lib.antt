@@ -2,4 +2,3 @@
 pub mod Packing
 pub mod Bags
 pub mod Pairs
-pub mod Names

@@ -12,7 +12,7 @@ use Rattle.labels.specs.declared.Sum.the-variants.{Over, Of}
 use Rattle.labels.specs.Packing.{held, code, packed}
 use Rattle.labels.specs.Bags.{bag, sumOf}
 use Rattle.labels.specs.Pairs.{pairsIn}
-use Rattle.labels.specs.Names.{targets}
+use Rattle.names.specs.Names.{targets}
 use Rattle.sets.specs.declared.Inserted.{Inserted}
 use Rattle.sets.specs.declared.Inserted.the-variants.{Full, Present, Added}
 use Rattle.sets.specs.declared.Built.{Built}
