@@ -5,10 +5,6 @@ use mathlib.Core.List.{List}
 use Prim.Native.Nat.{ℕ}
 use Rattle.meaning.proofs.Alike.{alike}
 use Rattle.labels.specs.Packing.{held}
-use Rattle.labels.specs.Names.{Counted}
-
-pub counted-unique : (w n r₁ r₂ : ℕ) → Counted w n r₁ → Counted w n r₂ → r₁ ≡ r₂
-counted-unique w n r₁ r₂ p q = alike (p .exact) (q .exact)
 
 -- The labels that are held settle the words.
 pub held-unique : (words₁ words₂ ls : List ℕ) → held words₁ ≡ ls → held words₂ ≡ ls → words₁ ≡ words₂

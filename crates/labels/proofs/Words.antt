@@ -2,16 +2,14 @@
 -- Assumes nothing.
 use mathlib.Core.Path.{_≡_, refl, sym, ap, _∙_}
 use mathlib.Core.Bool.{Bool, true, false, _&&_}
-use mathlib.Core.List.{[], _∷_}
-use Prim.Native.Nat.{ℕ, zero, suc, _+_, _*_, _-_, _/_, _%_, _^_, _≤_, _<_, zero-le}
-use native.Mathlib.Nat.{mul-zero, mul-suc, pow-zero, pow-suc, pow-succ', mod-eq-of-lt, not-suc-le-zero, mul-comm, mul-assoc, mul-one, one-mul, div-div-eq-div-mul, le-of-suc-le-suc, div-one}
+use Prim.Native.Nat.{ℕ, zero, suc, _*_, _/_, _%_, _^_, _≤_, _<_}
+use native.Mathlib.Nat.{mul-zero, mul-suc, pow-zero, pow-suc, mod-eq-of-lt, not-suc-le-zero, mul-comm, mul-assoc, mul-one, one-mul, le-of-suc-le-suc}
 use native.Mathlib.Omega.{arith}
 use borrow.Author.Tests.{lt-leb, le-leb}
-use lib.Dec.{leb, leb·zero, lit<}
+use lib.Dec.{leb, leb·zero}
 use lib.Pow.{pow-add, pow-lt}
-use lib.ListN.{length, set, length-set}
-use Rattle.meaning.specs.Labels.{Label, count, number, labelOf, empty, several, inside}
-use Rattle.meaning.proofs.Digits.{Small, number-labelOf, labelOf-number, length-labelOf, small-labelOf}
+use Rattle.meaning.specs.Labels.{number, labelOf, empty, several, inside}
+use Rattle.meaning.proofs.Digits.{number-labelOf}
 use Rattle.labels.specs.Bags.{bag}
 
 -- Thirteen digits hold every word.
@@ -43,46 +41,6 @@ unfolding number
 number-none zero n x h = refl
 number-none (suc names) zero x h = absurd (not-suc-le-zero h)
 number-none (suc names) (suc n) x h = omega (arith, number-none names n x (le-of-suc-le-suc h))
-
--- A digit of a word, and what is left of the word without it.
-pub count-labelOf : (names w n : ℕ) → n < names → count (labelOf names w) n ≡ w / 32 ^ n % 32
-unfolding labelOf
-count-labelOf zero w n h = absurd (not-suc-le-zero h)
-count-labelOf (suc names) w zero h = rw (div-one w)
-count-labelOf (suc names) w (suc n) h =
-    count-labelOf names (w / 32) n (le-of-suc-le-suc h) ∙ ap (λ (x : ℕ). x % 32) (div-div-eq-div-mul w 32 (32 ^ n) ∙ ap (λ (x : ℕ). w / x) (sym (pow-succ' 32 n)))
-
-pub number-cleared : (a : Label) (n : ℕ) → n < length a → number (set a n 0) + count a n * 32 ^ n ≡ number a
-unfolding number
-number-cleared [] n h = absurd (not-suc-le-zero h)
-number-cleared (x ∷ a) zero h = let e = mul-one x in omega arith
-number-cleared (x ∷ a) (suc n) h =
-    let ih = number-cleared a n (le-of-suc-le-suc h) in
-    let e : count a n * 32 ^ suc n ≡ 32 * (count a n * 32 ^ n) = rw (pow-suc 32 n) (sym (mul-assoc (count a n) (32 ^ n) 32) ∙ mul-comm (count a n * 32 ^ n) 32) in
-    omega arith
-
--- Taking a name out of a word.
-pub number-less : (a : Label) (n : ℕ) → number (set a n 0) ≤ number a
-unfolding number
-number-less [] n = zero-le
-number-less (x ∷ a) zero = omega arith
-number-less (x ∷ a) (suc n) = let ih = number-less a n in omega arith
-
-small-cleared : (a : Label) (n : ℕ) → Small a → Small (set a n 0)
-small-cleared [] n h = h
-small-cleared (x ∷ a) zero h = (lit< tt, h .1)
-small-cleared (x ∷ a) (suc n) h = (h .0, small-cleared a n (h .1))
-
-pub bag-cleared : (w n : ℕ) → bag (number (set (bag w) n 0)) ≡ set (bag w) n 0
-bag-cleared w n =
-    let l : length (set (bag w) n 0) ≡ 13 = length-set (bag w) n 0 ∙ length-labelOf 13 w in
-    rw l at (labelOf-number (set (bag w) n 0) (small-cleared (bag w) n (small-labelOf 13 w)))
-
-pub word-cleared : (w n : ℕ) → w < 2 ^ 64 → n < 13 → number (set (bag w) n 0) + (count (bag w) n * 2 ^ (5 * n)) % 2 ^ 64 ≡ w
-word-cleared w n h k =
-    let e = number-cleared (bag w) n (rw (length-labelOf 13 w) k) ∙ number-bag w h in
-    let m : (count (bag w) n * 32 ^ n) % 2 ^ 64 ≡ count (bag w) n * 32 ^ n = mod-eq-of-lt (omega arith) in
-    rw (power 5 n, m) e
 
 -- Whether a word lies inside another, digit by digit.
 pub fewer-digits : (k w : ℕ) → w < 32 ^ suc k → w / 32 < 32 ^ k
@@ -126,11 +84,8 @@ compared-goes {small} {large} x n h =
     let p = one-digit x n in
     record { digits = p .0; holds = fewer-digits (p .0) small (p .1); equal = rw (le-leb (small % 32) (large % 32) h) at (p .2) }
 
--- The label of one action, and a count, by shifts.
+-- The label of one action by a shift.
 pub word-several : (n : ℕ) → n < 12 → number (several 12 n 1) ≡ (1 * 2 ^ (5 * n)) % 2 ^ 64
 word-several n h =
     let small : 2 ^ (5 * n) < 2 ^ 64 = pow-lt {j = 64} (omega arith) in
     number-several 12 n 1 h ∙ ap (λ (x : ℕ). 1 * x) (sym (power 5 n)) ∙ sym (mod-eq-of-lt (rw (one-mul (2 ^ (5 * n))) small))
-
-pub word-count : (w n : ℕ) → n < 13 → count (bag w) n ≡ w / 2 ^ (5 * n) % 32
-word-count w n h = count-labelOf 13 w n h ∙ ap (λ (x : ℕ). w / x % 32) (sym (power 5 n))

@@ -1,10 +1,11 @@
--- The bag that a word stands for, the size and the sum of two.
+-- The bag that a word stands for, its size, and the sum of two.
 -- Assumes nothing.
 use mathlib.Core.Bool.{Bool, true, false}
 use Prim.Native.Nat.{ℕ, _+_, _-_, _*_, _/_, _%_, _^_}
-use lib.Dec.{ltb}
-use Rattle.meaning.specs.Labels.{labelOf}
+use lib.Dec.{leb, ltb}
+use Rattle.meaning.specs.Labels.{labelOf, size}
 use Rattle.meaning.specs.Labels as meaning
+use Rattle.meaning.specs.Rounds.{pick}
 use Rattle.labels.specs.declared.Sum.{Sum}
 use Rattle.labels.specs.declared.Sum.the-variants.{Over, Of}
 use Rattle.labels.specs.Packing.{packed}
@@ -13,9 +14,13 @@ use Rattle.labels.specs.Packing.{packed}
 abbrev pub bag : ℕ → meaning.Label
 bag w = labelOf 13 w
 
--- A number less the largest multiple of 31 that is below it: the size of a label of at most 31 actions.
-abbrev pub sizeOf : ℕ → ℕ
-sizeOf w = w - 31 * ((w - 1) / 31)
+-- A size that five bits hold: up to 31 it is the size itself, and beyond that the size less the largest multiple of 31 below it.
+abbrev pub folded : ℕ → ℕ
+folded s = pick (leb s 31) s (s - 31 * ((s - 1) / 31))
+
+-- How many actions a word's bag has. A word of over 31 packs no label.
+unfoldable pub sizeOf : ℕ → ℕ
+sizeOf w = folded (size (bag w))
 
 abbrev pub pickSum : Bool → Sum → Sum → Sum
 pickSum true a b = a

@@ -1,5 +1,4 @@
 -- What the functions on packed labels mean. A label itself is a list of counts, as the crate `meaning` says.
 pub mod Packing
 pub mod Bags
-pub mod Names
-pub mod Stored
+pub mod Pairs

@@ -20,6 +20,7 @@ pub fn size(a: Label) -> u64
     if rest == 0 { MOST_ACTIONS } else { rest }
 }
 
+// The sum of two labels, unless it has over 31 actions.
 pub fn sum(a: Label, b: Label) -> Sum
     ensures { λ r. ⌜ r ≡ sumOf (code a) (code b) ⌝ }
 {

@@ -1,8 +1,7 @@
 // A label packed in a word: name n's count stands in the five bits from bit 5n on, so that the word is the label's number.
 // The word's size is met in `packing` alone, which reads, writes and compares labels; what is made of bags of actions is
-// in `bags`, and what is made of names is in `names`. Every function answers for every word, also one that packs no label.
+// in `bags`. Every function answers for every word, also one that packs no label.
 pub mod bags;
-pub mod names;
 pub mod packing;
 
 // How many names there are at most, how many words a label takes, and how many actions it may have.

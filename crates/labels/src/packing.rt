@@ -65,6 +65,7 @@ pub fn below(a: Label, b: Label) -> bool
     a.word < b.word
 }
 
+// Whether a and b are the same label.
 pub fn same(a: Label, b: Label) -> bool
     ensures { λ r. ⌜ r ≡ eqb (code a) (code b) ⌝ }
 {

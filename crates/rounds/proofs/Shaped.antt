@@ -17,7 +17,7 @@ use Rattle.meaning.specs.Legal.{Each, LegalLabel, LegalPair, LegalOperator}
 use Rattle.meaning.specs.Rounds.{image, replaced}
 use Rattle.meaning.proofs.Sorted.{Within}
 use Rattle.meaning.proofs.Members.{in-append}
-use Rattle.labels.specs.Stored.{pairWords, labelWords, ruleWords}
+use Rattle.labels.proofs.Stored.{pairWords, labelWords, ruleLabels}
 use Rattle.labels.proofs.Meant.{Packs}
 use Rattle.sets.specs.declared.Way.{Way}
 use Rattle.sets.specs.declared.Way.the-variants.{Copy, Block, Hide, Rename, Comm, Allow}
@@ -148,7 +148,7 @@ abbrev pub wayWords : ℕ → Operator → List ℕ
 wayWords names (block ns) = ns
 wayWords names (hide ns) = ns
 wayWords names (rename ps) = pairWords ps
-wayWords names (comm rs) = ruleWords names rs
+wayWords names (comm rs) = ruleLabels names rs
 wayWords names (allow ls) = labelWords ls
 
 small-left : (names : ℕ) → names ≤ 12 → (ps : List Pair) → Each (LegalPair names) ps → Each (λ p. p .left < 32) ps
@@ -186,4 +186,4 @@ module _ (names room : ℕ) (few : names ≤ 12) where
       (way-outcome names room Allow (labelWords ls) (image names (allow ls)) refl (λ a r. allow-offers names ls (listed-packs names ls (h .1)) a r) s M p q)
   through-added (comm rs) h s M p q c =
       settles names room (Closed names few rs (h .2) room) (closed-moves names few rs (h .2) room) (spread (image names (comm rs)) s ++ M)
-      (throughBuilt room Comm (ruleWords names rs) (map number s) (map number (ascending M))) (comm-outcome names few rs (h .2) room s M p q c)
+      (throughBuilt room Comm (ruleLabels names rs) (map number s) (map number (ascending M))) (comm-outcome names few rs (h .2) room s M p q c)

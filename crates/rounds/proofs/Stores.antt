@@ -14,7 +14,7 @@ use Rattle.meaning.specs.Legal.{Each, LegalRule, LegalOperator}
 use Rattle.table.specs.Encoded as T
 use Rattle.table.proofs.Packed.{rising-few, rising-pairs}
 use Rattle.table.proofs.Stored.{term-words}
-use Rattle.labels.specs.Stored.{pairWord, ruleWords}
+use Rattle.labels.proofs.Stored.{ruleLabels}
 use Rattle.labels.proofs.Meant.{single-number}
 use Rattle.shapes.specs.Exchanging.{exchangeWords, exchangeList}
 use Rattle.shapes.specs.Ways.{ruleList, wayFor, wordsFor}
@@ -26,23 +26,23 @@ unfolding T.ruleWords
 length-rules [] = refl
 length-rules (r ∷ rs) = omega (arith, length-rules rs)
 
-rules-exchanged : (n : ℕ) → n ≤ 12 → (rs : List Rule) → Each (LegalRule n) rs → exchangeWords (T.ruleWords rs) ≡ ruleWords n rs
-unfolding T.ruleWords exchangeWords ruleWords
+rules-exchanged : (n : ℕ) → n ≤ 12 → (rs : List Rule) → Each (LegalRule n) rs → exchangeWords (T.ruleWords rs) ≡ ruleLabels n rs
+unfolding T.ruleWords exchangeWords ruleLabels
 rules-exchanged n few [] h = refl
 rules-exchanged n few (r ∷ rs) h =
     ap₂ {C = List ℕ} (λ (x : ℕ) (l : List ℕ). number (r .left) ∷ x ∷ l) (single-number n few (r .right) (h .0 .2)) (rules-exchanged n few rs (h .1))
 
-length-taken : (n : ℕ) (rs : List Rule) → length (ruleWords n rs) ≡ length rs * 2
-unfolding ruleWords
+length-taken : (n : ℕ) (rs : List Rule) → length (ruleLabels n rs) ≡ length rs * 2
+unfolding ruleLabels
 length-taken n [] = refl
 length-taken n (r ∷ rs) = omega (arith, length-taken n rs)
 
-rule-list : (n : ℕ) → n ≤ 12 → (rs : List Rule) → length rs ≤ 8 → Each (LegalRule n) rs → ruleList (T.ruleWords rs) ≡ ruleWords n rs
+rule-list : (n : ℕ) → n ≤ 12 → (rs : List Rule) → length rs ≤ 8 → Each (LegalRule n) rs → ruleList (T.ruleWords rs) ≡ ruleLabels n rs
 rule-list n few rs short h =
     let all : take 16 (T.ruleWords rs) ≡ T.ruleWords rs = take-all 16 (T.ruleWords rs) (omega (arith, length-rules rs)) in
     ap (λ (ws : List ℕ). take (length ws) (exchangeList ws)) all
     ∙ ap (λ (ws : List ℕ). take (length (T.ruleWords rs)) (ws ++ replicate (16 - length ws) 0)) (rules-exchanged n few rs h)
-    ∙ take-at (ruleWords n rs) (replicate (16 - length (ruleWords n rs)) 0) (length (T.ruleWords rs)) (length-taken n rs ∙ sym (length-rules rs))
+    ∙ take-at (ruleLabels n rs) (replicate (16 - length (ruleLabels n rs)) 0) (length (T.ruleWords rs)) (length-taken n rs ∙ sym (length-rules rs))
 
 module _ (d : Description) (o : Order) (n t : ℕ) (h : n < termCount d) (few : termCount d ≤ 96) (narrow : names d ≤ 12) where
   -- a list of any kind, whose entries take so many words each
@@ -62,7 +62,6 @@ module _ (d : Description) (o : Order) (n t : ℕ) (h : n < termCount d) (few : 
   way-same (allow ls) = refl
 
   pub words-same : (op : Operator) → termAt d n ≡ wrap op t → LegalOperator (names d) op → wordsFor (T.storeOf d o) (T.operatorFor n op) ≡ wayWords (names d) op
-  unfolding pairWord
   words-same (block ns) e l = stored (block ns) 1 (length ns) e (sym (mul-one (length ns))) (names-fit ns (l .2) (l .1))
   words-same (hide ns) e l = stored (hide ns) 1 (length ns) e (sym (mul-one (length ns))) (names-fit ns (l .2) (l .1))
   words-same (rename ps) e l =

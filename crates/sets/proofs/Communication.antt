@@ -22,7 +22,7 @@ use Rattle.meaning.proofs.Sorted.{Within}
 use Rattle.meaning.proofs.Members.{in-append, in-ascending, in-spread, in-spread→, in-map, in-map→}
 use Rattle.meaning.proofs.Operators.{in-applied, in-applied→, length-replaced, fewer-left}
 use Rattle.labels.specs.Packing.{packed}
-use Rattle.labels.specs.Stored.{ruleWords}
+use Rattle.labels.proofs.Stored.{ruleLabels}
 use Rattle.labels.proofs.Meant.{Packs, packs-small, inside-number, difference-number, sum-number}
 use Rattle.sets.specs.declared.Inserted.{Inserted}
 use Rattle.sets.specs.declared.Inserted.the-variants.{Full, Present, Added}
@@ -40,8 +40,8 @@ use borrow.Author.Tests.{ltb-false}
 abbrev exchange : ℕ → Rule → Exchange
 exchange names r = record { left = number (r .left); right = number (single names (r .right)) }
 
-rules-read : (names : ℕ) (rs : List Rule) → exchangesIn (ruleWords names rs) ≡ map (exchange names) rs
-unfolding exchangesIn ruleWords
+rules-read : (names : ℕ) (rs : List Rule) → exchangesIn (ruleLabels names rs) ≡ map (exchange names) rs
+unfolding exchangesIn ruleLabels
 rules-read names [] = refl
 rules-read names (r ∷ rs) = ap (λ (l : List Exchange). exchange names r ∷ l) (rules-read names rs)
 
@@ -321,7 +321,7 @@ module _ (names : ℕ) (few : names ≤ 12) (rs : List Rule) (legal : Each (Lega
   -- The labels of a list through comm.
   pub comm-outcome : (l M : List Label) → AllPack names l → AllPack names M → Closed M
       → Outcome names room Closed closed-moves (spread (λ a. communicated (size a) names rs a) l ++ M)
-      (each (imaged room Comm (ruleWords names rs)) (map number l) (numbers M))
+      (each (imaged room Comm (ruleLabels names rs)) (map number l) (numbers M))
   comm-outcome l M p q c =
       subst (λ (xs : List Exchange). Outcome names room Closed closed-moves (spread (λ a. communicated (size a) names rs a) l ++ M)
       (each (λ w. closed room xs 31 w) (map number l) (numbers M))) (sym (rules-read names rs))

@@ -11,7 +11,8 @@ use Rattle.labels.specs.declared.Sum.{Sum}
 use Rattle.labels.specs.declared.Sum.the-variants.{Over, Of}
 use Rattle.labels.specs.Packing.{held, code, packed}
 use Rattle.labels.specs.Bags.{bag, sumOf}
-use Rattle.labels.specs.Names.{pairsIn, targets}
+use Rattle.labels.specs.Pairs.{pairsIn}
+use Rattle.names.specs.Names.{targets}
 use Rattle.sets.specs.declared.Inserted.{Inserted}
 use Rattle.sets.specs.declared.Inserted.the-variants.{Full, Present, Added}
 use Rattle.sets.specs.declared.Built.{Built}
@@ -95,7 +96,9 @@ eachRule step [] w s = done s
 eachRule step (r ∷ rs) w s = next (taken step (exchangeOf (r .left) (r .right) w) s) (eachRule step rs w)
 
 -- A label with all that follows from it by at most so many applications, one after the other. From a label that was there
--- already nothing is followed again.
+-- already nothing is followed again. Which labels are in when the room runs out depends on the order of the walk, so the walk
+-- is what is written here. Where the room does not run out, the set holds the labels before and all that follow by rules, and no
+-- others: `comm-outcome` in proofs/Communication.antt.
 unfoldable pub closed : ℕ → List Exchange → ℕ → ℕ → List ℕ → Building
 closed room rs zero w s = enter room w s
 closed room rs (suc depth) w s = followed (inserted room w s) w (eachRule (closed room rs depth) rs w) s

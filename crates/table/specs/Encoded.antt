@@ -16,6 +16,7 @@ use Rattle.table.specs.Packed.{termWord}
 use Rattle.meaning.specs.Bytes.{Text}
 use Rattle.meaning.specs.Labels.{number}
 use Rattle.meaning.specs.Descriptions as D
+pub use Rattle.labels.specs.Pairs.{pairWord}
 
 -- the first so many of a list, with a filler where it has fewer
 unfoldable pub filled : {A : Type 0} → ℕ → A → List A → List A
@@ -26,9 +27,6 @@ filled (suc n) x (y ∷ ys) = y ∷ filled n x ys
 unfoldable pub wordOf : Text → ℕ
 wordOf [] = 0
 wordOf (b ∷ s) = b + 256 * wordOf s
-
-abbrev pub pairWord : D.Pair → ℕ
-pairWord p = p .left + 32 * p .right
 
 unfoldable pub ruleWords : List D.Rule → List ℕ
 ruleWords [] = []

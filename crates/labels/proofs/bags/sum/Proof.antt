@@ -1,7 +1,9 @@
 -- `labels::bags::sum` meets its contract. Assumes nothing.
+use native.Mathlib.Omega.{arith}
 use borrow.Author.Needs.{needs}
 use borrow.Author.Tests.{lt-ltb, le-ltb}
 use Rattle.labels.specs.Bags.{sumOf}
+use Rattle.labels.proofs.Sizes.{size-word}
 use Rattle.labels.proofs.bags.sum.Statement.{statement}
 use Rattle.labels.proofs.bags.sum.Tie as tie
 
@@ -12,7 +14,9 @@ size-requires-2 : tie.Need-size-requires-2
 size-requires-2 c κs = search needs
 
 add-if1 : tie.Need-add-if1
-add-if1 c = search needs
+add-if1 c =
+    let a = c .before .before .args in
+    omega (arith, size-word (a .a .word) (omega arith), size-word (a .b .word) (omega arith))
 
 wrapping-add-u64-requires : tie.Need-wrapping-add-u64-requires
 wrapping-add-u64-requires c κs = search needs

@@ -1,10 +1,10 @@
--- `labels::names::renaming` meets its contract. The loop's invariant: the map is that of the pairs from the i-th on; the
+-- `names::renaming` meets its contract. The loop's invariant: the map is that of the pairs from the i-th on; the
 -- measure is i. Assumes nothing.
 use native.Mathlib.Omega.{arith}
 use borrow.Author.Needs.{needs}
-use Rattle.labels.proofs.Lists.{Filled, filled-start, filled-more, filled-skips, filled-all}
-use Rattle.labels.proofs.names.renaming.Statement.{statement}
-use Rattle.labels.proofs.names.renaming.Tie as tie
+use Rattle.names.proofs.Lists.{Filled, filled-start, filled-more, filled-skips, filled-all}
+use Rattle.names.proofs.renaming.Statement.{statement}
+use Rattle.names.proofs.renaming.Tie as tie
 
 abbrev Inv-loop : tie.InvT-loop
 Inv-loop pairs to₀ i₀ to i = Filled pairs i to

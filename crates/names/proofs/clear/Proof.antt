@@ -1,4 +1,4 @@
--- `labels::names::clear` meets its contract. The loop's invariant: the names from the i-th on decide; the measure is how many
+-- `names::clear` meets its contract. The loop's invariant: the names from the i-th on decide; the measure is how many
 -- they are. Assumes nothing.
 use mathlib.Core.Path.{_≡_, refl, sym, _∙_}
 use Prim.Native.Nat.{_-_}
@@ -6,10 +6,10 @@ use native.Mathlib.Omega.{arith}
 use borrow.Author.Needs.{needs}
 use lib.ListN.{length, drop}
 use Rattle.meaning.specs.Labels.{clear}
 use Rattle.labels.specs.Bags.{bag}
-use Rattle.labels.proofs.Lists.{clear-fails, clear-goes, clear-ends}
-use Rattle.labels.proofs.names.clear.Statement.{statement}
-use Rattle.labels.proofs.names.clear.Tie as tie
+use Rattle.names.proofs.Lists.{clear-fails, clear-goes, clear-ends}
+use Rattle.names.proofs.clear.Statement.{statement}
+use Rattle.names.proofs.clear.Tie as tie
 
 abbrev Inv-loop : tie.InvT-loop
 Inv-loop a names i₀ i = clear (drop i names) (bag (a .word)) ≡ clear names (bag (a .word))

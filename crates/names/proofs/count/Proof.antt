@@ -1,14 +1,14 @@
--- `labels::names::count` meets its contract. Assumes nothing.
+-- `names::count` meets its contract. Assumes nothing.
 use mathlib.Core.Path.{sym}
 use borrow.Author.Needs.{needs}
 use native.Mathlib.Omega.{arith}
 use lib.Dec.{lit<}
 use lib.ListN.{List·getD-eq-default}
 use Rattle.meaning.proofs.Digits.{length-labelOf}
 use Rattle.labels.specs.Bags.{bag}
-use Rattle.labels.proofs.Words.{word-count}
-use Rattle.labels.proofs.names.count.Statement.{statement}
-use Rattle.labels.proofs.names.count.Tie as tie
+use Rattle.names.proofs.Counts.{word-count}
+use Rattle.names.proofs.count.Statement.{statement}
+use Rattle.names.proofs.count.Tie as tie
 
 mul-result : tie.Need-mul-result
 mul-result c = search needs

@@ -1,24 +1,17 @@
--- Counts of names, and lists of pairs in words.
+-- Counts of names, and maps of names.
 -- Assumes nothing.
 use mathlib.Core.Path.{_≡_}
-use mathlib.Core.List.{List, [], _∷_, map}
-use Prim.Native.Nat.{ℕ, zero, suc, _/_, _%_, _<_}
+use mathlib.Core.List.{List, [], _∷_}
+use Prim.Native.Nat.{ℕ, zero, suc, _<_}
 use Rattle.meaning.specs.Labels.{count}
 use Rattle.meaning.specs.Descriptions.{Pair}
 use Rattle.meaning.specs.Rounds.{target}
 use Rattle.labels.specs.Bags.{bag}
 
 -- How often a name occurs: a digit.
 pub record Counted (w n r : ℕ) : Type 0 where
   pub exact : r ≡ count (bag w) n
   pub small : r < 32
-
--- A pair `a>b` is the word a + 32 b.
-abbrev pub pairOf : ℕ → Pair
-pairOf w = record { left = w % 32; right = w / 32 }
-
-abbrev pub pairsIn : List ℕ → List Pair
-pairsIn words = map pairOf words
 
 -- A map of names as the list of where each goes, from name `first` on; the 12 names under pairs.
 unfoldable pub listed : ℕ → ℕ → (ℕ → ℕ) → List ℕ

@@ -1,14 +1,14 @@
--- `labels::names::rename` meets its contract. The loop's invariant is `Moved`: what the first i names weigh, and what is left;
+-- `names::rename` meets its contract. The loop's invariant is `Moved`: what the first i names weigh, and what is left;
 -- the measure is how many names are left. Assumes nothing.
 use mathlib.Core.Path.{ap}
 use Prim.Native.Nat.{_-_, _*_, _≤_, _%_, _^_}
 use native.Mathlib.Omega.{arith}
 use borrow.Author.Needs.{needs}
 use lib.ListN.{getD}
 use Rattle.labels.specs.Packing.{packed}
-use Rattle.labels.proofs.Lists.{Moved, moved-start, moved-more, moved-early, moved-all, weight-fits}
-use Rattle.labels.proofs.names.rename.Statement.{statement}
-use Rattle.labels.proofs.names.rename.Tie as tie
+use Rattle.names.proofs.Lists.{Moved, moved-start, moved-more, moved-early, moved-all, weight-fits}
+use Rattle.names.proofs.rename.Statement.{statement}
+use Rattle.names.proofs.rename.Tie as tie
 
 abbrev Inv-loop : tie.InvT-loop
 Inv-loop to rest₀ word₀ i₀ rest word i = Moved (λ n. getD to n 0) rest₀ i rest word

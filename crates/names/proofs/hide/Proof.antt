@@ -1,14 +1,12 @@
--- `labels::names::hide` meets its contract. The loop's invariant: the word stands for the bag without the names from the i-th
+-- `names::hide` meets its contract. The loop's invariant: the word stands for the bag without the names from the i-th
 -- on; the measure is i. Assumes nothing.
 use mathlib.Core.Path.{ap}
 use native.Mathlib.Omega.{arith}
 use borrow.Author.Needs.{needs}
-use Rattle.meaning.specs.Labels.{without}
 use Rattle.labels.specs.Packing.{packed}
-use Rattle.labels.specs.Bags.{bag}
-use Rattle.labels.proofs.Lists.{Hidden, hidden-start, hidden-more, hidden-all}
-use Rattle.labels.proofs.names.hide.Statement.{statement}
-use Rattle.labels.proofs.names.hide.Tie as tie
+use Rattle.names.proofs.Lists.{Hidden, hidden-start, hidden-more, hidden-all}
+use Rattle.names.proofs.hide.Statement.{statement}
+use Rattle.names.proofs.hide.Tie as tie
 
 abbrev Inv-loop : tie.InvT-loop
 Inv-loop names left₀ i₀ left i = Hidden names (left₀ .word) i (left .word)

@@ -1,15 +1,17 @@
-// Labels and names: how often one occurs, lists of names hidden or blocked, renaming.
-use crate::Label;
-use crate::NAMES;
-use crate::bags::single;
-use crate::packing::word_at;
+// What is made of the names of a packed label: how often one occurs, lists of names hidden or blocked, renaming. Every function
+// answers for every word, also one that packs no label.
+use labels::Label;
+use labels::NAMES;
+use labels::bags::single;
+use labels::packing::word_at;
 ghost use mathlib.Core.Path.{_≡_};
 ghost use mathlib.Core.List.{[], _∷_};
 ghost use lib.ListN.{getD};
 ghost use Rattle.meaning.specs.Labels.{number, count, labelOf, clear, without, renamed};
 ghost use Rattle.labels.specs.Packing.{code, packed};
 ghost use Rattle.labels.specs.Bags.{bag};
-ghost use Rattle.labels.specs.Names.{Counted, targets, pairsIn};
+ghost use Rattle.labels.specs.Pairs.{pairsIn};
+ghost use Rattle.names.specs.Names.{Counted, targets};
 
 // How often name n occurs. The word's last four bits stand for a thirteenth name, which no description has.
 pub fn count(a: Label, n: u64) -> u64
@@ -36,7 +38,7 @@ pub fn clear(a: Label, names: &[u64]) -> bool
     true
 }
 
-// The label without one name, and without the listed names.
+// The label without one name.
 fn hide_one(a: Label, n: u64) -> Label
     ensures { λ r. ⌜ r ≡ packed (number (without (n ∷ []) (bag (code a)))) ⌝ }
 {
@@ -49,6 +51,7 @@ fn hide_one(a: Label, n: u64) -> Label
     }
 }
 
+// The label without the listed names.
 pub fn hide(a: Label, names: &[u64]) -> Label
     ensures { λ r. ⌜ r ≡ packed (number (without (now (names .entry)) (bag (code a)))) ⌝ }
 {

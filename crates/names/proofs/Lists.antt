@@ -2,7 +2,7 @@
 -- Assumes nothing.
 use mathlib.Core.Path.{_≡_, refl, sym, ap, ap₂, subst, _∙_}
 use mathlib.Core.Bool.{true, false}
-use mathlib.Core.List.{List, [], _∷_, map}
+use mathlib.Core.List.{List, [], _∷_}
 use Prim.Native.Nat.{ℕ, zero, suc, _+_, _*_, _-_, _/_, _%_, _^_, _≤_, _<_, zero-le}
 use native.Mathlib.Nat.{le-refl, one-mul, zero-mul, mul-zero, mul-le-mul, pow-le-pow-right}
 use native.Mathlib.Numerals.{add-one}
@@ -16,9 +16,11 @@ use Rattle.meaning.specs.Labels.{Label, count, number, labelOf, several, clear,
 use Rattle.meaning.specs.Descriptions.{Pair}
 use Rattle.meaning.specs.Rounds.{pick, target}
 use Rattle.meaning.proofs.Bags.{number-plus}
 use Rattle.labels.specs.Bags.{bag}
-use Rattle.labels.specs.Names.{pairOf, pairsIn, listed, targets}
-use Rattle.labels.proofs.Words.{number-bag, bag-cleared, number-less, number-several, number-none}
+use Rattle.labels.specs.Pairs.{pairOf, pairsIn}
+use Rattle.names.specs.Names.{listed, targets}
+use Rattle.labels.proofs.Words.{number-bag, number-several, number-none}
+use Rattle.names.proofs.Counts.{bag-cleared, number-less}
 
 -- The list from the place before a given one.
 from-before : (l : List ℕ) (i n : ℕ) → 0 < i → i ≤ length l → n ≡ getD l (i - 1) 0 → drop (i - 1) l ≡ n ∷ drop i l

@@ -1,4 +1,4 @@
--- `labels::names::hide_one` meets its contract. Assumes nothing.
+-- `names::hide_one` meets its contract. Assumes nothing.
 use mathlib.Core.Path.{_≡_, sym, ap, _∙_}
 use Prim.Native.Nat.{_+_, _*_, _-_, _%_, _^_}
 use borrow.Author.Needs.{needs}
@@ -7,11 +7,12 @@ use lib.ListN.{set}
 use lib.Seq.{set-out}
 use Rattle.meaning.specs.Labels.{number, without}
 use Rattle.meaning.proofs.Digits.{length-labelOf}
 use Rattle.labels.specs.Packing.{packed}
 use Rattle.labels.specs.Bags.{bag}
-use Rattle.labels.proofs.Words.{number-bag, word-cleared}
-use Rattle.labels.proofs.names.hide_one.Statement.{statement}
-use Rattle.labels.proofs.names.hide_one.Tie as tie
+use Rattle.labels.proofs.Words.{number-bag}
+use Rattle.names.proofs.Counts.{word-cleared}
+use Rattle.names.proofs.hide_one.Statement.{statement}
+use Rattle.names.proofs.hide_one.Tie as tie
 
 count-requires : tie.Need-count-requires
 count-requires c κs = search needs

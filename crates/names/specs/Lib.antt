@@ -1,0 +1,2 @@
+-- What the functions on the names of a label mean.
+pub mod Names
