@@ -26,9 +26,9 @@ use Rattle.sets.specs.declared.Built.the-variants.{TooLarge, Holds}
 use Rattle.sets.specs.Parts.{partBefore, roomAt, laid}
 use Rattle.sets.specs.Building.{Grown}
 use Rattle.sets.proofs.Walking.{part-end}
-use Rattle.shapes.specs.Steady.{sizeAt, stays}
 use Rattle.rounds.specs.Working.{half, partly, setOf, Ready, Worked}
-use Rattle.shapes.specs.Steady.{unchanged}
+use Rattle.shapes.specs.Shaping.{shapeFor}
+use Rattle.shapes.specs.Steady.{sizeAt, stays, unchanged}
 use Rattle.rounds.specs.Terms.{partIn, placeIn, leftIn, copyBuilt}
 use Rattle.rounds.proofs.Areas.{part-taken}
 use Rattle.rounds.proofs.Turning.{same-size}
@@ -129,7 +129,7 @@ module _ (d : Description) (k n : ℕ) (older before this work : List ℕ) (r : 
     two t u h j s =
         (operands t h (and-left (stays before this t) (stays before this u) s), operands u j (and-right (stays before this t) (stays before this u) s))
 
-    same-for : (t : Term) → LegalTerm d n t → T (unchanged (tableOf d .bodies) older before this (termFor n t)) → IsBuilt (shape d t) × SameFor eqs eqs′ sets sets′ (shape d t)
+    same-for : (t : Term) → LegalTerm d n t → T (unchanged (tableOf d .bodies) older before this (shapeFor (termFor n t))) → IsBuilt (shape d t) × SameFor eqs eqs′ sets sets′ (shape d t)
     same-for (act a) l s = absurd s
     same-for tau l s = absurd s
     same-for delta l s = absurd s
@@ -146,7 +146,7 @@ module _ (d : Description) (k n : ℕ) (older before this work : List ℕ) (r : 
 
 -- The set of a term whose operands and bodies stayed is that of the round before.
 abbrev stayed : Description → ℕ → (older before this : List ℕ) → Type 0
-stayed d n older before this = T (unchanged (tableOf d .bodies) older before this (termFor n (termAt d n)))
+stayed d n older before this = T (unchanged (tableOf d .bodies) older before this (shapeFor (termFor n (termAt d n))))
 
 set-stays : (d : Description) (k n : ℕ) (older before this work : List ℕ) → Ready d k n older before this work → n < termCount d → stayed d n older before this
     → setOf d k n ≡ at (roundSets d k) n

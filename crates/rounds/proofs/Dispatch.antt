@@ -1,6 +1,7 @@
 -- The set of a term of the table of a legal description, built as its kind says, is the term's set, or passes a limit.
 -- Assumes nothing.
 use mathlib.Core.Path.{_≡_, refl, sym, ap, subst, _∙_}
+use mathlib.Core.Bool.{true, false}
 use mathlib.Core.List.{List, [], _∷_}
 use Prim.Native.Nat.{ℕ, zero, suc, _+_, _-_, _≤_, _<_}
 use native.Mathlib.Nat.{le-refl}
@@ -26,12 +27,13 @@ use Rattle.sets.specs.Building.{next, Grown}
 use Rattle.shapes.specs.Making.{leafBuilt, throughBuilt}
 use Rattle.rounds.specs.Working.{half, partly, Ready, Worked}
 use Rattle.shapes.specs.Ways.{wayFor}
+use Rattle.shapes.specs.Shaping.{shapeFor}
 use Rattle.rounds.specs.Terms.{partIn, placeIn, leftIn, copyBuilt, newOf, built}
 use Rattle.rounds.proofs.Settling.{placeOf, leftOf}
 use Rattle.rounds.proofs.Shaped.{wayWords}
 use Rattle.rounds.proofs.Stores.{way-same, words-same}
 use Rattle.rounds.proofs.Arms.{none-arm, leaf-arm, joint-arm}
-use Rattle.rounds.proofs.Growing.{through-grown-arm, either-grown-arm, both-grown-arm, one-copy-arm, reference-copy-arm}
+use Rattle.rounds.proofs.Growing.{through-grown-arm, two-grown-arm, one-copy-arm, reference-copy-arm}
 
 -- The place after the sets of this round so far.
 pub starts-here : (d : Description) (k n : ℕ) (older before this work : List ℕ) → Ready d k n older before this work → getD this n 0 ≡ total (partly d k n)
@@ -58,7 +60,7 @@ module _ (d : Description) (o : Order) (k n : ℕ) (older before this work work�
   old = partIn (placeOf d k n) 0 before n work
 
   abbrev Made : Term → Type 0
-  Made t = Grown (built room (placeOf d k n) (storeOf d o) (tableOf d .bodies) before this work old (termFor n t)) (placeOf d k n) 0 work work′ r
+  Made t = Grown (built room (placeOf d k n) (storeOf d o) (tableOf d .bodies) before this work old (shapeFor (termFor n t))) (placeOf d k n) 0 work work′ r
 
   narrow : names d ≤ 12
   narrow = ready .legal .nameCount .1
@@ -77,11 +79,11 @@ module _ (d : Description) (o : Order) (k n : ℕ) (older before this work work�
       (body-of d x l (ready .legal .equationCount)) g)
   kind (sum t) e l g = one-copy-arm d k n older before this work work′ r ready more t l (ap (shape d) e) g
   kind (cond t) e l g = one-copy-arm d k n older before this work work′ r ready more t l (ap (shape d) e) g
-  kind (choice t u) e l g = either-grown-arm d k n older before this work work′ r ready more t u (l .0) (l .1) (ap (shape d) e) g
-  kind (ifelse t u) e l g = either-grown-arm d k n older before this work work′ r ready more t u (l .0) (l .1) (ap (shape d) e) g
-  kind (seq t u) e l g = either-grown-arm d k n older before this work work′ r ready more t u (l .0) (l .1) (ap (shape d) e) g
-  kind (merge t u) e l g = both-grown-arm d k n older before this work work′ r ready more t u (l .0) (l .1) (ap (shape d) e) g
-  kind (lmerge t u) e l g = both-grown-arm d k n older before this work work′ r ready more t u (l .0) (l .1) (ap (shape d) e) g
+  kind (choice t u) e l g = two-grown-arm d k n older before this work work′ r ready more false t u (l .0) (l .1) (ap (shape d) e) g
+  kind (ifelse t u) e l g = two-grown-arm d k n older before this work work′ r ready more false t u (l .0) (l .1) (ap (shape d) e) g
+  kind (seq t u) e l g = two-grown-arm d k n older before this work work′ r ready more false t u (l .0) (l .1) (ap (shape d) e) g
+  kind (merge t u) e l g = two-grown-arm d k n older before this work work′ r ready more true t u (l .0) (l .1) (ap (shape d) e) g
+  kind (lmerge t u) e l g = two-grown-arm d k n older before this work work′ r ready more true t u (l .0) (l .1) (ap (shape d) e) g
   kind (sync t u) e l g = joint-arm d k n older before this work work′ r ready more t u (l .0 .0) (l .0 .1) (ap (shape d) e) g
   kind (wrap op t) e l g =
       let Wrapped : Way → List ℕ → Type 0 =
@@ -90,9 +92,9 @@ module _ (d : Description) (o : Order) (k n : ℕ) (older before this work work�
       (subst (λ (way : Way). Wrapped way (wayWords (names d) op)) (way-same d o n t more (ready .legal .termsCount .1) narrow op)
       (subst (Wrapped (wayFor (operatorFor n op))) (words-same d o n t more (ready .legal .termsCount .1) narrow op e (l .1)) g))
 
-  pub kind-worked : Grown (built (roomAt (placeIn this n) (leftIn this n) (length work)) (placeIn this n) (storeOf d o) (tableOf d .bodies) before this work (partIn (placeIn this n) 0 before n work) (termFor n (termAt d n))) (placeIn this n) 0 work work′ r
+  pub kind-worked : Grown (built (roomAt (placeIn this n) (leftIn this n) (length work)) (placeIn this n) (storeOf d o) (tableOf d .bodies) before this work (partIn (placeIn this n) 0 before n work) (shapeFor (termFor n (termAt d n)))) (placeIn this n) 0 work work′ r
       → Worked d k n work work′ r
   kind-worked g =
       kind (termAt d n) refl (term-legal d all (ready .legal) n)
-      (subst (λ (x : ℕ). Grown (built (roomAt (half + x) (half - x) (length work)) (half + x) (storeOf d o) (tableOf d .bodies) before this work (partIn (half + x) 0 before n work) (termFor n (termAt d n))) (half + x) 0 work work′ r)
+      (subst (λ (x : ℕ). Grown (built (roomAt (half + x) (half - x) (length work)) (half + x) (storeOf d o) (tableOf d .bodies) before this work (partIn (half + x) 0 before n work) (shapeFor (termFor n (termAt d n)))) (half + x) 0 work work′ r)
       (starts-here d k n older before this work ready) g)

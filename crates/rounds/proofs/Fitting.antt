@@ -14,7 +14,7 @@ use Rattle.sets.specs.Building.{Building, goesOn, next, imaged, row, multiplied
 use Rattle.sets.specs.Joining.{joined, ascent, fitting, united}
 use Rattle.sets.proofs.Steps.{Steady, steady-each, steady-enter, steady-imaged, steady-row}
 use Rattle.shapes.specs.Making.{leafBuilt, throughBuilt, eitherBuilt, jointBuilt, bothBuilt}
-use Rattle.rounds.specs.Terms.{fitted, copyBuilt, eitherAdded, jointAdded, bothAdded, madeOr}
+use Rattle.rounds.specs.Terms.{fitted, copyBuilt, eitherAdded, jointAdded, bothAdded, madeOr, wholeOf, addedOf}
 use Rattle.shapes.proofs.Filling.{length-zeros}
 
 module _ (room : ℕ) where
@@ -82,14 +82,16 @@ module _ (room : ℕ) where
   pub through-grown-fits : (old : List ℕ) (way : Way) (list new : List ℕ) → length (next (copyBuilt room old []) (throughBuilt room way list new) .set) ≤ room
   through-grown-fits old way list new = stays-next (copyBuilt room old []) (throughBuilt room way list new) (copy-fits old) (through-stays way list new)
 
-  pub either-grown-fits : (old newA a newB b : List ℕ)
-      → length (next (copyBuilt room old []) (madeOr (eitherBuilt room a b) (eitherAdded room newA newB)) .set) ≤ room
-  either-grown-fits old newA a newB b =
-      stays-next (copyBuilt room old []) (madeOr (eitherBuilt room a b) (eitherAdded room newA newB)) (copy-fits old)
-      (stays-or (eitherBuilt room a b) (eitherAdded room newA newB) (either-fits a b) (either-stays newA newB))
+  whole-fits : (sums : Bool) (a b : List ℕ) → length (wholeOf sums room a b [] .set) ≤ room
+  whole-fits true a b = both-fits a b
+  whole-fits false a b = either-fits a b
 
-  pub both-grown-fits : (old newA a newB b : List ℕ)
-      → length (next (copyBuilt room old []) (madeOr (bothBuilt room a b) (bothAdded room newA a newB b)) .set) ≤ room
-  both-grown-fits old newA a newB b =
-      stays-next (copyBuilt room old []) (madeOr (bothBuilt room a b) (bothAdded room newA a newB b)) (copy-fits old)
-      (stays-or (bothBuilt room a b) (bothAdded room newA a newB b) (both-fits a b) (both-stays newA a newB b))
+  added-stays : (sums : Bool) (newA a newB b : List ℕ) → Stays (addedOf sums room newA a newB b)
+  added-stays true newA a newB b = both-stays newA a newB b
+  added-stays false newA a newB b = either-stays newA newB
+
+  pub two-grown-fits : (sums : Bool) (old newA a newB b : List ℕ)
+      → length (next (copyBuilt room old []) (madeOr (wholeOf sums room a b) (addedOf sums room newA a newB b)) .set) ≤ room
+  two-grown-fits sums old newA a newB b =
+      stays-next (copyBuilt room old []) (madeOr (wholeOf sums room a b) (addedOf sums room newA a newB b)) (copy-fits old)
+      (stays-or (wholeOf sums room a b) (addedOf sums room newA a newB b) (whole-fits sums a b) (added-stays sums newA a newB b))

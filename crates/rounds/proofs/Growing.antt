@@ -31,12 +31,12 @@ use Rattle.sets.proofs.Communication.{rule-legal}
 use Rattle.sets.proofs.Meant.{AllPack}
 use Rattle.shapes.specs.Fresh.{fresh}
 use Rattle.shapes.specs.Making.{throughBuilt, eitherBuilt, bothBuilt}
-use Rattle.rounds.specs.Terms.{partIn, copyBuilt, newOf, eitherAdded, jointAdded, bothAdded, madeOr, twoGrown}
+use Rattle.rounds.specs.Terms.{partIn, copyBuilt, newOf, eitherAdded, jointAdded, bothAdded, madeOr, wholeOf, addedOf, twoGrown}
 use Rattle.rounds.specs.Working.{half, partly, Ready, Worked}
 use Rattle.rounds.proofs.Settling.{placeOf, roomOf}
 use Rattle.rounds.proofs.Operands.{partly-round, round-set, round-ascending, before-part, before-packs, term-part, term-packs, term-ascends}
 use Rattle.rounds.proofs.Shaped.{Settled, wayOf, wayWords, Shut, same-settled, settled-next, copied-settled, copy-added, product-added, through-added, either-settled, both-settled}
-use Rattle.rounds.proofs.Fitting.{through-grown-fits, either-grown-fits, both-grown-fits}
+use Rattle.rounds.proofs.Fitting.{through-grown-fits, two-grown-fits}
 use Rattle.rounds.proofs.Arms.{arm, shaped, copy-arm}
 
 -- What is fresh among the numbers of labels, whatever the order: numbers of labels of the newer list, and of all that the older
@@ -274,6 +274,23 @@ module _ (names room : ℕ) (few : names ≤ 12) where
         (same-settled names room all R (more (map number (ascending M))) there back
         (both-more names room few (x .list) A (y .list) B M (new-packs A′ A x p) p (new-packs B′ B y q) q r))))
 
+-- Two operands, with every sum of their labels or without.
+abbrev pub two : (sums : Bool) → ℕ → ℕ → Shape
+two true t u = both t u
+two false t u = either t u
+
+module _ (names room : ℕ) (few : names ≤ 12) (sums : Bool) (eqs old sets : List (List Label)) (t u : ℕ) where
+  two-grown : AllPack names (at old t) → AllPack names (at sets t) → AllPack names (at old u) → AllPack names (at sets u)
+      → ascending (at sets t) ≡ at sets t → ascending (at sets u) ≡ at sets u → AllPack names (made [] old (two sums t u))
+      → Within (made [] old (two sums t u)) (made eqs sets (two sums t u))
+      → Settled names room (made eqs sets (two sums t u)) (next (copyBuilt room (map number (ascending (made [] old (two sums t u)))) [])
+      (madeOr (wholeOf sums room (map number (at sets t)) (map number (at sets u)))
+      (addedOf sums room (fresh (map number (at old t)) (map number (at sets t))) (map number (at sets t)) (fresh (map number (at old u)) (map number (at sets u))) (map number (at sets u)))))
+  two-grown p′ p q′ q up also = elim sums [
+    | true ↦ both-grown names room few (at old t) (at sets t) (at old u) (at sets u) p′ p q′ q up also
+    | false ↦ either-grown names room few (at old t) (at sets t) (at old u) (at sets u) p′ p q′ q up also
+  ]
+
 -- The set of a term in the round before is made of the sets of that round, if its shape looks at earlier terms alone; in round 0
 -- all are empty.
 abbrev Looks : Description → ℕ → ℕ → Shape → Type 0
@@ -347,33 +364,28 @@ module _ (d : Description) (k n : ℕ) (older before this work work′ : List �
       (through-grown (names d) room (r .legal .nameCount .1) op l (at (roundSets d k) t) (at (partly d k n) t) (was-packs t) (now-packs t h)
       (old-packs s refl looks e) (old-within s refl looks e))))
 
-  module _ (t u : ℕ) (left : t < n) (right : u < n) where
-    pub either-grown-arm : shape d (termAt d n) ≡ either t u → Grown (twoGrown false room (placeOf d k n) before this work old t u) (placeOf d k n) 0 work work′ answer
-        → Worked d k n work work′ answer
-    either-grown-arm e g =
-        let s = either t u in
-        let looks : Looks d k n s = λ eqs sets j. (j t left, j u right) in
-        arm d k n older before this work work′ answer r more (twoGrown false room (placeOf d k n) before this work old t u) g
-        (either-grown-fits room old (newOf (placeOf d k n) before this work t) (partIn (placeOf d k n) half this t work)
-        (newOf (placeOf d k n) before this work u) (partIn (placeOf d k n) half this u work))
-        (shaped d k n older before this work work′ answer r more s (twoGrown false room (placeOf d k n) before this work old t u []) e
-        (rw (old-is s refl looks e, was-part t left, now-part t left, was-part u right, now-part u right)
-        (either-grown (names d) room (r .legal .nameCount .1) (at (roundSets d k) t) (at (partly d k n) t) (at (roundSets d k) u) (at (partly d k n) u)
-        (was-packs t) (now-packs t left) (was-packs u) (now-packs u right) (now-ascends t) (now-ascends u) (old-packs s refl looks e) (old-within s refl looks e))))
+  two-none : (sums : Bool) (t u : ℕ) → made [] [] (two sums t u) ≡ []
+  unfolding product spread
+  two-none true t u = refl
+  two-none false t u = refl
 
-    pub both-grown-arm : shape d (termAt d n) ≡ both t u → Grown (twoGrown true room (placeOf d k n) before this work old t u) (placeOf d k n) 0 work work′ answer
-        → Worked d k n work work′ answer
-    unfolding product spread
-    both-grown-arm e g =
-        let s = both t u in
-        let looks : Looks d k n s = λ eqs sets j. (j t left, j u right) in
-        arm d k n older before this work work′ answer r more (twoGrown true room (placeOf d k n) before this work old t u) g
-        (both-grown-fits room old (newOf (placeOf d k n) before this work t) (partIn (placeOf d k n) half this t work)
-        (newOf (placeOf d k n) before this work u) (partIn (placeOf d k n) half this u work))
-        (shaped d k n older before this work work′ answer r more s (twoGrown true room (placeOf d k n) before this work old t u []) e
-        (rw (old-is s refl looks e, was-part t left, now-part t left, was-part u right, now-part u right)
-        (both-grown (names d) room (r .legal .nameCount .1) (at (roundSets d k) t) (at (partly d k n) t) (at (roundSets d k) u) (at (partly d k n) u)
-        (was-packs t) (now-packs t left) (was-packs u) (now-packs u right) (now-ascends t) (now-ascends u) (old-packs s refl looks e) (old-within s refl looks e))))
+  two-looks : (sums : Bool) (t u : ℕ) → t < n → u < n → Looks d k n (two sums t u)
+  two-looks true t u left right eqs sets j = (j t left, j u right)
+  two-looks false t u left right eqs sets j = (j t left, j u right)
+
+  pub two-grown-arm : (sums : Bool) (t u : ℕ) → t < n → u < n → shape d (termAt d n) ≡ two sums t u
+      → Grown (twoGrown sums room (placeOf d k n) before this work old t u) (placeOf d k n) 0 work work′ answer → Worked d k n work work′ answer
+  two-grown-arm sums t u left right e g =
+      let s = two sums t u in
+      let none = two-none sums t u in
+      let looks = two-looks sums t u left right in
+      arm d k n older before this work work′ answer r more (twoGrown sums room (placeOf d k n) before this work old t u) g
+      (two-grown-fits room sums old (newOf (placeOf d k n) before this work t) (partIn (placeOf d k n) half this t work)
+      (newOf (placeOf d k n) before this work u) (partIn (placeOf d k n) half this u work))
+      (shaped d k n older before this work work′ answer r more s (twoGrown sums room (placeOf d k n) before this work old t u []) e
+      (rw (old-is s none looks e, was-part t left, now-part t left, was-part u right, now-part u right)
+      (two-grown (names d) room (r .legal .nameCount .1) sums (equationSets d k) (roundSets d k) (partly d k n) t u
+      (was-packs t) (now-packs t left) (was-packs u) (now-packs u right) (now-ascends t) (now-ascends u) (old-packs s none looks e) (old-within s none looks e))))
 
   -- A set that is that of another term, or of an equation's body.
   pub one-copy-arm : (t : ℕ) → t < n → shape d (termAt d n) ≡ one t

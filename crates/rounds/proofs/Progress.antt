@@ -12,7 +12,7 @@ use lib.ListN.{length, getD, set, length-set}
 use lib.Seq.{getD-set-same, getD-set-other}
 use Rattle.meaning.specs.Descriptions as D
 use Rattle.table.specs.declared.Term.{Term}
-use Rattle.table.specs.Encoded.{storeOf, tableOf}
+use Rattle.table.specs.Encoded.{termFor, storeOf, tableOf}
 use Rattle.table.specs.Packed.{wordTerm}
 use Rattle.table.proofs.Stored.{term-of}
 use Rattle.sets.specs.declared.Built.{Built}
@@ -20,8 +20,9 @@ use Rattle.sets.specs.declared.Built.the-variants.{TooLarge, Holds}
 use Rattle.sets.specs.Parts.{roomAt}
 use Rattle.sets.specs.Building.{Grown}
 use Rattle.rounds.specs.Working.{half, whole, Ready, Kept, Worked, Between}
+use Rattle.shapes.specs.Shaping.{shapeFor}
 use Rattle.shapes.specs.Steady.{unchanged}
-use Rattle.rounds.specs.Terms.{Low, partIn, placeIn, leftIn, built, copyBuilt}
+use Rattle.rounds.specs.Terms.{Low, partIn, placeIn, leftIn, built, renewed, copyBuilt, TermBuilt}
 use Rattle.rounds.specs.Passes.{TermWorked, Read, Passed}
 use Rattle.rounds.proofs.Passing.{kept-self, kept-trans, next-fits, term-kept, ready-next}
 use Rattle.rounds.proofs.Turning.{ready-start, round-done, round-over}
@@ -30,24 +31,23 @@ use Rattle.rounds.proofs.Copying.{copy-worked}
 
 -- A term: copied if what it is built of stayed, and else worked out.
 module _ (term : Term) (store bodies : List ℕ) (n : ℕ) (older before this work work′ : List ℕ) (r : Built) where
-  pub turn-copied : unchanged bodies older before this term ≡ true
-      → Grown (copyBuilt (roomAt (placeIn this n) (leftIn this n) (length work)) (partIn (placeIn this n) 0 before n work)) (placeIn this n) 0 work work′ r
-      → TermWorked term store bodies n older before this work work′ r
-  turn-copied u g d o k e f b more ready =
-      copy-worked d k n older before this work work′ r ready more
-      (subst (λ (t : Bool). T t) (sym (ap₂ (λ (bs : List ℕ) (t : Term). unchanged bs older before this t) (sym b) (sym e) ∙ u)) tt) g
+  abbrev at : ℕ
+  at = placeIn this n
 
-  -- what is built, of whichever store and bodies
-  abbrev Turn : (store bodies : List ℕ) → Term → Type 0
-  Turn store bodies t =
-      Grown (built (roomAt (placeIn this n) (leftIn this n) (length work)) (placeIn this n) store bodies before this work (partIn (placeIn this n) 0 before n work) t) (placeIn this n) 0 work work′ r
+  abbrev old : List ℕ
+  old = partIn at 0 before n work
 
-  pub turn-worked : Turn store bodies term → TermWorked term store bodies n older before this work work′ r
-  turn-worked g d o k e f b more ready =
-      kind-worked d o k n older before this work work′ r ready more
-      (subst (Turn (storeOf d o) (tableOf d .bodies)) e
-      (subst (λ (bs : List ℕ). Turn (storeOf d o) bs term) b
-      (subst (λ (s : List ℕ). Turn s bodies term) f g)))
+  abbrev room : ℕ
+  room = roomAt at (leftIn this n) (length work)
+
+  term-worked : TermBuilt term store bodies n older before this work work′ r → TermWorked term store bodies n older before this work work′ r
+  term-worked g d o k e f b more ready = by (unchanged (tableOf d .bodies) older before this (shapeFor (termFor n (D.termAt d n)))) refl (rw (f, b, e) at g)
+    where
+      by : (t : Bool) → unchanged (tableOf d .bodies) older before this (shapeFor (termFor n (D.termAt d n))) ≡ t
+          → Grown (renewed t (copyBuilt room old) (built room at (storeOf d o) (tableOf d .bodies) before this work old (shapeFor (termFor n (D.termAt d n))))) at 0 work work′ r
+          → Worked d k n work work′ r
+      by true u x = copy-worked d k n older before this work work′ r ready more (subst (λ (t : Bool). T t) (sym u) tt) x
+      by false u x = kind-worked d o k n older before this work work′ r ready more x
 
 low-set : (starts : List ℕ) (n v : ℕ) → Low starts → v ≤ half → n < length starts → Low (set starts n v)
 low-set starts n v low h l i = elim (ℕ-discrete i n) [
@@ -99,14 +99,14 @@ module _ (slots bodies : List ℕ) (terms : ℕ) (store older before work₀ : L
         }
 
     abbrev Found : (work′ : List ℕ) → Built → Type 0
-    Found work′ r = TermWorked (wordTerm (getD slots n 0)) store bodies n older before this work work′ r
+    Found work′ r = TermBuilt (wordTerm (getD slots n 0)) store bodies n older before this work work′ r
 
     -- the term that the table has there, worked out
     done : (work′ : List ℕ) (r : Built) → Found work′ r → n < terms → (d : D.Description) (o : D.Order) (k : ℕ) → Read d slots bodies terms → store ≡ storeOf d o
         → Between d k older before work₀ → Worked d k n work work′ r
     done work′ r w more d o k e f b =
         let h : n < D.termCount d = omega (arith, e .2) in
-        w d o k (ap (λ (words : List ℕ). wordTerm (getD words n 0)) (e .0) ∙ term-of d D.all n (b .legal) h) f (e .1) h (p .right d o k e f b .0)
+        term-worked (wordTerm (getD slots n 0)) store bodies n older before this work work′ r w d o k (ap (λ (words : List ℕ). wordTerm (getD words n 0)) (e .0) ∙ term-of d D.all n (b .legal) h) f (e .1) h (p .right d o k e f b .0)
 
     pub progress-large : (work′ : List ℕ) → n < terms → Found work′ TooLarge → Passed slots bodies terms store older before work₀ this work′ false
     progress-large work′ more w =

@@ -1,18 +1,23 @@
--- The set of a term of the table, as it is built in the work area from the sets that stand there.
+-- The set of a term of the table, as it is built in the work area from the sets that stand there. Only private functions cite
+-- this: no public contract rests on it.
 -- Assumes nothing.
 use mathlib.Core.Bool.{Bool, true, false}
 use mathlib.Core.List.{List, [], _∷_}
 use Prim.Native.Nat.{ℕ, suc, _+_, _-_, _≤_}
 use lib.Dec.{leb}
 use lib.ListN.{length, getD}
-use Rattle.meaning.specs.Labels.{number, single}
+use Rattle.labels.specs.Packing.{code}
 use Rattle.table.specs.declared.Term.{Term}
-use Rattle.table.specs.declared.Term.the-variants.{Delta, Tau, Act, Ref, Sum, Cond, Choice, IfElse, Seq, Merge, LMerge, Sync, Wrap}
-use Rattle.sets.specs.declared.Way.the-variants.{Copy}
-use Rattle.sets.specs.Parts.{partBefore}
-use Rattle.sets.specs.Building.{Building, done, stopped, next, multiplied}
-use Rattle.shapes.specs.declared.Part.{Part}
 use Rattle.table.specs.declared.Operator.{Operator}
+use Rattle.sets.specs.declared.Built.{Built}
+use Rattle.sets.specs.declared.Way.the-variants.{Copy}
+use Rattle.sets.specs.Parts.{partBefore, roomAt}
+use Rattle.sets.specs.Building.{Building, done, stopped, next, multiplied, Grown}
+use Rattle.shapes.specs.declared.Part.{Part}
+use Rattle.shapes.specs.declared.Shape.{Shape}
+use Rattle.shapes.specs.declared.Shape.the-variants.{Empty, Leaf, Body, One, Two, Joint, Through}
+use Rattle.shapes.specs.Shaping.{shapeFor}
+use Rattle.shapes.specs.Steady.{unchanged}
 use Rattle.shapes.specs.Fresh.{fresh}
 use Rattle.shapes.specs.Ways.{wayFor, wordsFor}
 use Rattle.shapes.specs.Making.{leafBuilt, throughBuilt, eitherBuilt, jointBuilt, bothBuilt}
@@ -71,7 +76,7 @@ abbrev pub addedOf : (sums : Bool) → ℕ → (newA a newB b : List ℕ) → Li
 addedOf true room newA a newB b = bothAdded room newA a newB b
 addedOf false room newA a newB b = eitherAdded room newA newB
 
--- What is built for each kind of term, of which `old` is the set in the round before.
+-- What is built for each shape of term, of which `old` is the set in the round before.
 abbrev pub twoGrown : (sums : Bool) (room at : ℕ) (before this work old : List ℕ) → ℕ → ℕ → List ℕ → Building
 twoGrown sums room at before this work old t u s =
     next (copyBuilt room old s)
@@ -82,17 +87,25 @@ abbrev pub throughGrown : (room at : ℕ) (store before this work old : List ℕ
 throughGrown room at store before this work old o t s =
     next (copyBuilt room old s) (throughBuilt room (wayFor o) (wordsFor store o) (newOf at before this work t))
 
-abbrev pub built : (room at : ℕ) (store bodies before this work old : List ℕ) → Term → List ℕ → Building
-built room at store bodies before this work old Delta = done
-built room at store bodies before this work old Tau = leafBuilt room 0
-built room at store bodies before this work old (Act a) = leafBuilt room (number (single 12 a))
-built room at store bodies before this work old (Ref e) = copyBuilt room (partIn at 0 before (getD bodies e 0) work)
-built room at store bodies before this work old (Sum t) = copyBuilt room (partIn at half this t work)
-built room at store bodies before this work old (Cond t) = copyBuilt room (partIn at half this t work)
-built room at store bodies before this work old (Choice t u) = twoGrown false room at before this work old t u
-built room at store bodies before this work old (IfElse t u) = twoGrown false room at before this work old t u
-built room at store bodies before this work old (Seq t u) = twoGrown false room at before this work old t u
-built room at store bodies before this work old (Merge t u) = twoGrown true room at before this work old t u
-built room at store bodies before this work old (LMerge t u) = twoGrown true room at before this work old t u
-built room at store bodies before this work old (Sync t u) = jointBuilt room (partIn at half this t work) (partIn at half this u work)
-built room at store bodies before this work old (Wrap o t) = throughGrown room at store before this work old o t
+abbrev pub built : (room at : ℕ) (store bodies before this work old : List ℕ) → Shape → List ℕ → Building
+built room at store bodies before this work old Empty = done
+built room at store bodies before this work old (Leaf label) = leafBuilt room (code label)
+built room at store bodies before this work old (Body e) = copyBuilt room (partIn at 0 before (getD bodies e 0) work)
+built room at store bodies before this work old (One t) = copyBuilt room (partIn at half this t work)
+built room at store bodies before this work old (Two t u sums) = twoGrown sums room at before this work old t u
+built room at store bodies before this work old (Joint t u) = jointBuilt room (partIn at half this t work) (partIn at half this u work)
+built room at store bodies before this work old (Through o t) = throughGrown room at store before this work old o t
+
+-- The set of the round before where what it is built of stayed, and else what the shape says.
+abbrev pub renewed : (stayed : Bool) → (old new : List ℕ → Building) → List ℕ → Building
+renewed true old new = old
+renewed false old new = new
+
+abbrev pub TermBuilt : Term → (store bodies : List ℕ) → ℕ → (older before this work work′ : List ℕ) → Built → Type 0
+TermBuilt term store bodies n older before this work work′ r =
+    let at = placeIn this n in
+    let room = roomAt at (leftIn this n) (length work) in
+    let old = partIn at 0 before n work in
+    Grown
+    (renewed (unchanged bodies older before this (shapeFor term)) (copyBuilt room old) (built room at store bodies before this work old (shapeFor term)))
+    at 0 work work′ r

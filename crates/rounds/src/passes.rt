@@ -6,6 +6,7 @@ use crate::starts::place_of;
 use crate::terms::work_out;
 use sets::Built;
 use shapes::sameness::unchanged;
+use shapes::shaping::shape_of;
 use table::Term;
 use table::packing::unpack;
 ghost use mathlib.Core.Path.{_≡_};
@@ -13,8 +14,8 @@ ghost use Prim.Native.Nat.{_≤_};
 ghost use lib.ListN.{length, getD};
 ghost use Rattle.sets.specs.Parts.{roomAt};
 ghost use Rattle.sets.specs.Building.{Grown};
-ghost use Rattle.rounds.specs.Terms.{Low, partIn, placeIn, leftIn, copyBuilt};
-ghost use Rattle.rounds.specs.Passes.{TermWorked, Passed};
+ghost use Rattle.rounds.specs.Terms.{Low, partIn, placeIn, leftIn, copyBuilt, TermBuilt};
+ghost use Rattle.rounds.specs.Passes.{Passed};
 
 // The set of a term as it was in the round before.
 fn copied(n: usize, before: &[usize], this: &[usize], work: &mut [u64]) -> Built
@@ -40,13 +41,14 @@ fn next_term(
     this: &[usize],
     work: &mut [u64],
 ) -> Built
-    requires { ⌜ Low (now before) × Low (now this) × (4096 ≤ length (now work)) ⌝ }
-    ensures { λ r. ⌜ TermWorked term (now (store .entry)) (now (bodies .entry)) n (now (older .entry)) (now (before .entry)) (now (this .entry)) (now (work .entry)) (now (work .exit)) r ⌝ }
+    requires { ⌜ Low (now before) × Low (now this) ⌝ }
+    ensures { λ r. ⌜ TermBuilt term (now (store .entry)) (now (bodies .entry)) n (now (older .entry)) (now (before .entry)) (now (this .entry)) (now (work .entry)) (now (work .exit)) r ⌝ }
 {
-    if unchanged(term, bodies, older, before, this) {
+    let shape = shape_of(term);
+    if unchanged(shape, bodies, older, before, this) {
         return copied(n, before, this, work);
     }
-    work_out(term, store, bodies, n, before, this, work)
+    work_out(shape, store, bodies, n, before, this, work)
 }
 
 // A round after the one whose sets begin at `before`. Where its own sets begin is written into `this`, over what an earlier

@@ -7,38 +7,23 @@ use crate::starts::growth_of;
 use crate::starts::left_of;
 use crate::starts::part_at;
 use crate::starts::place_of;
-use labels::bags::single;
-use labels::packing::tau;
 use sets::Built;
 use sets::joining::union;
 use sets::multiplying::add_product;
 use shapes::Part;
+use shapes::Shape;
 use shapes::making::both;
 use shapes::making::leaf;
 use shapes::operators::wrapped;
 use shapes::starts::start_of;
 use table::Operator;
-use table::Term;
 ghost use Prim.Native.Nat.{_≤_};
 ghost use lib.ListN.{length, getD};
-ghost use Rattle.meaning.specs.Labels.{number, single};
 ghost use Rattle.sets.specs.Parts.{roomAt};
 ghost use Rattle.sets.specs.Building.{Grown};
 ghost use Rattle.shapes.specs.Fresh.{wordsOf};
-ghost use Rattle.shapes.specs.Making.{leafBuilt, jointBuilt};
+ghost use Rattle.shapes.specs.Making.{jointBuilt};
 ghost use Rattle.rounds.specs.Terms.{Low, partIn, placeIn, leftIn, copyBuilt, wholeOf, twoGrown, throughGrown, built};
-
-fn of_tau(work: &mut [u64], at: usize, most: usize) -> Built
-    ensures { λ r. ⌜ Grown (leafBuilt (roomAt at most (length (now (work .entry)))) 0) at 0 (now (work .entry)) (now (work .exit)) r ⌝ }
-{
-    leaf(work, tau(), at, most)
-}
-
-fn of_act(work: &mut [u64], a: usize, at: usize, most: usize) -> Built
-    ensures { λ r. ⌜ Grown (leafBuilt (roomAt at most (length (now (work .entry)))) (number (single 12 a))) at 0 (now (work .entry)) (now (work .exit)) r ⌝ }
-{
-    leaf(work, single(a as u64), at, most)
-}
 
 // The set of a term as it stands in a half of the work area.
 fn of_one(
@@ -138,9 +123,9 @@ fn of_wrap(
     wrapped(work, store, operator, set, at, count, most)
 }
 
-// A term's kind decides what its set is built of.
+// A term's shape decides what its set is built of.
 pub fn work_out(
-    term: Term,
+    shape: Shape,
     store: &[u64],
     bodies: &[usize],
     n: usize,
@@ -149,23 +134,17 @@ pub fn work_out(
     work: &mut [u64],
 ) -> Built
     requires { ⌜ Low (now before) × Low (now this) ⌝ }
-    ensures { λ r. ⌜ Grown (built (roomAt (placeIn (now (this .entry)) n) (leftIn (now (this .entry)) n) (length (now (work .entry)))) (placeIn (now (this .entry)) n) (now (store .entry)) (now (bodies .entry)) (now (before .entry)) (now (this .entry)) (now (work .entry)) (partIn (placeIn (now (this .entry)) n) 0 (now (before .entry)) n (now (work .entry))) term) (placeIn (now (this .entry)) n) 0 (now (work .entry)) (now (work .exit)) r ⌝ }
+    ensures { λ r. ⌜ Grown (built (roomAt (placeIn (now (this .entry)) n) (leftIn (now (this .entry)) n) (length (now (work .entry)))) (placeIn (now (this .entry)) n) (now (store .entry)) (now (bodies .entry)) (now (before .entry)) (now (this .entry)) (now (work .entry)) (partIn (placeIn (now (this .entry)) n) 0 (now (before .entry)) n (now (work .entry))) shape) (placeIn (now (this .entry)) n) 0 (now (work .entry)) (now (work .exit)) r ⌝ }
 {
     let at = place_of(this, n);
     let most = left_of(this, n);
-    match term {
-        Term::Delta => Built::Holds(0),
-        Term::Tau => of_tau(work, at, most),
-        Term::Act(a) => of_act(work, a, at, most),
-        Term::Ref(e) => of_body(work, before, bodies, e, at, most),
-        Term::Sum(t) => of_one(work, this, t, HALF, at, most),
-        Term::Cond(t) => of_one(work, this, t, HALF, at, most),
-        Term::Choice(t, u) => of_two(work, before, this, n, t, u, false, at, most),
-        Term::IfElse(t, u) => of_two(work, before, this, n, t, u, false, at, most),
-        Term::Seq(t, u) => of_two(work, before, this, n, t, u, false, at, most),
-        Term::Merge(t, u) => of_two(work, before, this, n, t, u, true, at, most),
-        Term::LMerge(t, u) => of_two(work, before, this, n, t, u, true, at, most),
-        Term::Sync(t, u) => of_joint(work, this, t, u, at, most),
-        Term::Wrap(o, t) => of_wrap(work, store, before, this, n, o, t, at, most),
+    match shape {
+        Shape::Empty => Built::Holds(0),
+        Shape::Leaf(label) => leaf(work, label, at, most),
+        Shape::Body(e) => of_body(work, before, bodies, e, at, most),
+        Shape::One(t) => of_one(work, this, t, HALF, at, most),
+        Shape::Two(t, u, sums) => of_two(work, before, this, n, t, u, sums, at, most),
+        Shape::Joint(t, u) => of_joint(work, this, t, u, at, most),
+        Shape::Through(o, t) => of_wrap(work, store, before, this, n, o, t, at, most),
     }
 }

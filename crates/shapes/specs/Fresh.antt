@@ -11,8 +11,9 @@ use Rattle.shapes.specs.declared.Growth.{Growth}
 use Rattle.shapes.specs.declared.Giving.{Giving}
 use Rattle.shapes.specs.declared.Giving.the-variants.{Through, Times}
 
--- Two lists gone through side by side, the second grown from the first: the labels of the second that do not stand next in the
--- first.
+-- Two lists gone through side by side: the labels of the second that do not stand next in the first. The walk is the definition, since
+-- a promise holds for any two lists; where both are sets of labels, what is fresh is of the second, and with the first it is all of
+-- the second: `new-labels` in `rounds/proofs/Growing.antt`.
 unfoldable pub fresh : List ℕ → List ℕ → List ℕ
 fresh known [] = []
 fresh [] (w ∷ ws) = w ∷ ws

@@ -4,4 +4,5 @@ pub mod Exchanging
 pub mod Fresh
 pub mod Making
 pub mod Ways
+pub mod Shaping
 pub mod Steady

@@ -5,9 +5,12 @@ pub mod growing;
 pub mod making;
 pub mod operators;
 pub mod sameness;
+pub mod shaping;
 pub mod starts;
 
+use labels::Label;
 use sets::Way;
+use table::Operator;
 
 // A set in the work area, from a place up to another.
 pub struct Part {
@@ -25,4 +28,16 @@ pub struct Growth {
 pub enum Giving {
     Through(Way),
     Times(Part),
+}
+
+// What the set of a term is built of, and how: nothing; one label; the set of an equation's body in the round before; the set of a
+// term; those of two terms, with every sum of their labels or without; the sums alone; the set of a term through an operator.
+pub enum Shape {
+    Empty,
+    Leaf(Label),
+    Body(usize),
+    One(usize),
+    Two(usize, usize, bool),
+    Joint(usize, usize),
+    Through(Operator, usize),
 }

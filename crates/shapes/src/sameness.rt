@@ -1,7 +1,7 @@
 // Whether sets stayed from one round to the next, told by how many labels they have.
+use crate::Shape;
 use crate::starts::end_of;
 use crate::starts::start_of;
-use table::Term;
 ghost use mathlib.Core.Path.{_≡_};
 ghost use mathlib.Core.Bool.{_&&_};
 ghost use Rattle.shapes.specs.Steady.{sizeAt, stays, allStay, unchanged};
@@ -47,27 +47,21 @@ pub fn all_stay(older: &[usize], newer: &[usize], bodies: &[usize]) -> bool
 // Whether the sets that a term's set is built of stayed: its operands' from the round before to this one, a body's from the
 // one before that to the round before.
 pub fn unchanged(
-    term: Term,
+    shape: Shape,
     bodies: &[usize],
     older: &[usize],
     before: &[usize],
     this: &[usize],
 ) -> bool
-    ensures { λ r. ⌜ r ≡ unchanged (now (bodies .entry)) (now (older .entry)) (now (before .entry)) (now (this .entry)) term ⌝ }
+    ensures { λ r. ⌜ r ≡ unchanged (now (bodies .entry)) (now (older .entry)) (now (before .entry)) (now (this .entry)) shape ⌝ }
 {
-    match term {
-        Term::Delta => false,
-        Term::Tau => false,
-        Term::Act(_) => false,
-        Term::Ref(e) => stays(older, before, start_of(bodies, e)),
-        Term::Sum(t) => stays(before, this, t),
-        Term::Cond(t) => stays(before, this, t),
-        Term::Choice(t, u) => both_stay(before, this, t, u),
-        Term::IfElse(t, u) => both_stay(before, this, t, u),
-        Term::Seq(t, u) => both_stay(before, this, t, u),
-        Term::Merge(t, u) => both_stay(before, this, t, u),
-        Term::LMerge(t, u) => both_stay(before, this, t, u),
-        Term::Sync(t, u) => both_stay(before, this, t, u),
-        Term::Wrap(_, t) => stays(before, this, t),
+    match shape {
+        Shape::Empty => false,
+        Shape::Leaf(_) => false,
+        Shape::Body(e) => stays(older, before, start_of(bodies, e)),
+        Shape::One(t) => stays(before, this, t),
+        Shape::Two(t, u, _) => both_stay(before, this, t, u),
+        Shape::Joint(t, u) => both_stay(before, this, t, u),
+        Shape::Through(_, t) => stays(before, this, t),
     }
 }

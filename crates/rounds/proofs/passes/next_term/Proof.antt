@@ -1,10 +1,12 @@
--- `rounds::passes::next_term` meets its contract
+-- `rounds::passes::next_term` meets its contract: copied or worked out.
 -- Assumes nothing.
 use mathlib.Core.Path.{sym, _∙_}
-use Rattle.rounds.proofs.Progress.{turn-copied, turn-worked}
 use borrow.Author.Needs.{needs}
 use Rattle.rounds.proofs.passes.next_term.Statement.{statement}
 use Rattle.rounds.proofs.passes.next_term.Tie as tie
+
+shape-of-requires : tie.Need-shape-of-requires
+shape-of-requires c κs = search needs
 
 unchanged-requires : tie.Need-unchanged-requires
 unchanged-requires c κs = search needs
@@ -16,7 +18,7 @@ same-length : tie.Need-same-length
 same-length c = search needs
 
 returns : tie.Need-returns
-returns c = turn-copied (c .before .before .before .before .before .before .before .before .before .before .before .before .args .term) (c .before .before .before .before .before .before .before .before .before .before .before .before .args .store .now) (c .before .before .before .before .before .before .before .before .before .before .before .before .args .bodies .now) (c .before .before .before .before .before .before .before .before .before .before .before .before .args .n) (c .before .before .before .before .before .before .before .before .before .before .before .before .args .older .now) (c .before .before .before .before .before .before .before .before .before .before .before .before .args .before .now) (c .before .before .before .before .before .before .before .before .before .before .before .before .args .this .now) (c .before .before .before .before .before .before .before .before .before .before .before .before .args .work .now) _ _ (sym (c .before .before .before .before .before .unchanged .ensures) ∙ c .before .before .before .before .if1 .taken) (c .before .before .copied .ensures)
+returns c = rw (sym (rw (c .before .before .before .before .before .before .shape-of .ensures) at (c .before .before .before .before .before .unchanged .ensures)) ∙ c .before .before .before .before .if1 .taken) (c .before .before .copied .ensures)
 
 work-out-requires : tie.Need-work-out-requires
 work-out-requires c κs = search needs
@@ -25,9 +27,9 @@ same-length-2 : tie.Need-same-length-2
 same-length-2 c = search needs
 
 returns-2 : tie.Need-returns-2
-returns-2 c = turn-worked (c .before .before .before .before .before .before .before .before .before .before .before .before .args .term) (c .before .before .before .before .before .before .before .before .before .before .before .before .args .store .now) (c .before .before .before .before .before .before .before .before .before .before .before .before .args .bodies .now) (c .before .before .before .before .before .before .before .before .before .before .before .before .args .n) (c .before .before .before .before .before .before .before .before .before .before .before .before .args .older .now) (c .before .before .before .before .before .before .before .before .before .before .before .before .args .before .now) (c .before .before .before .before .before .before .before .before .before .before .before .before .args .this .now) (c .before .before .before .before .before .before .before .before .before .before .before .before .args .work .now) _ _ (c .before .before .work-out .ensures)
+returns-2 c = rw (sym (rw (c .before .before .before .before .before .before .shape-of .ensures) at (c .before .before .before .before .before .unchanged .ensures)) ∙ c .before .before .before .before .if1 .left) (rw (c .before .before .before .before .before .before .shape-of .ensures) at (c .before .before .work-out .ensures))
 
 pub next-term-spec : {M : Type 1} → statement M
 next-term-spec =
     tie.close
-    (tie.spec unchanged-requires copied-requires same-length returns work-out-requires same-length-2 returns-2)
+    (tie.spec shape-of-requires unchanged-requires copied-requires same-length returns work-out-requires same-length-2 returns-2)

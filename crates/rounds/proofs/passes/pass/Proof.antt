@@ -27,7 +27,7 @@ unpack-requires : tie.Need-unpack-requires Inv-loop μ-loop
 unpack-requires c κs = tt
 
 next-term-requires : tie.Need-next-term-requires Inv-loop μ-loop
-next-term-requires c κs = (c .before .before .before .before .before .loop .inv .lowBefore, c .before .before .before .before .before .loop .inv .low, omega (arith, c .before .before .before .before .before .loop .inv .room, c .before .before .before .before .before .loop .inv .long))
+next-term-requires c κs = (c .before .before .before .before .before .loop .inv .lowBefore, c .before .before .before .before .before .loop .inv .low)
 
 enum-known-built : tie.Need-enum-known-built Inv-loop μ-loop
 enum-known-built c = search needs
