@@ -111,5 +111,8 @@ all-hold [] = true
 all-hold (c ∷ cs) = holds c && all-hold cs
 
 pub computed : T (all-hold table)
-unfolding all-hold holds says upTo legalTest legal? decLe decLt ℕ-discrete Dec·and answer answerFrom cut sameLabels sameSets over total someOver someLong roundSets next worked communicated applied allowed target product spread ascending insert member order renamedFrom without clear minus inside plus isTau number size
+unfolding all-hold holds says upTo legalTest legal? decLe decLt ℕ-discrete Dec·and
+    answer answerFrom cut sameLabels sameSets over total someOver someLong roundSets next worked
+    communicated applied allowed target product spread ascending insert member order
+    renamedFrom without clear minus inside plus isTau number size
 computed = tt

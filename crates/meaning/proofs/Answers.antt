@@ -119,10 +119,15 @@ lists d o k earlier e fits =
     let union = union-is-stable d k e (d .root) in
     record {
       within = λ x. fits (stable-passes d k e x);
-      counted = record { atLeast = omega arith; stable = e; smallest = λ j. elim j [ zero ↦ λ p q. absurd (omega arith) | suc i ↦ λ p q s. earlier i (omega arith) s ] };
+      counted = record {
+        atLeast = omega arith;
+        stable = e;
+        smallest = λ j. elim j [ zero ↦ λ p q. absurd (omega arith) | suc i ↦ λ p q s. earlier i (omega arith) s ];
+      };
       rising = sorted-rising (spread (keep (admits o)) set)
           (filter-sorted NumberLess (admits o) set
-          (by-number (length (d .words)) set (λ a m. (no-long (roundSets d (suc k)) (λ t. fits (over-some (roundSets d (suc k)) t)) (d .root) a m, round-full d (suc k) (d .root) a m))
+          (by-number (length (d .words)) set
+          (λ a m. (no-long (roundSets d (suc k)) (λ t. fits (over-some (roundSets d (suc k)) t)) (d .root) a m, round-full d (suc k) (d .root) a m))
           (round-ascends d (suc k) (d .root))));
       exactly = λ a. (
         λ m. let x = in-cut o set a .0 m in (union a .1 (x .0), x .1),
@@ -151,7 +156,13 @@ answer-from (suc more) k d o e h =
     (round-passes d (suc k))
     (λ fits same. lists d o k h (sameSets→ (bodySets d sets) (bodySets d (roundSets d k)) same) fits)
     (λ differ. answer-from more (suc k) d o (suc-add k more ∙ sym (add-suc k more) ∙ e) (λ j l s.
-    elim (against-last j k) [ inl i ↦ h j i s | inr x ↦ elim x [ inl i ↦ differ (→sameSets (bodySets d sets) (bodySets d (roundSets d k)) (subst (λ (n : ℕ). Stable d n) i s)) | inr i ↦ absurd (omega arith) ] ]))
+    elim (against-last j k) [
+      | inl i ↦ h j i s
+      | inr x ↦ elim x [
+        | inl i ↦ differ (→sameSets (bodySets d sets) (bodySets d (roundSets d k)) (subst (λ (n : ℕ). Stable d n) i s))
+        | inr i ↦ absurd (omega arith)
+      ]
+    ]))
 
 pub answer-right : (d : Description) (o : Order) → Answers d o (answer d o)
 unfolding answer

@@ -86,7 +86,8 @@ worked-meets d eqs (suc n) i h a m = meet (against-last i n) (λ l k. worked-mee
         (in-ascending (made eqs (worked d eqs n) (shape d (termAt d n))) a .1
         (in-made eqs (worked d eqs n) (shape d (termAt d n)) a
         (made-grows (In eqs) (Before i (In (worked d eqs n))) (In eqs) (In (worked d eqs n)) (λ x b k. k) (λ t b k. k .1)
-        (alike (shape d (termAt d n))) a (subst (λ (j : ℕ). Made (In eqs) (Before i (In (worked d eqs n))) (shape d (termAt d j)) a) e (earlier (omega arith))))))
+        (alike (shape d (termAt d n))) a
+        (subst (λ (j : ℕ). Made (In eqs) (Before i (In (worked d eqs n))) (shape d (termAt d j)) a) e (earlier (omega arith))))))
     meet (inr (inr l)) ih = absurd (omega arith)
 
 -- The rules, said of the sets of all terms together: what a term makes of its operands' sets and of the equations' is in its set.

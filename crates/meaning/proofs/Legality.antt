@@ -92,9 +92,11 @@ dec-counts d =
     three (Dec·and (decLe 1 (names d)) (decLe (names d) 12)) (decLe (equations d) 16) (Dec·and (decLe 1 (termCount d)) (decLe (termCount d) 96))
 
 unfoldable pub legal? : (d : Description) (o : Order) → Dec (Legal d o)
-unfolding three four dec-each dec-above dec-rising dec-label dec-names dec-pair dec-rule dec-labels dec-operator dec-test dec-two dec-term dec-terms dec-order dec-counts
+unfolding three four dec-each dec-above dec-rising dec-label dec-names dec-pair dec-rule dec-labels
+    dec-operator dec-test dec-two dec-term dec-terms dec-order dec-counts
 legal? d o =
-    elim (three (dec-counts d) (dec-terms d 0 (d .terms)) (three (dec-each (λ b. b < termCount d) (λ b. decLt b (termCount d)) (d .bodies)) (decLt (d .root) (termCount d)) (dec-order (names d) o))) [
+    elim (three (dec-counts d) (dec-terms d 0 (d .terms))
+    (three (dec-each (λ b. b < termCount d) (λ b. decLt b (termCount d)) (d .bodies)) (decLt (d .root) (termCount d)) (dec-order (names d) o))) [
       | yes x ↦ yes (record {
         nameCount = x .0 .0;
         equationCount = x .0 .1;

@@ -123,5 +123,6 @@ acts-image names (block ns) h a b x = in-keep (clear ns) a b .1 (x .0, zero→cl
 acts-image names (hide ns) h a b x = in-turn (without ns) a b .1 x
 acts-image names (rename ps) h a b x = in-turn (renamed names (target ps)) a b .1 x
 acts-image names (comm rs) h a b x =
-    subst (λ (e : Label). b ∈ communicated (size e) names rs e) (plus-none a) (communicates-in names rs (h .2) x (size (plus a [])) (le-refl (size (plus a []))))
+    subst (λ (e : Label). b ∈ communicated (size e) names rs e) (plus-none a)
+    (communicates-in names rs (h .2) x (size (plus a [])) (le-refl (size (plus a []))))
 acts-image names (allow ls) h a b x = in-keep (allowed ls) a b .1 (x .0, →allowed ls a (x .1))

@@ -64,7 +64,8 @@ worked-more : (d : Description) (eqs : List (List Label)) (n more : ℕ) → T (
 unfolding worked
 worked-more d eqs n zero t = rw (add-zero n) t
 worked-more d eqs n (suc more) t =
-    rw (add-suc n more) (over-append (worked d eqs (n + more)) (ascending (made eqs (worked d eqs (n + more)) (shape d (termAt d (n + more)))) ∷ []) (worked-more d eqs n more t))
+    let sets = worked d eqs (n + more) in
+    rw (add-suc n more) (over-append sets (ascending (made eqs sets (shape d (termAt d (n + more)))) ∷ []) (worked-more d eqs n more t))
 
 pub worked-over : (d : Description) (k n : ℕ) → n ≤ termCount d → T (over (worked d (bodySets d (roundSets d k)) n)) → T (over (roundSets d (suc k)))
 unfolding roundSets next

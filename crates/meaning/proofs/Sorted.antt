@@ -91,7 +91,8 @@ once-count [] [] o w = (zero-le, λ h c m. m)
 once-count [] (b ∷ t) o w = (zero-le, λ h. absurd (not-suc-le-zero h))
 once-count (a ∷ s) t o w =
     let x = take-out a t (w a (inl refl)) in
-    let inner = once-count s (x .rest) (o .1) (λ c m. elim (x .others c (w c (inr m))) [ inl k ↦ absurd (o .0 (subst (λ (y : Label). y ∈ s) k m)) | inr l ↦ l ]) in (
+    let inner = once-count s (x .rest) (o .1)
+    (λ c m. elim (x .others c (w c (inr m))) [ inl k ↦ absurd (o .0 (subst (λ (y : Label). y ∈ s) k m)) | inr l ↦ l ]) in (
       rw (x .shorter) (suc-le-suc (inner .0)),
       λ h c m. elim (x .others c m) [ inl k ↦ inl k | inr l ↦ inr (inner .1 (le-of-suc-le-suc (rw (x .shorter) at h)) c l) ],
     )

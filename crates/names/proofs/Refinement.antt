@@ -14,8 +14,6 @@ use Rattle.meaning.specs.Rounds.{pick, target}
 use Rattle.meaning.specs.Legal.{Each, LegalPair}
 use Rattle.meaning.proofs.Bags.{number-plus}
 use Rattle.labels.specs.Bags.{bag}
-use Rattle.labels.specs.Pairs.{pairsIn}
-use Rattle.labels.proofs.Stored.{pairWords}
 use Rattle.labels.proofs.Words.{number-empty, number-several}
 use Rattle.labels.proofs.Meant.{Packs, padded, count-padded, number-padded, digits, bag-number}
 use Rattle.names.specs.Names.{listed, targets}
@@ -100,11 +98,3 @@ renamed-number names ps a l h p =
     rw (digits names l 12 a l p)
     (renamed-padded names (12 - names) 0 (target ps) (λ n. getD (targets ps) n 0) a l
     (λ n q r. let s : n < names = omega (arith, p .wide) in (getD-targets ps n (omega arith), target-legal names ps h n s)))
-
--- Pairs are read as they are stored.
-pub pairs-read : (ps : List Pair) → Each (λ p. p .left < 32) ps → pairsIn (pairWords ps) ≡ ps
-pairs-read [] h = refl
-pairs-read (p ∷ ps) h =
-    let lo : (p .left + 32 * p .right) % 32 ≡ p .left = omega (arith, h .0) in
-    let hi : (p .left + 32 * p .right) / 32 ≡ p .right = omega (arith, h .0) in
-    ap₂ {C = List Pair} _∷_ (rw (lo, hi)) (pairs-read ps (h .1))

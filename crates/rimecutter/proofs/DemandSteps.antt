@@ -39,7 +39,8 @@ or-cases true b e = inl refl
 or-cases false b e = inr e
 
 pub short→ : {work answer : ℕ} → tooShort work answer ≡ true → (work < workWords) ⊎ (answer < answerWords)
-short→ {work} {answer} e = elim (or-cases (ltb work workWords) (ltb answer answerWords) e) [ inl x ↦ inl (ltb-true work workWords x) | inr x ↦ inr (ltb-true answer answerWords x) ]
+short→ {work} {answer} e =
+    elim (or-cases (ltb work workWords) (ltb answer answerWords) e) [ inl x ↦ inl (ltb-true work workWords x) | inr x ↦ inr (ltb-true answer answerWords x) ]
 
 pub →short : {work answer : ℕ} → (work < workWords) ⊎ (answer < answerWords) → tooShort work answer ≡ true
 →short {work = work} {answer = answer} (inl h) = rw (lt-ltb work workWords h)
@@ -270,7 +271,9 @@ module _ (c : Called) where
   abbrev coming : Call
   coming = call (c .text) workWords answerWords
 
-  by-fit : (fits : Bool) → c .size ≡ elim fits [ true ↦ length (textDue c) | false ↦ 0 ] → c .area′ ≡ elim fits [ true ↦ put (textDue c) (c .area) | false ↦ c .area ]
+  by-fit : (fits : Bool)
+      → c .size ≡ elim fits [ true ↦ length (textDue c) | false ↦ 0 ]
+      → c .area′ ≡ elim fits [ true ↦ put (textDue c) (c .area) | false ↦ c .area ]
       → (number : ℕ) → number ≡ elim fits [ true ↦ verdictOf coming .reason | false ↦ 8 ]
       → ((c .size ≡ 0) ↔ (number ≡ 8)) × (number ≡ 8 → c .area′ ≡ c .area)
   by-fit true size area number n =

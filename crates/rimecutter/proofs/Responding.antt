@@ -70,7 +70,8 @@ abbrev pub answerFor : R.Answer → Answer
 answerFor TooLarge = C.TooLarge
 answerFor (Listed rounds labels) = C.Listed rounds labels
 
-responded : (c c′ : Call) (work work′ answer answer′ : List ℕ) (r : Response) → c ≡ c′ → Responded c′ work work′ answer answer′ r → Responded c work work′ answer answer′ r
+responded : (c c′ : Call) (work work′ answer answer′ : List ℕ) (r : Response) → c ≡ c′ → Responded c′ work work′ answer answer′ r
+    → Responded c work work′ answer answer′ r
 responded c c′ work work′ answer answer′ r e h = subst (λ (x : Call). Responded x work work′ answer answer′ r) (sym e) h
 
 module _ (text : Text) (work answer : List ℕ) where
@@ -82,7 +83,8 @@ module _ (text : Text) (work answer : List ℕ) where
       → Responded called work work answer answer (record { answer = C.TooLong; names = names })
   unfolding call
   short-responded names e =
-      responded called (refusing tooLong) work work answer answer (record { answer = C.TooLong; names = names }) (ap (λ (b : Bool). unlessShort b (readText text)) e)
+      responded called (refusing tooLong) work work answer answer (record { answer = C.TooLong; names = names })
+      (ap (λ (b : Bool). unlessShort b (readText text)) e)
       (record { settled = record { verdict = refl; works = refl; answers = refl }; names = tt })
 
   module _ (long : tooShort (length work) (length answer) ≡ false) where
@@ -91,7 +93,9 @@ module _ (text : Text) (work answer : List ℕ) where
     by-reading = ap (λ (b : Bool). unlessShort b (readText text)) long
 
     room : (4096 ≤ length work) × (1024 ≤ length answer)
-    room = (ltb-false (length work) 4096 (or-false (ltb (length work) 4096) (ltb (length answer) 1024) long .0), ltb-false (length answer) 1024 (or-false (ltb (length work) 4096) (ltb (length answer) 1024) long .1))
+    room =
+        let fits = or-false (ltb (length work) 4096) (ltb (length answer) 1024) long in
+        (ltb-false (length work) 4096 (fits .0), ltb-false (length answer) 1024 (fits .1))
 
     -- What reading answers, over a store of just its words.
     module _ (before after : List ℕ) (r : Read) (whole : length before ≡ 3104) (done : Stored text before after r) where
@@ -154,7 +158,8 @@ module _ (text : Text) (work answer : List ℕ) where
               names = refl;
             }
 
-        pub worked-responded : (a : Answer) → r .answer ≡ Fine → a ≡ answerFor f → Responded called work work′ answer answer′ (record { answer = a; names = r .table .names })
+        pub worked-responded : (a : Answer) → r .answer ≡ Fine → a ≡ answerFor f
+            → Responded called work work′ answer answer′ (record { answer = a; names = r .table .names })
         worked-responded a e ae = told (readText text) refl by-reading answers stores
           where
             told : (x : Reading) → readText text ≡ x → called ≡ ofReading x → r ≡ readFor x → after ≡ storeFor x before

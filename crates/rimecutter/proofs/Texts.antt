@@ -29,7 +29,7 @@ use Rattle.grammar.specs.Text.{isLower, isDigit}
 use Rattle.grammar.specs.Printed.{refusedText, answerText}
 use Rattle.printing.specs.Areas.{wordsOf, countsOf, Printed}
 use Rattle.printing.proofs.Callers.{Bytes, Fits, same-answer}
-use Rattle.rimecutter.specs.Calls.{Call, refusing, answering, tooShort, ofOutcome, ofReading, unlessShort, call, verdictOf, answerAfter, textOf}
+use Rattle.rimecutter.specs.Calls.{Call, refusing, answering, workWords, answerWords, tooShort, ofOutcome, ofReading, unlessShort, call, verdictOf, answerAfter, textOf}
 use Rattle.rimecutter.specs.Answers.{verdictFor, NamesFor, Responded}
 use Rattle.rimecutter.specs.declared.Answer.{Answer}
 use Rattle.rimecutter.specs.declared.calls.Response.{Response}
@@ -125,7 +125,10 @@ within-byte low high b g h t =
 name-byte : (b : ℕ) → T (inName b) → (1 ≤ b) × (b < 256)
 unfolding isLower isDigit
 name-byte b t =
-    elim (or-cases (isLower b) (isDigit b) t) [ inl h ↦ within-byte 97 122 b (omega arith) (omega arith) h | inr h ↦ within-byte 48 57 b (omega arith) (omega arith) h ]
+    elim (or-cases (isLower b) (isDigit b) t) [
+      | inl h ↦ within-byte 97 122 b (omega arith) (omega arith) h
+      | inr h ↦ within-byte 48 57 b (omega arith) (omega arith) h
+    ]
 
 each-map : {A : Type 0} {P Q : A → Type 0} → ((a : A) → P a → Q a) → (xs : List A) → Each P xs → Each Q xs
 each-map f [] h = tt
@@ -134,7 +137,9 @@ each-map f (x ∷ xs) h = (f x (h .0), each-map f xs (h .1))
 name-bytes : (w : Text) → NameForm w → Bytes w
 unfolding isLower
 name-bytes [] h = absurd h
-name-bytes (b ∷ w) h = (omega (arith, h .1), (within-byte 97 122 b (omega arith) (omega arith) (h .0), each-map {P = λ c. T (inName c)} {Q = λ c. (1 ≤ c) × (c < 256)} name-byte w (h .2)))
+name-bytes (b ∷ w) h =
+    let first = within-byte 97 122 b (omega arith) (omega arith) (h .0) in
+    (omega (arith, h .1), (first, each-map {P = λ c. T (inName c)} {Q = λ c. (1 ≤ c) × (c < 256)} name-byte w (h .2)))
 
 each-in : (P : Label → Type 0) (s : List Label) → ((a : Label) → a ∈ s → P a) → Each P s
 each-in P [] h = tt
@@ -145,11 +150,11 @@ pub record Listing (c : Call) (rounds n : ℕ) (names answer : List ℕ) : Type 
   pub few : n ≤ 1024
   pub says : textOf c ≡ answerText (wordsOf names) rounds (map countsOf (take n answer))
 
-pub listed-text : (text : Text) (c : Call) → call text 4096 1024 ≡ c → (rounds n : ℕ) (names answer answer′ : List ℕ)
+pub listed-text : (text : Text) (c : Call) → call text workWords answerWords ≡ c → (rounds n : ℕ) (names answer answer′ : List ℕ)
     → verdictFor (Listed rounds n) ≡ verdictOf c → NamesFor c names → answer′ ≡ answerAfter c answer → Listing c rounds n names answer′
 listed-text text (refusing r) e rounds n names answer answer′ v ns put = absurd (omega (arith, refusals-numbered r, ap (λ (x : Verdict). x .reason) v))
 listed-text text (answering words k ls) e rounds n names answer answer′ v ns put =
-    let from = origin text words k ls 4096 1024 e in
+    let from = origin text words k ls workWords answerWords e in
     let d = from .given in
     let legal = accepted→ text d (from .order) (from .reads) in
     let held = listed-held d (from .order) k ls (from .lists) in
@@ -166,22 +171,24 @@ listed-text text (answering words k ls) e rounds n names answer answer′ v ns p
     }
 
 -- The same of what a call responds.
-module _ (text : Text) (work work′ answer answer′ : List ℕ) (r : Response) (h : Responded (call text 4096 1024) work work′ answer answer′ r) where
-  pub listing : (rounds n : ℕ) → r .answer ≡ Listed rounds n → Listing (call text 4096 1024) rounds n (r .names) answer′
+module _ (text : Text) (work work′ answer answer′ : List ℕ) (r : Response) (h : Responded (call text workWords answerWords) work work′ answer answer′ r) where
+  pub listing : (rounds n : ℕ) → r .answer ≡ Listed rounds n → Listing (call text workWords answerWords) rounds n (r .names) answer′
   listing rounds n e =
-      listed-text text (call text 4096 1024) refl rounds n (r .names) answer answer′ (ap verdictFor (sym e) ∙ h .settled .verdict) (h .names) (h .settled .answers)
+      listed-text text (call text workWords answerWords) refl rounds n (r .names) answer answer′ (ap verdictFor (sym e) ∙ h .settled .verdict)
+      (h .names) (h .settled .answers)
 
-  pub refusal : (a : Answer) → r .answer ≡ a → (verdictFor a .reason ≡ 0 → ⊥) → textOf (call text 4096 1024) ≡ refusedText (verdictFor a .reason) (verdictFor a .line)
-  refusal a e some = refused-text (call text 4096 1024) (verdictFor a) (ap verdictFor (sym e) ∙ h .settled .verdict) some
+  pub refusal : (a : Answer) → r .answer ≡ a → (verdictFor a .reason ≡ 0 → ⊥)
+      → textOf (call text workWords answerWords) ≡ refusedText (verdictFor a .reason) (verdictFor a .line)
+  refusal a e some = refused-text (call text workWords answerWords) (verdictFor a) (ap verdictFor (sym e) ∙ h .settled .verdict) some
 
 pub printed : (s t before after : Text) (n : ℕ) → s ≡ t → Printed t before after n → Printed s before after n
 printed s t before after n e p = subst (λ (x : Text). Printed x before after n) (sym e) p
 
 -- 155,648 bytes hold every text.
-pub text-fits : (text : Text) → length (textOf (call text 4096 1024)) ≤ 155648
-text-fits text = fits (call text 4096 1024) refl
+pub text-fits : (text : Text) → length (textOf (call text workWords answerWords)) ≤ 155648
+text-fits text = fits (call text workWords answerWords) refl
   where
-    fits : (c : Call) → call text 4096 1024 ≡ c → length (textOf c) ≤ 155648
+    fits : (c : Call) → call text workWords answerWords ≡ c → length (textOf c) ≤ 155648
     fits (refusing r) e = omega (arith, length-refusal (reasonOf r) (lineOf r))
     fits (answering words k ls) e =
         let names = filled 12 0 (map wordOf words) in

@@ -12,9 +12,8 @@ use Rattle.meaning.specs.Descriptions as D
 use Rattle.meaning.specs.Legal.{Each, Legal, LegalLabel, LegalPair, LegalRule, LegalOperator, LegalTerm}
 use Rattle.meaning.proofs.Digits.{small, labelOf-number}
 use Rattle.meaning.proofs.Least.{term-legal}
-use Rattle.labels.specs.Names.{pairsIn}
-use Rattle.labels.specs.Stored.{pairWord}
-use Rattle.labels.proofs.Meant.{pairs-read}
+use Rattle.labels.specs.Pairs.{pairsIn}
+use Rattle.labels.proofs.Stored.{pairs-read}
 use Rattle.table.specs.Packed.{wordTerm}
 use Rattle.table.specs.Encoded.{ruleWords, operatorWords, termWords, storeOf, operatorFor, termFor, tableOf}
 use Rattle.table.specs.Encoded as E
@@ -67,7 +66,6 @@ module _ (d : D.Description) (o : D.Order) (legal : Legal d o) (n : ℕ) (h : n 
 
     operator-decoded : (op : D.Operator) → D.termAt d n ≡ D.wrap op t → LegalOperator (D.names d) op
         → operatorOf (D.names d) (storeOf d o) (operatorFor n op) ≡ op
-    unfolding pairWord
     operator-decoded (D.block ns) e l = ap D.block (list-stored (D.block ns) e l)
     operator-decoded (D.hide ns) e l = ap D.hide (list-stored (D.hide ns) e l)
     operator-decoded (D.rename ps) e l =

@@ -13,7 +13,7 @@ use Rattle.table.specs.declared.Term.the-variants.{Delta, Tau, Act, Ref,
 use Rattle.meaning.specs.Bytes.{Text}
 use Rattle.meaning.specs.Labels.{labelOf}
 use Rattle.meaning.specs.Descriptions as D
-use Rattle.labels.specs.Names.{pairsIn}
+use Rattle.labels.specs.Pairs.{pairsIn}
 
 -- A name's bytes, the first in the lowest eight bits of its word; a byte 0 ends it.
 unfoldable pub nameOf : ℕ → ℕ → Text

@@ -27,7 +27,9 @@ returns c = rw (← c .before .before .size .ensures, ← c .before .size2 .ensu
 
 returns-2 : tie.Need-returns-2
 unfolding sumOf
-returns-2 c = rw (← c .before .before .before .size .ensures, ← c .before .before .size2 .ensures, le-ltb _ _ (c .before .if1 .left), ← c .wrapping-add-u64 .ensures)
+returns-2 c =
+    let sizes = c .before .before in
+    rw (← sizes .before .size .ensures, ← sizes .size2 .ensures, le-ltb _ _ (c .before .if1 .left), ← c .wrapping-add-u64 .ensures)
 
 pub sum-spec : {M : Type 1} → statement M
 sum-spec =

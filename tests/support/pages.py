@@ -1,0 +1,42 @@
+"""What the pages and the header say, held to the files beside them."""
+
+import re
+
+from support.programs import TOP, Failed
+
+README_COLUMNS = 130
+REASONS = range(1, 9)
+
+
+def check_pages(top=TOP):
+    """Ends with Failed if the header or docs/FORMAT.md lacks a refusal's number,
+    no page names an example, or README.md has a line that is too wide."""
+    faults = [*lacking_reasons(top), *nameless_examples(top), *wide_lines(top / "README.md", README_COLUMNS)]
+    if faults:
+        raise Failed("; ".join(faults))
+    print(f"{len(REASONS)} numbers of refusals and {len(examples(top))} examples stand on their pages")
+
+
+def lacking_reasons(top):
+    header = (top / "include" / "rimecutter.h").read_text()
+    numbers = {int(number) for number in re.findall(r"^ +RIMECUTTER_\w+ = (\d+),? +/\*", header, re.MULTILINE)}
+    rows = {int(row) for row in re.findall(r"^\| (\d+) \|", (top / "docs" / "FORMAT.md").read_text(), re.MULTILINE)}
+    for name, found in (("include/rimecutter.h", numbers), ("docs/FORMAT.md", rows)):
+        for number in REASONS:
+            if number not in found:
+                yield f"{name} lacks refusal {number}"
+
+
+def examples(top):
+    return sorted(path.stem for path in (top / "examples").glob("*.txt"))
+
+
+def nameless_examples(top):
+    page = (top / "examples" / "README.md").read_text()
+    return [f"examples/README.md does not name {name}" for name in examples(top) if f"`{name}`" not in page]
+
+
+def wide_lines(path, most):
+    for number, line in enumerate(path.read_text().splitlines(), 1):
+        if len(line) > most:
+            yield f"line {number} of {path.name} has {len(line)} columns"

@@ -1,0 +1,51 @@
+"""A line that is too wide, and a function without a comment, are found."""
+
+import contextlib
+import io
+import pathlib
+import tempfile
+import unittest
+
+from support.lines import check_lines
+from support.programs import Failed
+
+
+class Lines(unittest.TestCase):
+    def setUp(self):
+        folder = tempfile.TemporaryDirectory()
+        self.addCleanup(folder.cleanup)
+        self.top = pathlib.Path(folder.name)
+        (self.top / "crates" / "room" / "src").mkdir(parents=True)
+        (self.top / "crates" / "room" / "proofs").mkdir()
+
+    def check(self, code, proof=""):
+        (self.top / "crates" / "room" / "src" / "lib.rt").write_text(code)
+        (self.top / "crates" / "room" / "proofs" / "Lib.antt").write_text(proof)
+        with contextlib.redirect_stdout(io.StringIO()) as said:
+            check_lines(self.top, ("room",))
+        return said.getvalue()
+
+    def test_right_files_are_counted(self):
+        said = self.check('// why\n#[no_mangle]\npub extern "C" fn f() {}\nfn g() {}\n', "use " + "a" * 200)
+        self.assertIn("1 files", said)
+
+    def test_what_is_wrong_is_told(self):
+        wide = "a" * 161
+        cases = [
+            ("pub fn f() {}", "", "f in crates/room/src/lib.rt has no comment"),
+            ("// why\n\npub fn f() {}", "", "f in crates/room/src/lib.rt has no comment"),
+            ("// why\npub fn f() {}\npub fn g() {}", "", "g in .* has no comment"),
+            (f"// {wide}", "", "line 1 of crates/room/src/lib.rt has 164 columns"),
+            ("", f"-- one\n{wide}", "line 2 of crates/room/proofs/Lib.antt has 161 columns"),
+        ]
+        for code, proof, told in cases:
+            with self.subTest(code=code, proof=proof), self.assertRaisesRegex(Failed, told):
+                self.check(code, proof)
+
+    def test_a_room_that_is_not_there(self):
+        with self.assertRaisesRegex(Failed, "there is no room cellar"):
+            check_lines(self.top, ("cellar",))
+
+
+if __name__ == "__main__":
+    unittest.main()

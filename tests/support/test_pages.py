@@ -1,0 +1,55 @@
+"""A number, an example or a width that the pages get wrong is found."""
+
+import contextlib
+import io
+import pathlib
+import tempfile
+import unittest
+
+from support.pages import REASONS, check_pages
+from support.programs import Failed
+
+
+class Pages(unittest.TestCase):
+    def setUp(self):
+        folder = tempfile.TemporaryDirectory()
+        self.addCleanup(folder.cleanup)
+        self.top = pathlib.Path(folder.name)
+        for name in ("include", "docs", "examples"):
+            (self.top / name).mkdir()
+        (self.top / "examples" / "one.txt").write_text("")
+        self.write("include/rimecutter.h", "".join(f"    RIMECUTTER_R{n} = {n}, /* {n} */\n" for n in REASONS))
+        self.write("docs/FORMAT.md", "".join(f"| {n} | when |\n" for n in REASONS))
+        self.write("examples/README.md", "- `one`: an example\n")
+        self.write("README.md", "short\n")
+
+    def write(self, name, text):
+        (self.top / name).write_text(text)
+
+    def check(self):
+        with contextlib.redirect_stdout(io.StringIO()) as said:
+            check_pages(self.top)
+        return said.getvalue()
+
+    def test_right_pages_are_counted(self):
+        self.assertIn("8 numbers of refusals and 1 examples", self.check())
+
+    def test_what_is_wrong_is_told(self):
+        header = (self.top / "include" / "rimecutter.h").read_text()
+        cases = [
+            ("include/rimecutter.h", header.replace("= 5", "= 9"), "include/rimecutter.h lacks refusal 5"),
+            ("include/rimecutter.h", header.replace("/* 6 */", ""), "include/rimecutter.h lacks refusal 6"),
+            ("docs/FORMAT.md", "| 1 | when |\n", "docs/FORMAT.md lacks refusal 8"),
+            ("examples/README.md", "one", "does not name one"),
+            ("README.md", "a" * 131, "line 1 of README.md has 131 columns"),
+        ]
+        for name, text, told in cases:
+            kept = (self.top / name).read_text()
+            self.write(name, text)
+            with self.subTest(name=name), self.assertRaisesRegex(Failed, told):
+                self.check()
+            self.write(name, kept)
+
+
+if __name__ == "__main__":
+    unittest.main()
