@@ -2,6 +2,8 @@
 pub mod Cases
 pub mod Texts
 pub mod Writings
+pub mod Decimal
+pub mod Areas
 pub mod Findings
 pub mod Onwards
 pub mod Writes

@@ -12,3 +12,5 @@ pub mod Reading
 pub mod Writing
 -- The text of an answer or a refusal
 pub mod Printed
+-- What a writer of texts leaves in a lent area
+pub mod Areas

@@ -4,7 +4,7 @@ use mathlib.Core.Bool.{true, false}
 use mathlib.Core.List.{List, [], _∷_, _++_}
 use Prim.Native.Nat.{ℕ, zero, suc, _+_, _/_, _%_}
 use lib.Dec.{ltb, eqb}
-use lib.ListN.{length, drop}
+use lib.ListN.{length}
 use Rattle.meaning.specs.Bytes.{Text, ascii}
 use Rattle.meaning.specs.Labels.{Label}
 use Rattle.meaning.specs.Answers.{Refusal, reasonOf, lineOf}
@@ -56,7 +56,3 @@ refusedText reason at =
 
 abbrev pub refusalText : Refusal → Text
 refusalText r = refusedText (reasonOf r) (lineOf r)
-
--- A text is put at the start of an area, whose further bytes stay.
-abbrev pub put : Text → Text → Text
-put s area = s ++ drop (length s) area

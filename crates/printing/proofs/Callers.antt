@@ -15,9 +15,9 @@ use Rattle.meaning.proofs.Digits.{Small}
 use Rattle.table.specs.Decoded.{nameOf}
 use Rattle.table.specs.Encoded.{filled, wordOf}
 use Rattle.grammar.specs.Printed.{joint, partText, partsText, labelText, orTau, labelLines, line, answerText}
-use Rattle.printing.specs.Areas.{wordsOf, countsOf}
-use Rattle.printing.proofs.Names.{first-byte}
-use Rattle.printing.proofs.Parts.{absent, occurs}
+use Rattle.marks.specs.Packed.{wordsOf, countsOf}
+use Rattle.marks.proofs.Names.{first-byte}
+use Rattle.marks.proofs.Parts.{absent, occurs}
 
 -- The bytes of a word of a description: at most eight, none of them 0.
 abbrev pub Bytes : Text → Type 0

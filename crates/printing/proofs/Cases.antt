@@ -7,7 +7,7 @@ use Rattle.grammar.specs.Printed.{digits, partsText, labelText, labelLines, ans
 use Rattle.grammar.proofs.Cases.{lines, names, listing}
 use Rattle.table.specs.Decoded.{nameOf}
 use Rattle.table.specs.Encoded.{filled, wordOf}
-use Rattle.printing.specs.Areas.{wordsOf, countsOf}
+use Rattle.marks.specs.Packed.{wordsOf, countsOf}
 
 pub packed-listing : answerText (wordsOf (filled 12 0 (map wordOf names))) 2 (map countsOf (1 ∷ 2 ∷ 32 ∷ [])) ≡ lines listing
 unfolding answerText labelLines labelText partsText digits labelOf nameOf filled wordOf

@@ -9,9 +9,9 @@ use lib.ListN.{length, drop, getD, length-append}
 use lib.Seq.{drop-cons, drop-length}
 use Rattle.meaning.specs.Bytes.{Text, ascii}
 use Rattle.grammar.specs.Printed.{line, labelText, labelLines}
-use Rattle.printing.specs.Areas.{wordsOf, countsOf}
+use Rattle.marks.specs.Packed.{wordsOf, countsOf}
 use Rattle.printing.proofs.Line.{length-line}
-use Rattle.printing.proofs.Tau.{length-label}
+use Rattle.marks.proofs.Tau.{length-label}
 
 abbrev pub labelLine : List ℕ → ℕ → Text
 labelLine names label = line (ascii "label=") (labelText (wordsOf names) (countsOf label))

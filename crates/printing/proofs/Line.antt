@@ -7,10 +7,10 @@ use native.Mathlib.Omega.{arith}
 use lib.ListN.{length, set, length-append}
 use Rattle.meaning.specs.Bytes.{Text}
 use Rattle.grammar.specs.Printed.{decimal, line}
-use Rattle.printing.specs.Areas.{Written}
+use Rattle.grammar.specs.Areas.{Written}
 use Rattle.printing.specs.Steps.{headText}
-use Rattle.printing.proofs.Decimal.{length-decimal}
-use Rattle.printing.proofs.Writing.{Underway, first, lent, back, step, step-byte, end, kept, room, same-size}
+use Rattle.grammar.proofs.Decimal.{length-decimal}
+use Rattle.marks.proofs.Writing.{Underway, first, lent, back, step, step-byte, end, kept, room, same-size}
 
 pub length-line : (key value : Text) → length (line key value) ≡ length key + length value + 1
 length-line key value = rw (length-append (key ++ value) (10 ∷ []), length-append key value)

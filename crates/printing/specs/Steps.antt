@@ -1,19 +1,9 @@
--- What a step of a writer writes. Only private functions cite this: no public contract rests on it.
+-- What a step of a writer of lines writes. Only private functions cite this: no public contract rests on it.
 -- Assumes nothing.
-use mathlib.Core.Bool.{true, false}
-use mathlib.Core.List.{[], _++_}
+use mathlib.Core.List.{_++_}
 use Prim.Native.Nat.{ℕ}
-use lib.Dec.{eqb}
-use Rattle.meaning.specs.Bytes.{Text, ascii}
-use Rattle.grammar.specs.Printed.{decimal, partText, line}
-
--- The next part of a label of which so many bytes are written.
-unfoldable pub nextText : ℕ → Text → ℕ → Text
-nextText written word times =
-    elim (eqb times 0) [
-      | true ↦ []
-      | false ↦ elim (eqb written 0) [ true ↦ partText word times | false ↦ ascii "." ++ partText word times ]
-    ]
+use Rattle.meaning.specs.Bytes.{Text}
+use Rattle.grammar.specs.Printed.{decimal, line}
 
 -- What an answer and a refusal begin with: what was said, and a line for each of two numbers.
 abbrev pub headText : Text → Text → ℕ → Text → ℕ → Text

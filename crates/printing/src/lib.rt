@@ -2,9 +2,7 @@
 //
 // Its length is worked out first, so that a text that does not fit leaves the area as it was; then each line is written
 // into the rest of the area behind the lines before it.
-mod labels;
 mod lines;
-mod numbers;
 
 use lines::head_length;
 use lines::label_lines_fit;
@@ -13,7 +11,8 @@ use lines::write_label_lines;
 use table::NAMES;
 ghost use mathlib.Core.List.{map};
 ghost use Rattle.grammar.specs.Printed.{answerText, refusedText};
-ghost use Rattle.printing.specs.Areas.{Printed, wordsOf, countsOf};
+ghost use Rattle.grammar.specs.Areas.{Printed};
+ghost use Rattle.marks.specs.Packed.{wordsOf, countsOf};
 
 // The text of an answer: its length is returned, or 0 where the area is too short for it.
 pub fn write_answer(text: &mut [u8], names: [u64; NAMES], rounds: usize, labels: &[u64]) -> usize

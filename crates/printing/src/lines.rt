@@ -1,7 +1,7 @@
 // The lines of a text: what was answered and two counts, then a line for each label.
-use crate::labels::label_length;
-use crate::labels::write_label;
-use crate::numbers::write_number;
+use marks::labels::label_length;
+use marks::labels::write_label;
+use marks::numbers::write_number;
 use table::NAMES;
 ghost use mathlib.Core.Path.{_≡_};
 ghost use mathlib.Core.List.{map};
@@ -10,7 +10,8 @@ ghost use lib.Dec.{leb};
 ghost use lib.ListN.{length};
 ghost use Rattle.meaning.specs.Bytes.{ascii};
 ghost use Rattle.grammar.specs.Printed.{decimal, line, labelText, labelLines};
-ghost use Rattle.printing.specs.Areas.{Written, wordsOf, countsOf};
+ghost use Rattle.grammar.specs.Areas.{Written};
+ghost use Rattle.marks.specs.Packed.{wordsOf, countsOf};
 ghost use Rattle.printing.specs.Steps.{headText};
 
 fn write_count_line(text: &mut [u8], key: &[u8], n: usize) -> usize

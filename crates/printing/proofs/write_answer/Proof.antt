@@ -7,10 +7,11 @@ use native.Mathlib.Omega.{arith}
 use borrow.Author.Tests.{leb-true, leb-false}
 use lib.ListN.{length}
 use Rattle.meaning.specs.Bytes.{Text}
-use Rattle.printing.specs.Areas.{Written}
-use Rattle.printing.proofs.Writing.{Underway, first, back, last, room, lent-room, ends-within, same-size}
+use Rattle.grammar.specs.Areas.{Written}
+use Rattle.grammar.proofs.Areas.{written→printed, short→printed}
+use Rattle.marks.proofs.Writing.{Underway, first, back, last, room, lent-room, ends-within, same-size}
 use Rattle.printing.proofs.LabelLines.{linesFrom}
-use Rattle.printing.proofs.Whole.{whole, none, answerHead, packedAnswer, answer-joined, length-answer}
+use Rattle.printing.proofs.Answers.{answerHead, packedAnswer, answer-joined, length-answer}
 use Rattle.printing.proofs.write_answer.Statement.{statement}
 use Rattle.printing.proofs.write_answer.Tie as tie
 
@@ -33,7 +34,7 @@ head-length-requires c κs = omega arith
 returns : tie.Need-returns
 returns c =
     let s = c .before .before .before .before .before .before .before .before .before .before in
-    none (omega (arith, c .if1 .taken, c .before .head-length .ensures, text-length s))
+    short→printed (omega (arith, c .if1 .taken, c .before .head-length .ensures, text-length s))
 
 sub-room : tie.Need-sub-room
 sub-room c = c .if1 .left
@@ -102,10 +103,10 @@ same-length : tie.Need-same-length
 same-length c = same-size (fits (tested (c .before .before .before .before))) (text-written c)
 
 returns-2 : tie.Need-returns-2
-returns-2 c = whole (fits (tested (c .before .before .before .before))) (text-written c)
+returns-2 c = written→printed (fits (tested (c .before .before .before .before))) (text-written c)
 
 returns-3 : tie.Need-returns-3
-returns-3 c = none (too-long c)
+returns-3 c = short→printed (too-long c)
 
 pub write-answer-spec : {M : Type 1} → statement M
 write-answer-spec =

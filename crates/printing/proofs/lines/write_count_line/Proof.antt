@@ -1,11 +1,14 @@
 -- `printing::lines::write_count_line` meets its contract: the key, the number and the line's end.
 -- Assumes nothing.
 use mathlib.Core.List.{[], _∷_, _++_}
+use Prim.Native.Nat.{_≤_}
 use native.Mathlib.Nat.{le-refl}
 use native.Mathlib.Omega.{arith}
+use lib.ListN.{length}
 use Rattle.meaning.specs.Bytes.{Text}
 use Rattle.grammar.specs.Printed.{decimal, line}
-use Rattle.printing.proofs.Writing.{Underway, copied, room, next-room}
+use Rattle.grammar.proofs.Areas.{printed→written}
+use Rattle.marks.proofs.Writing.{Underway, lent, copied, room, next-room}
 use Rattle.printing.proofs.Line.{length-line, keyed, Ended, ended}
 use Rattle.printing.proofs.lines.write_count_line.Statement.{statement}
 use Rattle.printing.proofs.lines.write_count_line.Tie as tie
@@ -39,7 +42,10 @@ part-write-number-end : tie.Need-part-write-number-end
 part-write-number-end c = le-refl _
 
 write-number-requires : tie.Need-write-number-requires
-write-number-requires c κs = next-room (value (entry (c .before))) (10 ∷ []) (key-written (c .before))
+write-number-requires c κs = tt
+
+value-room : (c : tie.After-slice-known2) → length (value (entry c)) ≤ length (lent (c .before .before .copy .result) (c .before .before .copy .last .1 .0))
+value-room c = next-room (value (entry c)) (10 ∷ []) (key-written c)
 
 -- the value is written too
 line-written : (c : tie.After-slice-known3) →
@@ -50,7 +56,7 @@ line-written : (c : tie.After-slice-known3) →
 line-written c =
     let k = c .before .before .before .before in
     let w = k .before .before .copy .ensures in
-    ended (entry k .args .key .now) (value (entry k)) (entry k .pre) (copied (w .0) (w .1)) (c .before .before .write-number .ensures)
+    ended (entry k .args .key .now) (value (entry k)) (entry k .pre) (copied (w .0) (w .1)) (printed→written (value-room k) (c .before .before .write-number .ensures))
 
 add-end : tie.Need-add-end
 add-end c = omega (arith, line-written c .below)

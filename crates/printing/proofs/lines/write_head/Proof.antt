@@ -8,7 +8,7 @@ use native.Mathlib.Omega.{arith}
 use lib.ListN.{length-append}
 use Rattle.grammar.specs.Printed.{decimal, line}
 use Rattle.printing.specs.Steps.{headText}
-use Rattle.printing.proofs.Writing.{Underway, copied, first, back, step, last, kept, room, next-room, lent-room, ends-within}
+use Rattle.marks.proofs.Writing.{Underway, copied, first, back, step, last, kept, room, next-room, lent-room, ends-within}
 use borrow.Author.Needs.{needs}
 use Rattle.printing.proofs.lines.write_head.Statement.{statement}
 use Rattle.printing.proofs.lines.write_head.Tie as tie

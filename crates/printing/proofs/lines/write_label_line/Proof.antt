@@ -2,12 +2,15 @@
 -- Assumes nothing.
 use mathlib.Core.Path.{refl}
 use mathlib.Core.List.{[], _∷_, _++_}
+use Prim.Native.Nat.{_≤_}
 use native.Mathlib.Nat.{le-refl}
 use native.Mathlib.Omega.{arith}
+use lib.ListN.{length}
 use Rattle.meaning.specs.Bytes.{Text, ascii}
 use Rattle.grammar.specs.Printed.{labelText, line}
-use Rattle.printing.specs.Areas.{wordsOf, countsOf}
-use Rattle.printing.proofs.Writing.{Underway, copied, room, next-room}
+use Rattle.marks.specs.Packed.{wordsOf, countsOf}
+use Rattle.grammar.proofs.Areas.{printed→written}
+use Rattle.marks.proofs.Writing.{Underway, lent, copied, room, next-room}
 use Rattle.printing.proofs.Line.{keyed, Ended, ended}
 use Rattle.printing.proofs.lines.write_label_line.Statement.{statement}
 use Rattle.printing.proofs.lines.write_label_line.Tie as tie
@@ -32,6 +35,9 @@ key-written c =
     let w = c .before .before .copy .ensures in
     keyed (ascii "label=") (value (entry c)) (entry c .pre) (copied (w .0) (w .1))
 
+value-room : (c : tie.After-slice-known2) → length (value (entry c)) ≤ length (lent (c .before .before .copy .result) (c .before .before .copy .last .1 .0))
+value-room c = next-room (value (entry c)) (10 ∷ []) (key-written c)
+
 -- the value is written too
 line-written : (c : tie.After-slice-known3) →
     let k = c .before .before .before .before in
@@ -41,7 +47,7 @@ line-written : (c : tie.After-slice-known3) →
 line-written c =
     let k = c .before .before .before .before in
     let w = k .before .before .copy .ensures in
-    ended (ascii "label=") (value (entry k)) (entry k .pre) (copied (w .0) (w .1)) (c .before .before .write-label .ensures)
+    ended (ascii "label=") (value (entry k)) (entry k .pre) (copied (w .0) (w .1)) (printed→written (value-room k) (c .before .before .write-label .ensures))
 
 sub-write-label : tie.Need-sub-write-label
 sub-write-label c = omega (arith, room (key-written c))
@@ -53,7 +59,7 @@ part-write-label-end : tie.Need-part-write-label-end
 part-write-label-end c = le-refl _
 
 write-label-requires : tie.Need-write-label-requires
-write-label-requires c κs = next-room (value (entry (c .before))) (10 ∷ []) (key-written (c .before))
+write-label-requires c κs = tt
 
 returns : tie.Need-returns
 returns c = line-written c .written

@@ -1,0 +1,60 @@
+-- `marks::labels::write_part` meets its contract: the name, a colon and the number, one behind the other.
+-- Assumes nothing.
+use mathlib.Core.Path.{sym}
+use mathlib.Core.List.{[], _∷_, append-assoc}
+use native.Mathlib.Nat.{le-refl}
+use native.Mathlib.Omega.{arith}
+use Rattle.table.specs.Decoded.{nameOf}
+use Rattle.grammar.specs.Printed.{decimal, partText}
+use Rattle.marks.proofs.Writing.{Underway, first, step-byte, last, kept, room, lent-room, ends-within, same-size}
+use Rattle.marks.proofs.Parts.{length-part}
+use Rattle.marks.proofs.labels.write_part.Statement.{statement}
+use Rattle.marks.proofs.labels.write_part.Tie as tie
+
+write-name-requires : tie.Need-write-name-requires
+write-name-requires c κs = omega (arith, length-part (nameOf 8 (c .before .before .args .name)) (c .before .before .args .times))
+
+-- the name is written, and the colon and the number are to come
+abbrev entry : tie.After-slice-known2 → tie.Start
+entry c = c .before .before .before .before .before
+
+named : (c : tie.After-slice-known2) →
+    let a = entry c .args in
+    let w = c .before .before .write-name in
+    Underway (partText (nameOf 8 (a .name)) (a .times)) (58 ∷ decimal (a .times)) (a .text .now) (w .last .0) (w .result)
+named c =
+    let a = entry c .args in
+    first (sym (append-assoc (nameOf 8 (a .name)) (58 ∷ []) (decimal (a .times)))) (entry c .pre) (c .before .before .write-name .ensures)
+
+slice-write-text : tie.Need-slice-write-text
+slice-write-text c = omega (arith, room (named c))
+
+add-at : tie.Need-add-at
+add-at c = omega (arith, room (named c), kept (named c))
+
+returns : tie.Need-returns
+returns c = last (step-byte (named (c .before .before .before .before))) (c .before .before .write-digits .ensures)
+
+add-result : tie.Need-add-result
+add-result c = omega (arith, ends-within (entry (c .before .before .before .before) .pre) (returns c))
+
+same-length : tie.Need-same-length
+same-length c = same-size (entry (c .before .before .before .before) .pre) (returns c)
+
+sub-write-digits : tie.Need-sub-write-digits
+sub-write-digits c = omega (arith, room (step-byte (named c)))
+
+part-write-digits-start : tie.Need-part-write-digits-start
+part-write-digits-start c = sub-write-digits c
+
+part-write-digits-end : tie.Need-part-write-digits-end
+part-write-digits-end c = le-refl _
+
+write-digits-requires : tie.Need-write-digits-requires
+write-digits-requires c κs = lent-room (step-byte (named (c .before)))
+
+pub write-part-spec : {M : Type 1} → statement M
+write-part-spec =
+    tie.close
+    (tie.spec write-name-requires slice-write-text add-at sub-write-digits part-write-digits-start part-write-digits-end write-digits-requires
+    add-result same-length returns)

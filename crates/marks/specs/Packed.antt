@@ -1,0 +1,14 @@
+-- The words that names and labels are packed in.
+-- Assumes nothing.
+use mathlib.Core.List.{List, map}
+use Prim.Native.Nat.{ℕ}
+use Rattle.meaning.specs.Bytes.{Text}
+use Rattle.meaning.specs.Labels.{Label, labelOf}
+use Rattle.table.specs.Decoded.{nameOf}
+
+-- Twelve names of at most eight bytes, a word each; a label's twelve counts in one word.
+abbrev pub wordsOf : List ℕ → List Text
+wordsOf names = map (nameOf 8) names
+
+abbrev pub countsOf : ℕ → Label
+countsOf w = labelOf 12 w
