@@ -1,3 +1,2 @@
--- What callers cite of areas and packed words, and what a step of a writer writes.
-pub mod Areas
+-- What a step of a writer writes.
 pub mod Steps

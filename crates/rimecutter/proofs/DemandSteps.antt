@@ -23,7 +23,8 @@ use Rattle.meaning.proofs.Widening.{tightening}
 use Rattle.grammar.specs.Reading.{Reading, read, overlong, badLine, readText}
 use Rattle.grammar.proofs.Acceptance.{accepted→}
 use Rattle.grammar.proofs.Lengths.{overlong→, →overlong}
-use Rattle.grammar.specs.Printed.{answerText, refusedText, put}
+use Rattle.grammar.specs.Printed.{answerText, refusedText}
+use Rattle.grammar.specs.Areas.{withStart}
 use Rattle.rimecutter.specs.Calls.{Call, refusing, answering, workWords, answerWords, tooShort, ofOutcome, ofReading, unlessShort, call, verdictOf, textOf}
 use Rattle.rimecutter.specs.Answers.{Settled}
 use Rattle.rimecutter.specs.Refusals.{Roomy, Large, Due}
@@ -210,19 +211,19 @@ module _ (m m′ : Made) {d d′ : Description} {o o′ : Order} (reads : readTe
       }
 
 -- What a call for C printed.
-pub printed : (c : Called) → Holds c → c .area′ ≡ put (textDue c) (c .area)
+pub printed : (c : Called) → Holds c → c .area′ ≡ withStart (textDue c) (c .area)
 printed c holds = shown-if (leb (length (textDue c)) (length (c .area))) (le→leb (length (textDue c)) (length (c .area)) holds) (c .kept .area)
   where
-    shown-if : (b : Bool) → T b → c .area′ ≡ elim b [ true ↦ put (textDue c) (c .area) | false ↦ c .area ] → c .area′ ≡ put (textDue c) (c .area)
+    shown-if : (b : Bool) → T b → c .area′ ≡ elim b [ true ↦ withStart (textDue c) (c .area) | false ↦ c .area ] → c .area′ ≡ withStart (textDue c) (c .area)
     shown-if true t e = e
     shown-if false t e = absurd t
 
-answer-ok : (words : List Text) (rounds : ℕ) (labels : List Label) (area : Text) → SaysOk (put (answerText words rounds labels) area)
+answer-ok : (words : List Text) (rounds : ℕ) (labels : List Label) (area : Text) → SaysOk (withStart (answerText words rounds labels) area)
 unfolding answerText
 answer-ok words rounds labels area = refl
 
 -- a refusal says otherwise in its eighth byte
-refusal-not-ok : (reason at : ℕ) (area : Text) → SaysOk (put (refusedText reason at) area) → ⊥
+refusal-not-ok : (reason at : ℕ) (area : Text) → SaysOk (withStart (refusedText reason at) area) → ⊥
 unfolding refusedText
 refusal-not-ok reason at area e = let k = ap (λ (t : Text). getD t 7 0) e in omega arith
 
@@ -232,14 +233,14 @@ own = record { works = omega arith; answers = omega arith }
 
 module _ (c c′ : Called) {d d′ : Description} {o o′ : Order} (reads : readText (c .text) ≡ read d o) (reads′ : readText (c′ .text) ≡ read d′ o′)
     (holds : Holds c) (holds′ : Holds c′) where
-  safe-text : Widens d o d′ o′ → (x : Outcome) → A.answer d′ o′ ≡ x → SaysOk (put (textOf (ofOutcome d′ x)) (c′ .area)) → SafeText c c′ d o d′
+  safe-text : Widens d o d′ o′ → (x : Outcome) → A.answer d′ o′ ≡ x → SaysOk (withStart (textOf (ofOutcome d′ x)) (c′ .area)) → SafeText c c′ d o d′
   safe-text w tooLarge e ok = absurd (refusal-not-ok 7 0 (c′ .area) ok)
   safe-text w (listed rounds labels) e ok =
       let legal = accepted→ (c .text) d o reads .1 in
       let legal′ = accepted→ (c′ .text) d′ o′ reads′ .1 in
       let tight = tightening d o d′ o′ legal legal′ w rounds labels e in
-      let text : Call → Text = λ x. put (textOf x) (c .area) in
-      let text′ : Call → Text = λ x. put (textOf x) (c′ .area) in
+      let text : Call → Text = λ x. withStart (textOf x) (c .area) in
+      let text′ : Call → Text = λ x. withStart (textOf x) (c′ .area) in
       let first = call-read (c .text) workWords answerWords own reads ∙ ap (ofOutcome d) (tight .answered .is) in
       let second = call-read (c′ .text) workWords answerWords own reads′ ∙ ap (ofOutcome d′) e in
       record {
@@ -252,7 +253,7 @@ module _ (c c′ : Called) {d d′ : Description} {o o′ : Order} (reads : read
 
   pub safe-texts : Widens d o d′ o′ → SaysOk (c′ .area′) → SafeText c c′ d o d′
   safe-texts w ok =
-      let text′ : Call → Text = λ x. put (textOf x) (c′ .area) in
+      let text′ : Call → Text = λ x. withStart (textOf x) (c′ .area) in
       safe-text w (A.answer d′ o′) refl (subst SaysOk (printed c′ holds′ ∙ ap text′ (call-read (c′ .text) workWords answerWords own reads′)) ok)
 
 -- Refusal 8: no text is empty, and no other number is 8.
@@ -273,7 +274,7 @@ module _ (c : Called) where
 
   by-fit : (fits : Bool)
       → c .size ≡ elim fits [ true ↦ length (textDue c) | false ↦ 0 ]
-      → c .area′ ≡ elim fits [ true ↦ put (textDue c) (c .area) | false ↦ c .area ]
+      → c .area′ ≡ elim fits [ true ↦ withStart (textDue c) (c .area) | false ↦ c .area ]
       → (number : ℕ) → number ≡ elim fits [ true ↦ verdictOf coming .reason | false ↦ 8 ]
       → ((c .size ≡ 0) ↔ (number ≡ 8)) × (number ≡ 8 → c .area′ ≡ c .area)
   by-fit true size area number n =

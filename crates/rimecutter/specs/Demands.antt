@@ -14,8 +14,8 @@ use Rattle.meaning.specs.Limits.{PassesLimit}
 use Rattle.meaning.specs.Answers as A
 use Rattle.meaning.specs.Answers.{Allows, listed, Lists, Refusal, Verdict}
 use Rattle.grammar.specs.Reading.{read, readText}
-use Rattle.grammar.specs.Printed.{line, answerText, put}
-use Rattle.printing.specs.Areas.{Printed}
+use Rattle.grammar.specs.Printed.{line, answerText}
+use Rattle.grammar.specs.Areas.{withStart, Printed}
 use Rattle.rimecutter.specs.declared.Answer.{Answer}
 use Rattle.rimecutter.specs.Calls.{refusing, call, cleared, workAfter, textOf, numberInText, workWords, answerWords}
 use Rattle.rimecutter.specs.Answers.{verdictFor, Settled}
@@ -111,5 +111,5 @@ pub record SafeText (c c′ : Called) (d : Description) (o : Order) (d′ : Desc
   pub answered : SaysOk (c .area′)
   pub rounds : ℕ
   pub listed-labels : List Label
-  pub shown : c′ .area′ ≡ put (answerText (d′ .words) rounds listed-labels) (c′ .area)
+  pub shown : c′ .area′ ≡ withStart (answerText (d′ .words) rounds listed-labels) (c′ .area)
   pub covered : (a : Label) → OnRun d a → Allows o a → a ∈ listed-labels

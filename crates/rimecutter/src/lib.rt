@@ -2,7 +2,7 @@
 mod calls;
 
 ghost use lib.ListN.{length};
-ghost use Rattle.printing.specs.Areas.{Printed};
+ghost use Rattle.grammar.specs.Areas.{Printed};
 ghost use Rattle.rimecutter.specs.Calls.{call, textOf, workWords, answerWords};
 ghost use Rattle.rimecutter.specs.Answers.{Settled};
 use crate::calls::respond;

@@ -1,5 +1,5 @@
 // The call for C programs, which include/rimecutter.h declares.
-ghost use Rattle.printing.specs.Areas.{Printed};
+ghost use Rattle.grammar.specs.Areas.{Printed};
 ghost use Rattle.rimecutter.specs.Calls.{call, textOf, workWords, answerWords};
 use rimecutter::alphabet_text;
 
