@@ -14,7 +14,7 @@ use Rattle.meaning.specs.Answers.{admits, cut}
 use Rattle.labels.proofs.Meant.{Packs}
 use Rattle.sets.proofs.Meant.{AllPack}
 use Rattle.sets.proofs.Ways.{number-zero, same-test, member-number}
-use Rattle.rounds.specs.Cutting.{allows, cutWords}
+use Rattle.places.specs.Cutting.{allows, cutWords}
 use Rattle.rounds.proofs.Shaped.{listed-packs}
 
 -- whether an order is `all`, and the words of its list

@@ -4,14 +4,17 @@ use mathlib.Core.Path.{_≡_, refl, sym, ap, ap₂, subst, _∙_}
 use mathlib.Core.Logic.{_⊎_, inl, inr}
 use mathlib.Core.List.{List, [], _∷_, _++_, map, append-assoc, append-nil}
 use Prim.Native.Nat.{ℕ, zero, suc, _+_, _-_, _≤_, _<_}
-use native.Mathlib.Nat.{le-of-suc-le-suc, zero-add, min-eq-left, suc-add, add-sub-of-le}
+use native.Mathlib.Nat.{le-of-suc-le-suc, min-eq-left, add-sub-of-le}
 use native.Mathlib.Omega.{arith}
 use native.Mathlib.Decide.{decLt}
-use lib.ListN.{length, getD, take, drop, length-append, length-map, length-take, length-drop}
-use lib.Seq.{take-all, drop-drop, take-append-add, take-append-le, drop-append-le, take-append-seam, drop-append-add, take-take, take-nil}
+use lib.ListN.{length, take, drop, length-append, length-map, length-take, length-drop}
+use lib.Seq.{take-all, drop-drop, take-append-add, take-append-le, drop-append-le, take-append-seam, drop-append-add, take-take}
 use Rattle.meaning.specs.Labels.{Label, number}
 use Rattle.meaning.specs.Sets.{at}
 use Rattle.meaning.specs.Limits.{total}
+use Rattle.sets.specs.Parts.{part}
+use Rattle.places.specs.Starts.{startIn}
+use Rattle.places.proofs.Copies.{part-taken}
 use Rattle.rounds.specs.Laid.{flat, Laid}
 
 pub length-flat : (sets : List (List Label)) → length (flat sets) ≡ total sets
@@ -45,15 +48,6 @@ total-part sets zero = omega arith
 total-part [] (suc i) = omega arith
 total-part (s ∷ sets) (suc i) = let ih = total-part sets i in omega arith
 
--- a part, from a place up to another
-abbrev pub part : ℕ → ℕ → List ℕ → List ℕ
-part from to ls = drop from (take to ls)
-
-pub part-taken : (ls : List ℕ) (from n : ℕ) → part from (from + n) ls ≡ take n (drop from ls)
-part-taken ls zero n = ap (λ (k : ℕ). take k ls) (zero-add n)
-part-taken [] (suc from) n = ap (drop (suc from)) (take-nil (suc from + n)) ∙ sym (take-nil n)
-part-taken (x ∷ ls) (suc from) n = ap (λ (k : ℕ). drop (suc from) (take k (x ∷ ls))) (suc-add from n) ∙ part-taken ls from n
-
 -- what lies within the first so many
 within-first : (ls : List ℕ) (from n first : ℕ) → from + n ≤ first → take n (drop from (take first ls)) ≡ take n (drop from ls)
 within-first ls zero n first h = take-take n first ls (omega arith)
@@ -62,13 +56,13 @@ within-first [] (suc from) n (suc first) h = refl
 within-first (x ∷ ls) (suc from) n (suc first) h = within-first ls from n first (omega arith)
 
 pub laid-part : (base n : ℕ) (sets : List (List Label)) (starts work : List ℕ) → Laid base n sets starts work → (i : ℕ) → i < n
-    → part (base + getD starts i 0) (base + getD starts (suc i) 0) work ≡ map number (at sets i)
+    → part (base + startIn starts i) (base + startIn starts (suc i)) work ≡ map number (at sets i)
 laid-part base n sets starts work l i h =
     let here = total (take i sets) in
     let m = length (at sets i) in
     let next = total-take sets i in
-    let from : base + getD starts i 0 ≡ base + here = ap (λ (j : ℕ). base + j) (l .begins i (omega arith)) in
-    let to : base + getD starts (suc i) 0 ≡ base + here + m = omega (arith, l .begins (suc i) h) in
+    let from : base + startIn starts i ≡ base + here = ap (λ (j : ℕ). base + j) (l .begins i (omega arith)) in
+    let to : base + startIn starts (suc i) ≡ base + here + m = omega (arith, l .begins (suc i) h) in
     let fits : here + m ≤ total sets = omega (arith, total-part sets (suc i)) in
     ap₂ (λ (f t : ℕ). part f t work) from to
     ∙ part-taken work (base + here) m
@@ -118,8 +112,8 @@ laid-words base p work new rest h k =
     ∙ ap₂ {C = List ℕ} _++_ inner (take-append-seam new rest)))
 
 pub laid-more : (base : ℕ) (sets : List (List Label)) (starts starts′ work : List ℕ) (s : List Label) (p : ℕ) (rest : List ℕ) → Laid base (length sets) sets starts work
-    → p ≡ base + total sets → p ≤ length work → ((i : ℕ) → i ≤ length sets → getD starts′ i 0 ≡ getD starts i 0)
-    → getD starts′ (suc (length sets)) 0 ≡ total sets + length s
+    → p ≡ base + total sets → p ≤ length work → ((i : ℕ) → i ≤ length sets → startIn starts′ i ≡ startIn starts i)
+    → startIn starts′ (suc (length sets)) ≡ total sets + length s
     → Laid base (suc (length sets)) (sets ++ (s ∷ [])) starts′ (take p work ++ (map number s ++ rest))
 laid-more base sets starts starts′ work s p rest l e k before last =
     let d : p - base ≡ total sets = omega arith in
@@ -132,7 +126,7 @@ laid-more base sets starts starts′ work s p rest l e k before last =
       begins = λ i h. first i (elim (decLt i (suc (length sets))) [ yes q ↦ inl (le-of-suc-le-suc q) | no q ↦ inr (omega arith) ]);
     }
   where
-    first : (i : ℕ) → (i ≤ length sets) ⊎ (i ≡ suc (length sets)) → getD starts′ i 0 ≡ total (take i (sets ++ (s ∷ [])))
+    first : (i : ℕ) → (i ≤ length sets) ⊎ (i ≡ suc (length sets)) → startIn starts′ i ≡ total (take i (sets ++ (s ∷ [])))
     first i (inl q) = before i q ∙ l .begins i q ∙ ap total (sym (take-more sets s i q))
     first i (inr q) =
         let whole : take (suc (length sets)) (sets ++ (s ∷ [])) ≡ sets ++ (s ∷ []) = take-all (suc (length sets)) (sets ++ (s ∷ [])) (omega (arith, length-append sets (s ∷ []))) in

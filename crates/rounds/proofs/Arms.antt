@@ -6,7 +6,7 @@ use mathlib.Core.Logic.{inl, inr}
 use mathlib.Core.List.{List, [], _∷_, map}
 use Prim.Native.Nat.{ℕ, suc, _+_, _≤_, _<_, zero-le}
 use native.Mathlib.Omega.{arith}
-use lib.ListN.{length, getD}
+use lib.ListN.{length}
 use Rattle.meaning.specs.Labels.{Label, number}
 use Rattle.meaning.specs.Sets.{_∈_, at, ascending}
 use Rattle.meaning.specs.Descriptions.{Description, names, termCount, termAt}
@@ -18,8 +18,9 @@ use Rattle.sets.specs.Parts.{partBefore}
 use Rattle.sets.specs.Building.{Building, done, Grown}
 use Rattle.sets.proofs.Meant.{AllPack}
 use Rattle.shapes.specs.Making.{leafBuilt, jointBuilt}
-use Rattle.rounds.specs.Terms.{copyBuilt}
-use Rattle.rounds.specs.Working.{half, partly, setOf, Ready, Worked}
+use Rattle.places.specs.Laying.{copyBuilt}
+use Rattle.places.specs.Starts.{half, startIn}
+use Rattle.rounds.specs.Working.{partly, setOf, Ready, Worked}
 use Rattle.rounds.proofs.Shaped.{Settled, leaf-settled, copied-settled, joint-settled}
 use Rattle.rounds.proofs.Fitting.{copy-fits, leaf-fits, joint-fits}
 use Rattle.rounds.proofs.Settling.{placeOf, roomOf, settled-done, settled-over}
@@ -30,7 +31,7 @@ module _ (d : Description) (k n : ℕ) (older before this work work′ : List �
   room = roomOf d k n older before this work work′ r
 
   abbrev pub here : ℕ → List ℕ
-  here t = partBefore (placeOf d k n) (half + getD this t 0) (half + getD this (suc t) 0) work
+  here t = partBefore (placeOf d k n) (half + startIn this t) (half + startIn this (suc t)) work
 
   -- any shape
   pub arm : (build : List ℕ → Building) → Grown build (placeOf d k n) 0 work work′ answer → length (build [] .set) ≤ room

@@ -25,10 +25,12 @@ use Rattle.sets.specs.declared.Way.{Way}
 use Rattle.sets.specs.Parts.{roomAt}
 use Rattle.sets.specs.Building.{next, Grown}
 use Rattle.shapes.specs.Making.{leafBuilt, throughBuilt}
-use Rattle.rounds.specs.Working.{half, partly, Ready, Worked}
+use Rattle.places.specs.Starts.{half, startIn, partIn, placeIn, leftIn}
+use Rattle.rounds.specs.Working.{partly, Ready, Worked}
 use Rattle.shapes.specs.Ways.{wayFor}
 use Rattle.shapes.specs.Shaping.{shapeFor}
-use Rattle.rounds.specs.Terms.{partIn, placeIn, leftIn, copyBuilt, newOf, built}
+use Rattle.places.specs.Laying.{copyBuilt}
+use Rattle.rounds.specs.Terms.{newOf, built}
 use Rattle.rounds.proofs.Settling.{placeOf, leftOf}
 use Rattle.rounds.proofs.Shaped.{wayWords}
 use Rattle.rounds.proofs.Stores.{way-same, words-same}
@@ -36,7 +38,7 @@ use Rattle.rounds.proofs.Arms.{none-arm, leaf-arm, joint-arm}
 use Rattle.rounds.proofs.Growing.{through-grown-arm, two-grown-arm, one-copy-arm, reference-copy-arm}
 
 -- The place after the sets of this round so far.
-pub starts-here : (d : Description) (k n : ℕ) (older before this work : List ℕ) → Ready d k n older before this work → getD this n 0 ≡ total (partly d k n)
+pub starts-here : (d : Description) (k n : ℕ) (older before this work : List ℕ) → Ready d k n older before this work → startIn this n ≡ total (partly d k n)
 starts-here d k n older before this work r =
     r .upper .begins n (le-refl n) ∙ ap total (take-all n (partly d k n) (omega (arith, length-worked d (equationSets d k) n)))
 

@@ -14,8 +14,9 @@ use Rattle.sets.specs.Building.{Building, goesOn, next, imaged, row, multiplied
 use Rattle.sets.specs.Joining.{joined, ascent, fitting, united}
 use Rattle.sets.proofs.Steps.{Steady, steady-each, steady-enter, steady-imaged, steady-row}
 use Rattle.shapes.specs.Making.{leafBuilt, throughBuilt, eitherBuilt, jointBuilt, bothBuilt}
-use Rattle.rounds.specs.Terms.{fitted, copyBuilt, eitherAdded, jointAdded, bothAdded, madeOr, wholeOf, addedOf}
-use Rattle.shapes.proofs.Filling.{length-zeros}
+use Rattle.places.specs.Laying.{fitted, copyBuilt}
+use Rattle.rounds.specs.Terms.{eitherAdded, jointAdded, bothAdded, madeOr, wholeOf, addedOf}
+use Rattle.places.proofs.Filling.{length-zeros}
 
 module _ (room : ℕ) where
   pub leaf-fits : (w : ℕ) → length (leafBuilt room w [] .set) ≤ room

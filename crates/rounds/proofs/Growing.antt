@@ -31,8 +31,10 @@ use Rattle.sets.proofs.Communication.{rule-legal}
 use Rattle.sets.proofs.Meant.{AllPack}
 use Rattle.shapes.specs.Fresh.{fresh}
 use Rattle.shapes.specs.Making.{throughBuilt, eitherBuilt, bothBuilt}
-use Rattle.rounds.specs.Terms.{partIn, copyBuilt, newOf, eitherAdded, jointAdded, bothAdded, madeOr, wholeOf, addedOf, twoGrown}
-use Rattle.rounds.specs.Working.{half, partly, Ready, Worked}
+use Rattle.places.specs.Starts.{partIn, half}
+use Rattle.places.specs.Laying.{copyBuilt}
+use Rattle.rounds.specs.Terms.{newOf, eitherAdded, jointAdded, bothAdded, madeOr, wholeOf, addedOf, twoGrown}
+use Rattle.rounds.specs.Working.{partly, Ready, Worked}
 use Rattle.rounds.proofs.Settling.{placeOf, roomOf}
 use Rattle.rounds.proofs.Operands.{partly-round, round-set, round-ascending, before-part, before-packs, term-part, term-packs, term-ascends}
 use Rattle.rounds.proofs.Shaped.{Settled, wayOf, wayWords, Shut, same-settled, settled-next, copied-settled, copy-added, product-added, through-added, either-settled, both-settled}

@@ -1,6 +1,5 @@
 -- Laws of sets laid one behind the other, and of words put one after the other.
 pub mod Areas
-pub mod Keeping
 pub mod Passing
 pub mod Turning
 pub mod Staying
@@ -12,7 +11,6 @@ pub mod Operands
 pub mod Arms
 pub mod Growing
 pub mod Sequence
-pub mod Carrying
 pub mod Stores
 pub mod Dispatch
 pub mod Copying

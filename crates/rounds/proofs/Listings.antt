@@ -8,8 +8,9 @@ use Prim.Native.Nat.{ℕ, zero, suc, _+_, _*_, _-_, _≤_, _<_}
 use native.Mathlib.Nat.{mul-one}
 use native.Mathlib.Omega.{arith}
 use native.Mathlib.Decide.{decLt}
+use borrow.Author.Tests.{le-leb}
 use lib.Dec.{T}
-use lib.ListN.{length, take, drop, replicate, length-map}
+use lib.ListN.{length, take, drop, replicate, length-map, length-take}
 use lib.Seq.{length-slice}
 use Rattle.meaning.specs.Labels.{Label, number}
 use Rattle.meaning.specs.Sets.{at}
@@ -33,11 +34,10 @@ use Rattle.rounds.specs.declared.Answer.{Answer}
 use Rattle.rounds.specs.declared.Answer.the-variants as A
 use Rattle.rounds.specs.declared.turns.Found.{Found}
 use Rattle.rounds.specs.declared.turns.Found.the-variants as F
-use Rattle.shapes.specs.Putting.{put}
-use Rattle.rounds.specs.Cutting.{cutWords}
-use Rattle.rounds.specs.Working.{whole}
+use Rattle.places.specs.Cutting.{put, cutWords, cutInto, whereRoom}
+use Rattle.places.specs.Starts.{whole}
 use Rattle.rounds.specs.Alphabets.{alphabetOf, answerWords, cleared, Answered, Stands, Ends, Reached, Listing}
-use Rattle.rounds.proofs.Areas.{part-taken}
+use Rattle.places.proofs.Copies.{part-taken}
 use Rattle.rounds.proofs.Answering.{isAll, listOf, cut-number}
 use Rattle.rounds.proofs.Operands.{packed-sets}
 
@@ -85,22 +85,23 @@ module _ (found : Found) (store : List ℕ) (order : Order) (work area : List �
         let sets = roundSets d k in
         (x, omega (arith, few-labels sets (d .root) (x .few), length-map (at sets (d .root)) number, ap length (x .words), length-slice from to work (x .within .1)))
 
-    pub listing-never : (to < from) ⊎ ((length work < to) ⊎ (length area < to - from)) → Listing found store order work area area A.TooLarge
-    listing-never h d o l f g room e = let x = placed d o e in absurd (elim h [
-      | inl a ↦ omega (arith, x .0 .within .0)
-      | inr b ↦ elim b [ inl a ↦ omega (arith, x .0 .within .1) | inr a ↦ omega (arith, x .1) ]
-    ])
+    pub listing-never : (to < from) ⊎ (length work < to) → Listing found store order work area area A.TooLarge
+    listing-never h d o l f g room e =
+        let x = placed d o e .0 in absurd (elim h [ inl a ↦ omega (arith, x .within .0) | inr a ↦ omega (arith, x .within .1) ])
 
     pub listing-cut : (all : Bool) (list set area′ : List ℕ) (n : ℕ) → all ≡ allIn order → list ≡ listIn store order → set ≡ take (to - from) (drop from work)
-        → area′ ≡ put (cutWords all list set) area → n ≡ length (cutWords all list set) → Listing found store order work area area′ (A.Listed k n)
+        → area′ ≡ put (cutInto all list set area) area → n ≡ length (cutInto all list set area) → Listing found store order work area area′ (A.Listed k n)
     listing-cut all list set area′ n a b c w m d o l f g room e =
         let x = placed d o e .0 in
         let labels = at (roundSets d k) (d .root) in
+        let small : length set ≤ to - from = rw c (omega (arith, length-take (to - from) (drop from work))) in
+        let fits : length set ≤ length area = omega (arith, placed d o e .1) in
         let end : from + (to - from) ≡ to = omega (arith, x .within .0) in
         let there : set ≡ part from to work = c ∙ sym (part-taken work from (to - from)) ∙ ap (λ (z : ℕ). part from z work) end in
         let packs = packed-sets (D.names d) (roundSets d k) (d .root) (x .few) (round-full d k (d .root)) in
-        let words : cutWords all list set ≡ map number (cut o labels) =
-        ap₂ (λ (t : Bool) (v : List ℕ). cutWords t v set) (a ∙ ap allIn g ∙ order-all o) (b ∙ ap₂ listIn f g ∙ order-list d o l)
+        let words : cutInto all list set area ≡ map number (cut o labels) =
+        ap (λ (t : Bool). whereRoom t (cutWords all list set)) (le-leb (length set) (length area) fits)
+        ∙ ap₂ (λ (t : Bool) (v : List ℕ). cutWords t v set) (a ∙ ap allIn g ∙ order-all o) (b ∙ ap₂ listIn f g ∙ order-list d o l)
         ∙ ap (cutWords (isAll o) (listOf o)) (there ∙ x .words)
         ∙ cut-number (D.names d) o labels (l .order) packs in (
           ap (A.Listed k) (m ∙ ap length words ∙ length-map (cut o labels) number) ∙ sym (ap alphabetOf (x .outcome)),

@@ -8,7 +8,7 @@ use native.Mathlib.Nat.{le-refl}
 use native.Mathlib.Omega.{arith}
 use native.Mathlib.Decide.{decLt}
 use lib.Dec.{T}
-use lib.ListN.{getD, drop}
+use lib.ListN.{drop}
 use lib.Seq.{take-take}
 use Rattle.meaning.specs.Labels.{Label, size, number}
 use Rattle.meaning.specs.Sets.{at, ascending}
@@ -22,13 +22,14 @@ use Rattle.meaning.proofs.Limits.{long, over-one, over-some}
 use Rattle.sets.specs.Parts.{part, partBefore}
 use Rattle.sets.proofs.Meant.{AllPack, ascending-same}
 use Rattle.rounds.specs.Laid.{Laid}
-use Rattle.rounds.specs.Working.{half, partly, setOf, Ready}
+use Rattle.places.specs.Starts.{half, startIn}
+use Rattle.rounds.specs.Working.{partly, setOf, Ready}
 use Rattle.rounds.proofs.Areas.{laid-part, total-part}
 use Rattle.rounds.proofs.Passing.{at-most}
 
 -- A part that ends before a place.
 part-before : (place base n : ℕ) (sets : List (List Label)) (starts work : List ℕ) → Laid base n sets starts work → base + total sets ≤ place
-    → (i from to : ℕ) → i < n → from ≡ base + getD starts i 0 → to ≡ base + getD starts (suc i) 0 → partBefore place from to work ≡ map number (at sets i)
+    → (i from to : ℕ) → i < n → from ≡ base + startIn starts i → to ≡ base + startIn starts (suc i) → partBefore place from to work ≡ map number (at sets i)
 part-before place base n sets starts work l h i from to less begin end =
     let inside : to ≤ place = omega (arith, l .begins (suc i) less, total-part sets (suc i)) in
     ap (drop from) (take-take to place work inside) ∙ ap₂ (λ (f t : ℕ). part f t work) begin end ∙ laid-part base n sets starts work l i less
@@ -79,9 +80,9 @@ round-ascending d (suc k) i = worked-ascends d (equationSets d k) (termCount d) 
 module _ (d : Description) (k n : ℕ) (older before this work : List ℕ) (r : Ready d k n older before this work) where
   -- An earlier term of this round.
   pub term-part : (i : ℕ) → i < n
-      → partBefore (half + total (partly d k n)) (half + getD this i 0) (half + getD this (suc i) 0) work ≡ map number (at (partly d k n) i)
+      → partBefore (half + total (partly d k n)) (half + startIn this i) (half + startIn this (suc i)) work ≡ map number (at (partly d k n) i)
   term-part i h =
-      part-before (half + total (partly d k n)) half n (partly d k n) this work (r .upper) (omega arith) i (half + getD this i 0) (half + getD this (suc i) 0) h refl refl
+      part-before (half + total (partly d k n)) half n (partly d k n) this work (r .upper) (omega arith) i (half + startIn this i) (half + startIn this (suc i)) h refl refl
 
   pub term-packs : n ≤ termCount d → (i : ℕ) → i < n → AllPack (names d) (at (partly d k n) i)
   term-packs h i less = packed-sets (names d) (partly d k n) i (r .fewer) (subst (Full (names d)) (sym (partly-round d k n i h less)) (round-full d (suc k) i))
@@ -91,10 +92,10 @@ module _ (d : Description) (k n : ℕ) (older before this work : List ℕ) (r : 
 
   -- Any term in the round before.
   pub before-part : (i : ℕ) → i < termCount d
-      → partBefore (half + total (partly d k n)) (0 + getD before i 0) (0 + getD before (suc i) 0) work ≡ map number (at (roundSets d k) i)
+      → partBefore (half + total (partly d k n)) (0 + startIn before i) (0 + startIn before (suc i)) work ≡ map number (at (roundSets d k) i)
   before-part i h =
       part-before (half + total (partly d k n)) 0 (termCount d) (roundSets d k) before work (r .lower) (omega (arith, at-most (roundSets d k) (r .few))) i
-      (0 + getD before i 0) (0 + getD before (suc i) 0) h refl refl
+      (0 + startIn before i) (0 + startIn before (suc i)) h refl refl
 
   pub before-packs : (i : ℕ) → AllPack (names d) (at (roundSets d k) i)
   before-packs i = packed-sets (names d) (roundSets d k) i (r .few) (round-full d k i)

@@ -7,8 +7,8 @@ use native.Mathlib.Nat.{le-refl, min-eq-left}
 use native.Mathlib.Omega.{arith}
 use native.Mathlib.Decide.{decLt}
 use lib.Dec.{T}
-use lib.ListN.{length, getD, take, drop, set, length-append, length-map, length-take, length-drop}
-use lib.Seq.{take-all, take-append-le, drop-append-add, getD-set-same, getD-set-other, take-take, drop-drop}
+use lib.ListN.{length, take, drop, set, length-append, length-map, length-take, length-drop}
+use lib.Seq.{take-all, take-append-le, drop-append-add, take-take, drop-drop}
 use Rattle.meaning.specs.Labels.{Label, number}
 use Rattle.meaning.specs.Descriptions.{Description, termCount}
 use Rattle.meaning.specs.Rounds.{worked, roundSets, equationSets}
@@ -16,7 +16,9 @@ use Rattle.meaning.specs.Limits.{total, over}
 use Rattle.meaning.proofs.Carried.{length-worked}
 use Rattle.meaning.proofs.Limits.{over-all}
 use Rattle.rounds.specs.Laid.{Laid}
-use Rattle.rounds.specs.Working.{half, whole, partly, setOf, Ready, Kept, TermDone}
+use Rattle.places.specs.Starts.{half, whole, startIn}
+use Rattle.rounds.specs.Working.{partly, setOf, Ready, Kept, TermDone}
+use Rattle.places.proofs.Beginnings.{start-set, start-other}
 use Rattle.rounds.proofs.Areas.{laid-kept, laid-more, total-more}
 
 pub kept-self : (work : List ℕ) → Kept work work
@@ -86,26 +88,26 @@ module _ (d : Description) (k n : ℕ) (older before this work work′ : List �
       (rw same-words (laid-front (half + total (partly d k n)) (map number (setOf d k n)) work fits (0 + total (roundSets d k)) (omega (arith, at-most (roundSets d k) (r .few)))))
       (r .lower)
 
-  begins-set : (i : ℕ) → i ≤ length (partly d k n) → getD (set this (n + 1) (getD this n 0 + count)) i 0 ≡ getD this i 0
-  begins-set i h = getD-set-other this (n + 1) i (getD this n 0 + count) 0 (λ e. omega (arith, length-worked d (equationSets d k) n, h, e))
+  begins-set : (i : ℕ) → i ≤ length (partly d k n) → startIn (set this (n + 1) (startIn this n + count)) i ≡ startIn this i
+  begins-set i h = start-other this (n + 1) i (startIn this n + count) (λ e. omega (arith, length-worked d (equationSets d k) n, h, e))
 
-  last-set : getD (set this (n + 1) (getD this n 0 + count)) (suc (length (partly d k n))) 0 ≡ total (partly d k n) + length (setOf d k n)
+  last-set : startIn (set this (n + 1) (startIn this n + count)) (suc (length (partly d k n))) ≡ total (partly d k n) + length (setOf d k n)
   last-set =
       let e : suc (length (partly d k n)) ≡ n + 1 = omega (arith, length-worked d (equationSets d k) n) in
-      let b : getD this n 0 ≡ total (partly d k n) = r .upper .begins n (le-refl n) ∙ ap total (take-all n (partly d k n) (omega (arith, length-worked d (equationSets d k) n))) in
-      rw e (getD-set-same this (n + 1) (getD this n 0 + count) 0 starts ∙ ap₂ _+_ b (t .size))
+      let b : startIn this n ≡ total (partly d k n) = r .upper .begins n (le-refl n) ∙ ap total (take-all n (partly d k n) (omega (arith, length-worked d (equationSets d k) n))) in
+      rw e (start-set this (n + 1) (startIn this n + count) starts (omega (arith, t .size, next-fits d k n (t .fewer))) ∙ ap₂ _+_ b (t .size))
 
-  pub ready-next : Ready d k (suc n) older before (set this (n + 1) (getD this n 0 + count)) work′
+  pub ready-next : Ready d k (suc n) older before (set this (n + 1) (startIn this n + count)) work′
   ready-next =
       record {
         legal = r .legal;
         room = omega (arith, r .room, term-kept .long);
         old = r .old;
         lower = lower-stays;
-        upper = subst (λ (sets : List (List Label)). Laid half (suc n) sets (set this (n + 1) (getD this n 0 + count)) work′) (sym (partly-more d k n))
-            (subst (λ (w : List ℕ). Laid half (suc n) (partly d k n ++ (setOf d k n ∷ [])) (set this (n + 1) (getD this n 0 + count)) w) (sym (t .words))
-            (subst (λ (m : ℕ). Laid half (suc m) (partly d k n ++ (setOf d k n ∷ [])) (set this (n + 1) (getD this n 0 + count)) (take (half + total (partly d k n)) work ++ (map number (setOf d k n) ++ drop (half + total (partly d k n) + length (setOf d k n)) work))) (length-worked d (equationSets d k) n)
-            (laid-more half (partly d k n) this (set this (n + 1) (getD this n 0 + count)) work (setOf d k n) (half + total (partly d k n))
+        upper = subst (λ (sets : List (List Label)). Laid half (suc n) sets (set this (n + 1) (startIn this n + count)) work′) (sym (partly-more d k n))
+            (subst (λ (w : List ℕ). Laid half (suc n) (partly d k n ++ (setOf d k n ∷ [])) (set this (n + 1) (startIn this n + count)) w) (sym (t .words))
+            (subst (λ (m : ℕ). Laid half (suc m) (partly d k n ++ (setOf d k n ∷ [])) (set this (n + 1) (startIn this n + count)) (take (half + total (partly d k n)) work ++ (map number (setOf d k n) ++ drop (half + total (partly d k n) + length (setOf d k n)) work))) (length-worked d (equationSets d k) n)
+            (laid-more half (partly d k n) this (set this (n + 1) (startIn this n + count)) work (setOf d k n) (half + total (partly d k n))
             (drop (half + total (partly d k n) + length (setOf d k n)) work) (subst (λ (m : ℕ). Laid half m (partly d k n) this work) (sym (length-worked d (equationSets d k) n)) (r .upper)) refl (omega (arith, fits)) begins-set last-set)));
         few = r .few;
         fewer = t .fewer;

@@ -6,10 +6,8 @@ use mathlib.Core.List.{List}
 use Prim.Native.Nat.{ℕ, _+_, _-_, _≤_, _<_, zero-le}
 use native.Mathlib.Numerals.{add-one}
 use native.Mathlib.Omega.{arith}
-use native.Mathlib.Decide.{ℕ-discrete}
 use lib.Dec.{T}
 use lib.ListN.{length, getD, set, length-set}
-use lib.Seq.{getD-set-same, getD-set-other}
 use Rattle.meaning.specs.Descriptions as D
 use Rattle.table.specs.declared.Term.{Term}
 use Rattle.table.specs.Encoded.{termFor, storeOf, tableOf}
@@ -19,11 +17,14 @@ use Rattle.sets.specs.declared.Built.{Built}
 use Rattle.sets.specs.declared.Built.the-variants.{TooLarge, Holds}
 use Rattle.sets.specs.Parts.{roomAt}
 use Rattle.sets.specs.Building.{Grown}
-use Rattle.rounds.specs.Working.{half, whole, Ready, Kept, Worked, Between}
+use Rattle.places.specs.Starts.{half, whole, startIn, partIn, placeIn, leftIn}
+use Rattle.rounds.specs.Working.{Ready, Kept, Worked, Between}
 use Rattle.shapes.specs.Shaping.{shapeFor}
 use Rattle.shapes.specs.Steady.{unchanged}
-use Rattle.rounds.specs.Terms.{Low, partIn, placeIn, leftIn, built, renewed, copyBuilt, TermBuilt}
+use Rattle.rounds.specs.Terms.{built, renewed, TermBuilt}
+use Rattle.places.specs.Laying.{copyBuilt}
 use Rattle.rounds.specs.Passes.{TermWorked, Read, Passed}
+use Rattle.places.proofs.Beginnings.{start-other}
 use Rattle.rounds.proofs.Passing.{kept-self, kept-trans, next-fits, term-kept, ready-next}
 use Rattle.rounds.proofs.Turning.{ready-start, round-done, round-over}
 use Rattle.rounds.proofs.Dispatch.{starts-here, kind-worked}
@@ -49,12 +50,6 @@ module _ (term : Term) (store bodies : List ℕ) (n : ℕ) (older before this wo
       by true u x = copy-worked d k n older before this work work′ r ready more (subst (λ (t : Bool). T t) (sym u) tt) x
       by false u x = kind-worked d o k n older before this work work′ r ready more x
 
-low-set : (starts : List ℕ) (n v : ℕ) → Low starts → v ≤ half → n < length starts → Low (set starts n v)
-low-set starts n v low h l i = elim (ℕ-discrete i n) [
-  | yes e ↦ omega (arith, ap (λ (j : ℕ). getD (set starts n v) j 0) e ∙ getD-set-same starts n v 0 l)
-  | no e ↦ omega (arith, getD-set-other starts n i v 0 e, low i)
-]
-
 -- How far the round has come: n terms worked out.
 pub record Progress (slots bodies : List ℕ) (terms : ℕ) (store older before work₀ work this : List ℕ) (n : ℕ) : Type 0 where
   pub within : n ≤ terms
@@ -63,35 +58,30 @@ pub record Progress (slots bodies : List ℕ) (terms : ℕ) (store older before 
   pub size : length this ≡ 97
   pub room : whole ≤ length work₀
   pub long : length work ≡ length work₀
-  pub lowBefore : Low before
-  pub low : Low this
-  pub first : getD this 0 0 ≡ 0
+  pub first : startIn this 0 ≡ 0
   pub right : (d : D.Description) (o : D.Order) (k : ℕ) → Read d slots bodies terms → store ≡ storeOf d o → Between d k older before work₀
       → Ready d k n older before this work × Kept work₀ work
 
 module _ (slots bodies : List ℕ) (terms : ℕ) (store older before work₀ : List ℕ) where
   pub progress-start : (this : List ℕ)
-      → Low before × Low this × (getD this 0 0 ≡ 0) × (length this ≡ 97) × (length slots ≡ 96) × (terms ≤ 96) × (whole ≤ length work₀)
+      → (startIn this 0 ≡ 0) × (length this ≡ 97) × (length slots ≡ 96) × (terms ≤ 96) × (whole ≤ length work₀)
       → Progress slots bodies terms store older before work₀ work₀ this 0
   progress-start this h =
       record {
         within = zero-le;
-        few = h .5;
-        slotted = h .4;
-        size = h .3;
-        room = h .6;
+        few = h .3;
+        slotted = h .2;
+        size = h .1;
+        room = h .4;
         long = refl;
-        lowBefore = h .0;
-        low = h .1;
-        first = h .2;
-        right = λ d o k e f b. (ready-start d k older before this work₀ b (h .2), kept-self work₀);
+        first = h .0;
+        right = λ d o k e f b. (ready-start d k older before this work₀ b (h .0), kept-self work₀);
       }
 
   module _ (work this : List ℕ) (n : ℕ) (p : Progress slots bodies terms store older before work₀ work this n) where
     pub progress-end : terms ≤ n → Passed slots bodies terms store older before work₀ this work true
     progress-end h =
         record {
-          low = p .low;
           first = p .first;
           right = λ d o k e f b.
               let x = p .right d o k e f b in
@@ -111,7 +101,6 @@ module _ (slots bodies : List ℕ) (terms : ℕ) (store older before work₀ : L
     pub progress-large : (work′ : List ℕ) → n < terms → Found work′ TooLarge → Passed slots bodies terms store older before work₀ this work′ false
     progress-large work′ more w =
         record {
-          low = p .low;
           first = p .first;
           right = λ d o k e f b.
               round-over d k n work₀ work work′ (omega (arith, e .2)) (p .right d o k e f b .1) (done work′ TooLarge w more d o k e f b);
@@ -119,34 +108,32 @@ module _ (slots bodies : List ℕ) (terms : ℕ) (store older before work₀ : L
 
     -- a set that is counted has room
     counted : (work′ : List ℕ) (count : ℕ) → n < terms → Found work′ (Holds count) → (d : D.Description) (o : D.Order) (k : ℕ) → Read d slots bodies terms → store ≡ storeOf d o
-        → Between d k older before work₀ → count ≤ half - getD this n 0
+        → Between d k older before work₀ → count ≤ half - startIn this n
     counted work′ count more w d o k e f b =
         let t = done work′ (Holds count) w more d o k e f b in
         omega (arith, t .size, next-fits d k n (t .fewer), starts-here d k n older before this work (p .right d o k e f b .0))
 
-    pub progress-over : (work′ : List ℕ) (count : ℕ) → n < terms → Found work′ (Holds count) → half - getD this n 0 < count
+    pub progress-over : (work′ : List ℕ) (count : ℕ) → n < terms → Found work′ (Holds count) → half - startIn this n < count
         → Passed slots bodies terms store older before work₀ this work′ false
     progress-over work′ count more w h =
-        record { low = p .low; first = p .first; right = λ d o k e f b. absurd (let c = counted work′ count more w d o k e f b in omega arith) }
+        record { first = p .first; right = λ d o k e f b. absurd (let c = counted work′ count more w d o k e f b in omega arith) }
 
-    pub progress-step : (work′ : List ℕ) (count : ℕ) → n < terms → Found work′ (Holds count) → count ≤ half - getD this n 0 → length work′ ≡ length work
-        → Progress slots bodies terms store older before work₀ work′ (set this (n + 1) (getD this n 0 + count)) (n + 1)
+    pub progress-step : (work′ : List ℕ) (count : ℕ) → n < terms → Found work′ (Holds count) → count ≤ half - startIn this n → length work′ ≡ length work
+        → Progress slots bodies terms store older before work₀ work′ (set this (n + 1) (startIn this n + count)) (n + 1)
     progress-step work′ count more w h l =
         let fits : n + 1 < length this = omega (arith, p .size, p .few) in
         record {
           within = omega arith;
           few = p .few;
           slotted = p .slotted;
-          size = length-set this (n + 1) (getD this n 0 + count) ∙ p .size;
+          size = length-set this (n + 1) (startIn this n + count) ∙ p .size;
           room = p .room;
           long = l ∙ p .long;
-          lowBefore = p .lowBefore;
-          low = low-set this (n + 1) (getD this n 0 + count) (p .low) (omega (arith, p .low n)) fits;
-          first = getD-set-other this (n + 1) 0 (getD this n 0 + count) 0 (λ z. absurd (omega arith)) ∙ p .first;
+          first = start-other this (n + 1) 0 (startIn this n + count) (λ z. absurd (omega arith)) ∙ p .first;
           right = λ d o k e f b.
               let x = p .right d o k e f b in
               let t = done work′ (Holds count) w more d o k e f b in (
-                subst (λ (m : ℕ). Ready d k m older before (set this (n + 1) (getD this n 0 + count)) work′) (sym (add-one n)) (ready-next d k n older before this work work′ count (x .0) t fits),
+                subst (λ (m : ℕ). Ready d k m older before (set this (n + 1) (startIn this n + count)) work′) (sym (add-one n)) (ready-next d k n older before this work work′ count (x .0) t fits),
                 kept-trans work₀ work work′ (x .1) (term-kept d k n older before this work work′ count (x .0) t fits),
               );
         }

@@ -1,16 +1,14 @@
 -- Round after round: what holds before each, and what the last comes to.
 -- Assumes nothing.
 use mathlib.Core.Path.{_≡_, refl, sym, ap, subst, _∙_}
-use mathlib.Core.Logic.{_⊎_, inr}
 use mathlib.Core.Bool.{Bool, true, false}
-use mathlib.Core.List.{List, [], _++_}
+use mathlib.Core.List.{List, []}
 use Prim.Native.Nat.{ℕ, suc, _+_, _-_, _≤_}
-use native.Mathlib.Nat.{le-refl, zero-add}
+use native.Mathlib.Nat.{le-refl}
 use native.Mathlib.Numerals.{add-one}
 use native.Mathlib.Omega.{arith}
-use native.Mathlib.Decide.{decLt}
 use lib.Dec.{T}
-use lib.ListN.{length, getD, take, drop, replicate, getD-replicate, List·getD-eq-default}
+use lib.ListN.{length, take, replicate}
 use lib.Seq.{take-all, take-nil}
 use Rattle.meaning.specs.Labels.{Label}
 use Rattle.meaning.specs.Descriptions as D
@@ -25,31 +23,25 @@ use Rattle.table.specs.Encoded.{storeOf, tableOf}
 use Rattle.table.proofs.Stored.{bodies-of}
 use Rattle.rounds.specs.declared.turns.Found.the-variants.{TooLarge, At}
 use Rattle.rounds.specs.Laid.{flat, Begins}
-use Rattle.shapes.specs.Steady.{allStay}
-use Rattle.rounds.specs.Working.{half, whole, Kept, RoundDone, RoundOver, Between}
-use Rattle.rounds.specs.Terms.{Low}
+use Rattle.places.specs.Sameness.{allStay}
+use Rattle.places.specs.Starts.{half, whole, startIn}
+use Rattle.rounds.specs.Working.{Kept, RoundDone, RoundOver, Between}
 use Rattle.rounds.specs.Passes.{RoundEnds, Read, Passed}
 use Rattle.rounds.specs.Alphabets.{Reached}
 use Rattle.rounds.proofs.Areas.{laid-part, total-take, total-part}
-use Rattle.shapes.proofs.Filling.{length-zeros}
+use Rattle.places.specs.Moving.{lowered, loweredIn}
+use Rattle.places.proofs.Filling.{length-zeros}
+use Rattle.places.proofs.Beginnings.{start-low, start-zero}
+use Rattle.places.proofs.Lowering.{lowered-all}
 use Rattle.rounds.proofs.Passing.{kept-self, kept-trans, at-most}
 use Rattle.rounds.proofs.Turning.{none-over}
-use Rattle.rounds.proofs.Staying.{stable-if, unstable-if, lowered, lowered-kept}
-
-zeros-begin : (n i : ℕ) → getD (replicate {A = ℕ} n 0) i 0 ≡ 0
-zeros-begin n i = elim (decLt i n) [
-  | yes l ↦ getD-replicate {A = ℕ} n i 0 0 l
-  | no l ↦ List·getD-eq-default (replicate {A = ℕ} n 0) 0 (omega (arith, length-zeros n))
-]
-
-zeros-low : (n : ℕ) → Low (replicate n 0)
-zeros-low n i = omega (arith, zeros-begin n i)
+use Rattle.rounds.proofs.Staying.{stable-if, unstable-if, between-lowered, kept-lowered}
 
 -- Before the first round there is nothing.
 between-start : (d : D.Description) (o : D.Order) (work : List ℕ) → Legal d o → whole ≤ length work → Between d 0 (replicate 97 0) (replicate 97 0) work
 unfolding roundSets total flat
 between-start d o work l room =
-    let begins : Begins (D.termCount d) [] (replicate 97 0) = λ i h. zeros-begin 97 i ∙ sym (ap total (take-nil {A = List Label} i)) in
+    let begins : Begins (D.termCount d) [] (replicate 97 0) = λ i h. start-zero 97 i ∙ sym (ap total (take-nil {A = List Label} i)) in
     record {
       legal = record { nameCount = l .nameCount; equationCount = l .equationCount; termsCount = l .termsCount; terms = l .terms; bodies = l .bodies; root = l .root; order = tt };
       room = room;
@@ -72,9 +64,7 @@ pub record Turned (table : Table) (store work₀ work older before this : List �
   pub sizeOlder : length older ≡ 97
   pub size : length before ≡ 97
   pub sizeThis : length this ≡ 97
-  pub low : Low before
-  pub lowThis : Low this
-  pub first : getD this 0 0 ≡ 0
+  pub first : startIn this 0 ≡ 0
   pub right : (d : D.Description) (o : D.Order) → Legal d o → table ≡ tableOf d → store ≡ storeOf d o → Between d k older before work × Kept work₀ work
 
 module _ (table : Table) (store work₀ : List ℕ) where
@@ -92,9 +82,7 @@ module _ (table : Table) (store work₀ : List ℕ) where
         sizeOlder = length-zeros 97;
         size = length-zeros 97;
         sizeThis = length-zeros 97;
-        low = zeros-low 97;
-        lowThis = zeros-low 97;
-        first = zeros-begin 97 0;
+        first = start-zero 97 0;
         right = λ d o l e f. (between-start d o work₀ l (h .0), kept-self work₀);
       }
 
@@ -121,7 +109,7 @@ module _ (table : Table) (store work₀ : List ℕ) where
           ap (λ (x : Table). allStay before starts (take (x .equations) (x .bodies))) e ∙ ap (allStay before starts) (bodies-of d (l .equationCount))
 
       pub turned-stable : fits ≡ true → allStay before starts (take (table .equations) (table .bodies)) ≡ true
-          → Reached table store work₀ now (At (k + 1) (half + getD starts (table .root) 0) (half + getD starts (suc (table .root)) 0))
+          → Reached table store work₀ now (At (k + 1) (half + startIn starts (table .root)) (half + startIn starts (suc (table .root))))
       unfolding tableOf
       turned-stable u s d o l e f =
           let x = t .right d o l e f in
@@ -129,8 +117,8 @@ module _ (table : Table) (store work₀ : List ℕ) where
           let sets = roundSets d (suc k) in
           let root : table .root ≡ d .root = ap (λ (z : Table). z .root) e in
           let st : Stable d k = stable-if d k before starts (x .0 .lower .begins) (y .upper .begins) (l .bodies) (subst (λ (b : Bool). T b) (sym (sym (same-bodies d o l e) ∙ s)) tt) in
-          let from : getD starts (d .root) 0 ≡ total (take (d .root) sets) = y .upper .begins (d .root) (omega (arith, l .root)) in
-          let to : getD starts (suc (d .root)) 0 ≡ total (take (suc (d .root)) sets) = y .upper .begins (suc (d .root)) (l .root) in (
+          let from : startIn starts (d .root) ≡ total (take (d .root) sets) = y .upper .begins (d .root) (omega (arith, l .root)) in
+          let to : startIn starts (suc (d .root)) ≡ total (take (suc (d .root)) sets) = y .upper .begins (suc (d .root)) (l .root) in (
             rw (root, add-one k) (record {
               outcome = stable-answer d o k (x .0 .unstable) st (y .few);
               few = y .few;
@@ -144,21 +132,13 @@ module _ (table : Table) (store work₀ : List ℕ) where
           )
 
       -- the sets of the round are lowered
-      pub lower-fits : length now ≡ length work → (count : ℕ) → count ≡ getD starts (table .terms) 0
-          → ((half + count ≤ 0) ⊎ (0 + count ≤ half)) × (half + count ≤ length now) × (0 + count ≤ length now)
-      lower-fits long count e =
-          let h = p .low (table .terms) in
-          let m : length now ≡ length work₀ = long ∙ t .long in
-          (inr (omega arith), omega (arith, t .room), omega (arith, t .room))
-
-      pub turned-step : (work′ : List ℕ) (count : ℕ) → fits ≡ true → allStay before starts (take (table .equations) (table .bodies)) ≡ false → length starts ≡ length this → length now ≡ length work → length work′ ≡ length now → count ≡ getD starts (table .terms) 0
-          → work′ ≡ take 0 now ++ take count (drop half now) ++ drop (0 + count) now
-          → Turned table store work₀ work′ before starts starts (k + 1)
+      pub turned-step : (work′ : List ℕ) (count : ℕ) → fits ≡ true → allStay before starts (take (table .equations) (table .bodies)) ≡ false → length starts ≡ length this → length now ≡ length work → length work′ ≡ length now → count ≡ startIn starts (table .terms)
+          → work′ ≡ loweredIn count now → Turned table store work₀ work′ before starts starts (k + 1)
       unfolding tableOf
       turned-step work′ count u s size long also c w =
           let m : length now ≡ length work₀ = long ∙ t .long in
-          let h = p .low (table .terms) in
-          let v : work′ ≡ take count (drop half now) ++ drop count now = w ∙ ap (λ (n : ℕ). take count (drop half now) ++ drop n now) (zero-add count) in
+          let h : count ≤ half = omega (arith, start-low starts (table .terms)) in
+          let v : work′ ≡ lowered count now = w ∙ lowered-all count now h (omega (arith, t .room)) in
           record {
             few = t .few;
             equations = t .equations;
@@ -167,19 +147,17 @@ module _ (table : Table) (store work₀ : List ℕ) where
             sizeOlder = t .size;
             size = size ∙ t .sizeThis;
             sizeThis = size ∙ t .sizeThis;
-            low = p .low;
-            lowThis = p .low;
             first = p .first;
             right = λ d o l e f.
                 let x = t .right d o l e f in
                 let y = done u d o l e f in
                 let terms : table .terms ≡ D.termCount d = ap (λ (z : Table). z .terms) e in
-                let all : getD starts (D.termCount d) 0 ≡ total (roundSets d (suc k)) = y .upper .begins (D.termCount d) (le-refl (D.termCount d)) ∙ ap total (whole-round d k) in
+                let all : startIn starts (D.termCount d) ≡ total (roundSets d (suc k)) = y .upper .begins (D.termCount d) (le-refl (D.termCount d)) ∙ ap total (whole-round d k) in
                 let differ : T (allStay before starts (d .bodies)) → ⊥ = λ z. subst (λ (b : Bool). T b) (sym (same-bodies d o l e) ∙ s) z in (
                   subst (λ (n : ℕ). Between d n before starts work′) (sym (add-one k))
-                      (lowered d k count older before starts work now work′ (x .0) y
-                      (unstable-if d k before starts (x .0 .lower .begins) (y .upper .begins) (l .bodies) differ) (c ∙ ap (λ (n : ℕ). getD starts n 0) terms ∙ all) v),
-                  kept-trans work₀ work work′ (x .1) (kept-trans work now work′ (y .kept) (lowered-kept count now work′ (omega arith) (omega (arith, t .room)) v)),
+                      (between-lowered d k count older before starts work now work′ (x .0) y
+                      (unstable-if d k before starts (x .0 .lower .begins) (y .upper .begins) (l .bodies) differ) (c ∙ ap (startIn starts) terms ∙ all) v),
+                  kept-trans work₀ work work′ (x .1) (kept-trans work now work′ (y .kept) (kept-lowered count now work′ (omega arith) (omega (arith, t .room)) v)),
                 );
           }
         where

@@ -14,12 +14,13 @@ use Rattle.sets.specs.Parts.{setAt, laid, part, roomAt}
 use Rattle.sets.specs.Building.{Building, answerOf, goesOn, next, imaged, multiplied, Grown}
 use Rattle.sets.proofs.Laid.{length-setAt, take-laid}
 use Rattle.sets.proofs.Steps.{Steady, steady-each, steady-next, steady-imaged, Going, going-last, grown-as, next-holds, next-large, built-holds}
-use Rattle.shapes.specs.declared.Part.{Part}
-use Rattle.shapes.specs.declared.Growth.{Growth}
+use Rattle.places.specs.declared.Part.{Part}
+use Rattle.places.specs.declared.Growth.{Growth}
 use Rattle.shapes.specs.Fresh.{fresh}
 use Rattle.shapes.specs.Making.{throughBuilt}
 use Rattle.shapes.proofs.Makings.{steady-multiplied, nothing-grown}
-use Rattle.rounds.specs.Terms.{copyBuilt, eitherAdded, jointAdded, madeOr, addedOf}
+use Rattle.places.specs.Laying.{copyBuilt}
+use Rattle.rounds.specs.Terms.{eitherAdded, jointAdded, madeOr, addedOf}
 use Rattle.rounds.proofs.Fitting.{copy-fits}
 
 -- The first step is stopped.

@@ -21,7 +21,8 @@ use Rattle.sets.specs.declared.Built.the-variants.{TooLarge, Holds}
 use Rattle.sets.specs.Parts.{roomAt, laid}
 use Rattle.sets.specs.Building.{Building, pickBuilt, answerOf, Grown}
 use Rattle.sets.proofs.Meant.{TooMuch}
-use Rattle.rounds.specs.Working.{half, whole, partly, setOf, Ready, TermDone, TermOver}
+use Rattle.places.specs.Starts.{half, whole}
+use Rattle.rounds.specs.Working.{partly, setOf, Ready, TermDone, TermOver}
 use Rattle.rounds.proofs.Areas.{total-more}
 use Rattle.rounds.proofs.Passing.{partly-more, laid-long, laid-behind, at-most}
 use Rattle.rounds.proofs.Shaped.{Fits}

@@ -27,7 +27,7 @@ use Rattle.sets.proofs.Meant.{AllPack, ascending-same, TooMuch, too-much-more, 
 use Rattle.sets.proofs.Ways.{Result, Anything, way-outcome, product-outcome, union-outcome, copy-offers, block-offers, hide-offers, rename-offers, allow-offers}
 use Rattle.sets.proofs.Communication.{Closed, closed-moves, comm-outcome}
 use Rattle.shapes.specs.Making.{leafBuilt, throughBuilt, eitherBuilt, jointBuilt, bothBuilt}
-use Rattle.rounds.specs.Terms.{fitted, copyBuilt}
+use Rattle.places.specs.Laying.{fitted, copyBuilt}
 
 -- Built whole, within the room, every label packed; or not built, since there are too many labels or one is too long.
 pub record Fits (names : ℕ) (M : List Label) (b : Building) : Type 0 where

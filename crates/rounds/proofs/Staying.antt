@@ -18,8 +18,9 @@ use Rattle.meaning.specs.Limits.{total}
 use Rattle.meaning.proofs.Tests.{and-left, and-right, and-both}
 use Rattle.meaning.proofs.Stable.{Stable}
 use Rattle.rounds.specs.Laid.{flat, Begins}
-use Rattle.shapes.specs.Steady.{sizeAt, stays, allStay}
-use Rattle.rounds.specs.Working.{half, whole, Kept, RoundDone, Between}
+use Rattle.places.specs.Sameness.{sizeAt, stays, allStay}
+use Rattle.places.specs.Starts.{half, whole}
+use Rattle.rounds.specs.Working.{Kept, RoundDone, Between}
 use Rattle.rounds.proofs.Areas.{length-flat}
 use Rattle.rounds.proofs.Passing.{at-most}
 use Rattle.rounds.proofs.Turning.{size-of, same-size}
@@ -60,9 +61,9 @@ module _ (d : Description) (k : ℕ) (before this : List ℕ) (p : Begins (termC
   unstable-if h n e = n (→all-stay (d .bodies) h e)
 
 -- The upper half copied down.
-pub lowered : (d : Description) (k count : ℕ) (older before this work now work′ : List ℕ) → Between d k older before work → RoundDone d k before this work now
+pub between-lowered : (d : Description) (k count : ℕ) (older before this work now work′ : List ℕ) → Between d k older before work → RoundDone d k before this work now
     → (Stable d k → ⊥) → count ≡ total (roundSets d (suc k)) → work′ ≡ take count (drop half now) ++ drop count now → Between d (suc k) before this work′
-lowered d k count older before this work now work′ b r unstable c e =
+between-lowered d k count older before this work now work′ b r unstable c e =
     let fits : total (roundSets d (suc k)) ≤ 2048 = at-most (roundSets d (suc k)) (r .few) in
     let long : length now ≡ length work = r .kept .long in
     let words : take count (drop half now) ≡ flat (roundSets d (suc k)) = ap (λ (m : ℕ). take m (drop half now)) c ∙ r .upper .words in
@@ -80,8 +81,8 @@ lowered d k count older before this work now work′ b r unstable c e =
       unstable = λ j h s. elim (decLt j k) [ yes l ↦ b .unstable j l s | no n ↦ unstable (subst (λ (i : ℕ). Stable d i) (omega arith) s) ];
     }
 
-pub lowered-kept : (count : ℕ) (now work′ : List ℕ) → count ≤ 2048 → half + count ≤ length now → work′ ≡ take count (drop half now) ++ drop count now → Kept now work′
-lowered-kept count now work′ h l e =
+pub kept-lowered : (count : ℕ) (now work′ : List ℕ) → count ≤ 2048 → half + count ≤ length now → work′ ≡ take count (drop half now) ++ drop count now → Kept now work′
+kept-lowered count now work′ h l e =
     let size : length (take count (drop half now)) ≡ count = length-take count (drop half now) ∙ min-eq-left (omega (arith, length-drop half now)) in
     let k : count + (whole - count) ≡ whole = omega arith in
     record {

@@ -3,10 +3,9 @@
 use mathlib.Core.Path.{_≡_, refl, sym, ap, subst, _∙_}
 use mathlib.Core.List.{List, []}
 use Prim.Native.Nat.{ℕ, zero, suc, _+_, _-_, _<_}
-use native.Mathlib.Numerals.{add-one}
 use native.Mathlib.Omega.{arith}
 use lib.Dec.{T}
-use lib.ListN.{length, getD}
+use lib.ListN.{length}
 use Rattle.meaning.specs.Labels.{Label}
 use Rattle.meaning.specs.Sets.{at}
 use Rattle.meaning.specs.Descriptions.{Description, termCount}
@@ -18,7 +17,8 @@ use Rattle.meaning.proofs.Growth.{round-grows, round-ascends}
 use Rattle.meaning.proofs.Stable.{once-round}
 use Rattle.meaning.proofs.Outcomes.{worked-over}
 use Rattle.rounds.specs.Laid.{flat, Begins, Laid}
-use Rattle.rounds.specs.Working.{half, partly, Ready, Kept, TermOver, RoundDone, RoundOver, Between}
+use Rattle.places.specs.Starts.{half, startIn}
+use Rattle.rounds.specs.Working.{partly, Ready, Kept, TermOver, RoundDone, RoundOver, Between}
 use Rattle.rounds.proofs.Areas.{total-take}
 use Rattle.rounds.proofs.Passing.{kept-trans}
 
@@ -26,7 +26,7 @@ pub none-over : T (over []) → ⊥
 unfolding over someOver total
 none-over t = t
 
-pub ready-start : (d : Description) (k : ℕ) (older before this work : List ℕ) → Between d k older before work → getD this 0 0 ≡ 0
+pub ready-start : (d : Description) (k : ℕ) (older before this work : List ℕ) → Between d k older before work → startIn this 0 ≡ 0
     → Ready d k 0 older before this work
 unfolding worked flat total
 ready-start d k older before this work b z =
@@ -57,8 +57,8 @@ round-over d k n work now work′ h kept t =
 
 -- The number of labels of a set, from where it begins.
 pub size-of : (n : ℕ) (sets : List (List Label)) (starts : List ℕ) → Begins n sets starts → (i : ℕ) → i < n
-    → getD starts (i + 1) 0 ≡ getD starts i 0 + length (at sets i)
-size-of n sets starts b i h = rw (add-one i) (b (suc i) h ∙ total-take sets i ∙ ap (λ (m : ℕ). m + length (at sets i)) (sym (b i (omega arith))))
+    → startIn starts (suc i) ≡ startIn starts i + length (at sets i)
+size-of n sets starts b i h = b (suc i) h ∙ total-take sets i ∙ ap (λ (m : ℕ). m + length (at sets i)) (sym (b i (omega arith)))
 
 -- A set that has as many labels as in the round before is the same.
 pub same-size : (d : Description) (k i : ℕ) → length (at (roundSets d (suc k)) i) ≡ length (at (roundSets d k) i) → at (roundSets d (suc k)) i ≡ at (roundSets d k) i

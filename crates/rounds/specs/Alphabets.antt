@@ -22,8 +22,9 @@ use Rattle.rounds.specs.declared.Answer.{Answer}
 use Rattle.rounds.specs.declared.Answer.the-variants as A
 use Rattle.rounds.specs.declared.turns.Found.{Found}
 use Rattle.rounds.specs.declared.turns.Found.the-variants as F
-use Rattle.shapes.specs.Putting.{put}
-use Rattle.rounds.specs.Working.{whole, Kept}
+use Rattle.places.specs.Cutting.{put}
+use Rattle.places.specs.Starts.{whole}
+use Rattle.rounds.specs.Working.{Kept}
 
 -- An outcome as the code answers it, and the answer area after it.
 abbrev pub alphabetOf : Outcome → Answer

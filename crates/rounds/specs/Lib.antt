@@ -1,6 +1,5 @@
 -- What the code of the rounds says of its areas.
 pub mod Laid
-pub mod Cutting
 pub mod Working
 pub mod Terms
 pub mod Passes

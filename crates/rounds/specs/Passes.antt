@@ -4,13 +4,12 @@ use mathlib.Core.Path.{_≡_}
 use mathlib.Core.Bool.{Bool, true, false}
 use mathlib.Core.List.{List}
 use Prim.Native.Nat.{ℕ, _<_}
-use lib.ListN.{getD}
 use Rattle.meaning.specs.Descriptions as D
 use Rattle.table.specs.declared.Term.{Term}
 use Rattle.table.specs.Encoded.{termFor, storeOf, tableOf}
 use Rattle.sets.specs.declared.Built.{Built}
+use Rattle.places.specs.Starts.{startIn}
 use Rattle.rounds.specs.Working.{Ready, Worked, RoundDone, RoundOver, Between}
-use Rattle.rounds.specs.Terms.{Low}
 
 abbrev pub TermWorked : Term → (store bodies : List ℕ) → ℕ → (older before this work work′ : List ℕ) → Built → Type 0
 TermWorked term store bodies n older before this work work′ r =
@@ -27,7 +26,6 @@ abbrev pub Read : D.Description → (slots bodies : List ℕ) → ℕ → Type 0
 Read d slots bodies terms = (slots ≡ tableOf d .slots) × (bodies ≡ tableOf d .bodies) × (terms ≡ D.termCount d)
 
 pub record Passed (slots bodies : List ℕ) (terms : ℕ) (store older before work this′ work′ : List ℕ) (fits : Bool) : Type 0 where
-  pub low : Low this′
-  pub first : getD this′ 0 0 ≡ 0
+  pub first : startIn this′ 0 ≡ 0
   pub right : (d : D.Description) (o : D.Order) (k : ℕ) → Read d slots bodies terms → store ≡ storeOf d o → Between d k older before work
       → RoundEnds fits d k before this′ work work′

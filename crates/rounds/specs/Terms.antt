@@ -3,17 +3,15 @@
 -- Assumes nothing.
 use mathlib.Core.Bool.{Bool, true, false}
 use mathlib.Core.List.{List, [], _∷_}
-use Prim.Native.Nat.{ℕ, suc, _+_, _-_, _≤_}
-use lib.Dec.{leb}
+use Prim.Native.Nat.{ℕ}
 use lib.ListN.{length, getD}
 use Rattle.labels.specs.Packing.{code}
 use Rattle.table.specs.declared.Term.{Term}
 use Rattle.table.specs.declared.Operator.{Operator}
 use Rattle.sets.specs.declared.Built.{Built}
 use Rattle.sets.specs.declared.Way.the-variants.{Copy}
-use Rattle.sets.specs.Parts.{partBefore, roomAt}
-use Rattle.sets.specs.Building.{Building, done, stopped, next, multiplied, Grown}
-use Rattle.shapes.specs.declared.Part.{Part}
+use Rattle.sets.specs.Parts.{roomAt}
+use Rattle.sets.specs.Building.{Building, done, next, multiplied, Grown}
 use Rattle.shapes.specs.declared.Shape.{Shape}
 use Rattle.shapes.specs.declared.Shape.the-variants.{Empty, Leaf, Body, One, Two, Joint, Through}
 use Rattle.shapes.specs.Shaping.{shapeFor}
@@ -21,33 +19,8 @@ use Rattle.shapes.specs.Steady.{unchanged}
 use Rattle.shapes.specs.Fresh.{fresh}
 use Rattle.shapes.specs.Ways.{wayFor, wordsFor}
 use Rattle.shapes.specs.Making.{leafBuilt, throughBuilt, eitherBuilt, jointBuilt, bothBuilt}
-use Rattle.rounds.specs.Working.{half}
-
--- places that lie within half of the work area
-abbrev pub Low : List ℕ → Type 0
-Low starts = (i : ℕ) → getD starts i 0 ≤ half
-
--- the set of a term in the half that begins at a place: its ends, and its words, as far as they stand before another place
-abbrev pub partOf : ℕ → List ℕ → ℕ → Part
-partOf base starts i = record { from = base + getD starts i 0; to = base + getD starts (suc i) 0 }
-
-abbrev pub partIn : ℕ → ℕ → List ℕ → ℕ → List ℕ → List ℕ
-partIn at base starts i work = partBefore at (base + getD starts i 0) (base + getD starts (suc i) 0) work
-
--- where the set of term n is laid, and how many labels of all are left
-abbrev pub placeIn : List ℕ → ℕ → ℕ
-placeIn this n = half + getD this n 0
-
-abbrev pub leftIn : List ℕ → ℕ → ℕ
-leftIn this n = half - getD this n 0
-
--- A set as it stands, if there is room.
-abbrev pub fitted : Bool → List ℕ → Building
-fitted true s = done s
-fitted false s = stopped []
-
-abbrev pub copyBuilt : ℕ → List ℕ → List ℕ → Building
-copyBuilt room s t = fitted (leb (length s) room) s
+use Rattle.places.specs.Starts.{half, partIn, placeIn, leftIn}
+use Rattle.places.specs.Laying.{copyBuilt}
 
 -- The labels of a term's set that the round before did not have.
 abbrev pub newOf : ℕ → (before this work : List ℕ) → ℕ → List ℕ

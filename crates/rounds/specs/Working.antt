@@ -14,14 +14,8 @@ use Rattle.meaning.specs.Rounds.{shape, made, worked, equationSets, roundSets}
 use Rattle.meaning.specs.Limits.{total, over}
 use Rattle.sets.specs.declared.Built.{Built}
 use Rattle.sets.specs.declared.Built.the-variants.{TooLarge, Holds}
+use Rattle.places.specs.Starts.{half, whole}
 use Rattle.rounds.specs.Laid.{Begins, Laid}
-
--- the middle and the end of what is used of the work area
-abbrev pub half : ℕ
-half = 2048
-
-abbrev pub whole : ℕ
-whole = 4096
 
 -- the sets of the first n terms in the round after round k
 abbrev pub partly : Description → ℕ → ℕ → List (List Label)

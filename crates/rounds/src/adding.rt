@@ -1,14 +1,15 @@
 // What the new labels of two sets add to a set.
+use places::Growth;
 use sets::Built;
 use sets::Way;
 use shapes::Giving;
-use shapes::Growth;
 use shapes::growing::add_new;
 use shapes::operators::through;
 ghost use lib.ListN.{length};
 ghost use Rattle.sets.specs.Parts.{roomAt};
 ghost use Rattle.sets.specs.Building.{Grown};
-ghost use Rattle.shapes.specs.Fresh.{wordsOf, newIn};
+ghost use Rattle.places.specs.Laying.{wordsOf};
+ghost use Rattle.shapes.specs.Fresh.{newIn};
 ghost use Rattle.rounds.specs.Terms.{eitherAdded, jointAdded, bothAdded, addedOf};
 
 // The labels themselves.

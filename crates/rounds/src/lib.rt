@@ -1,16 +1,12 @@
 // The sets of all terms, worked out round by round in a lent work area, and the root's set cut to the order.
 mod adding;
-mod cutting;
-mod laying;
-mod moving;
 mod passes;
-mod starts;
 mod terms;
 mod turns;
 
-use crate::cutting::cut;
 use crate::turns::Found;
 use crate::turns::until_stable;
+use places::cutting::cut;
 use table::EQUATIONS;
 use table::Order;
 use table::TERMS;
@@ -44,9 +40,6 @@ fn listing(found: Found, store: &[u64], order: Order, work: &[u64], answer: &mut
         return Answer::TooLarge;
     }
     if work.len() < to {
-        return Answer::TooLarge;
-    }
-    if answer.len() < to - from {
         return Answer::TooLarge;
     }
     let set = &work[from..to];

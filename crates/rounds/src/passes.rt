@@ -1,9 +1,10 @@
 // One round: the terms' sets, one after the other.
-use crate::laying::lay;
-use crate::starts::left_of;
-use crate::starts::part_at;
-use crate::starts::place_of;
 use crate::terms::work_out;
+use places::laying::lay;
+use places::starts::left_of;
+use places::starts::part_at;
+use places::starts::place_of;
+use places::starts::start_of;
 use sets::Built;
 use shapes::sameness::unchanged;
 use shapes::shaping::shape_of;
@@ -11,20 +12,21 @@ use table::Term;
 use table::packing::unpack;
 ghost use mathlib.Core.Path.{_≡_};
 ghost use Prim.Native.Nat.{_≤_};
-ghost use lib.ListN.{length, getD};
+ghost use lib.ListN.{length};
 ghost use Rattle.sets.specs.Parts.{roomAt};
 ghost use Rattle.sets.specs.Building.{Grown};
-ghost use Rattle.rounds.specs.Terms.{Low, partIn, placeIn, leftIn, copyBuilt, TermBuilt};
+ghost use Rattle.places.specs.Starts.{startIn, partIn, placeIn, leftIn};
+ghost use Rattle.places.specs.Laying.{copyBuilt};
+ghost use Rattle.rounds.specs.Terms.{TermBuilt};
 ghost use Rattle.rounds.specs.Passes.{Passed};
 
 // The set of a term as it was in the round before.
 fn copied(n: usize, before: &[usize], this: &[usize], work: &mut [u64]) -> Built
-    requires { ⌜ Low (now before) × Low (now this) ⌝ }
     ensures { λ r. ⌜ Grown (copyBuilt (roomAt (placeIn (now (this .entry)) n) (leftIn (now (this .entry)) n) (length (now (work .entry)))) (partIn (placeIn (now (this .entry)) n) 0 (now (before .entry)) n (now (work .entry)))) (placeIn (now (this .entry)) n) 0 (now (work .entry)) (now (work .exit)) r ⌝ }
 {
     lay(
         work,
-        part_at(before, n, 0),
+        part_at(before, n, false),
         place_of(this, n),
         left_of(this, n),
     )
@@ -41,7 +43,6 @@ fn next_term(
     this: &[usize],
     work: &mut [u64],
 ) -> Built
-    requires { ⌜ Low (now before) × Low (now this) ⌝ }
     ensures { λ r. ⌜ TermBuilt term (now (store .entry)) (now (bodies .entry)) n (now (older .entry)) (now (before .entry)) (now (this .entry)) (now (work .entry)) (now (work .exit)) r ⌝ }
 {
     let shape = shape_of(term);
@@ -63,7 +64,7 @@ pub fn pass(
     this: &mut [usize],
     work: &mut [u64],
 ) -> bool
-    requires { ⌜ Low (now before) × Low (now this) × (getD (now this) 0 0 ≡ 0) × (length (now this) ≡ 97) × (length (now slots) ≡ 96) × (terms ≤ 96) × (4096 ≤ length (now work)) ⌝ }
+    requires { ⌜ (startIn (now this) 0 ≡ 0) × (length (now this) ≡ 97) × (length (now slots) ≡ 96) × (terms ≤ 96) × (4096 ≤ length (now work)) ⌝ }
     ensures { λ r. ⌜ Passed (now (slots .entry)) (now (bodies .entry)) terms (now (store .entry)) (now (older .entry)) (now (before .entry)) (now (work .entry)) (now (this .exit)) (now (work .exit)) r ⌝ }
 {
     let mut n = 0;
@@ -76,7 +77,7 @@ pub fn pass(
         if left_of(this, n) < count {
             return false;
         }
-        this[n + 1] = this[n] + count;
+        this[n + 1] = start_of(this, n) + count;
         n += 1;
     }
     true

@@ -1,43 +1,41 @@
 // The set of a term, worked out from the sets of its operands, which stand before it in this round's half, or from that of an
 // equation's body in the round before.
 use crate::adding::add_two;
-use crate::laying::lay;
-use crate::starts::HALF;
-use crate::starts::growth_of;
-use crate::starts::left_of;
-use crate::starts::part_at;
-use crate::starts::place_of;
+use places::Part;
+use places::laying::lay;
+use places::starts::growth_of;
+use places::starts::left_of;
+use places::starts::part_at;
+use places::starts::place_of;
 use sets::Built;
 use sets::joining::union;
 use sets::multiplying::add_product;
-use shapes::Part;
 use shapes::Shape;
 use shapes::making::both;
 use shapes::making::leaf;
 use shapes::operators::wrapped;
-use shapes::starts::start_of;
+use shapes::sameness::body_of;
 use table::Operator;
-ghost use Prim.Native.Nat.{_≤_};
 ghost use lib.ListN.{length, getD};
 ghost use Rattle.sets.specs.Parts.{roomAt};
 ghost use Rattle.sets.specs.Building.{Grown};
-ghost use Rattle.shapes.specs.Fresh.{wordsOf};
+ghost use Rattle.places.specs.Laying.{wordsOf, copyBuilt};
 ghost use Rattle.shapes.specs.Making.{jointBuilt};
-ghost use Rattle.rounds.specs.Terms.{Low, partIn, placeIn, leftIn, copyBuilt, wholeOf, twoGrown, throughGrown, built};
+ghost use Rattle.places.specs.Starts.{baseOf, partIn, placeIn, leftIn};
+ghost use Rattle.rounds.specs.Terms.{wholeOf, twoGrown, throughGrown, built};
 
 // The set of a term as it stands in a half of the work area.
 fn of_one(
     work: &mut [u64],
     starts: &[usize],
     t: usize,
-    base: usize,
+    upper: bool,
     at: usize,
     most: usize,
 ) -> Built
-    requires { ⌜ Low (now starts) × (base ≤ 2048) ⌝ }
-    ensures { λ r. ⌜ Grown (copyBuilt (roomAt at most (length (now (work .entry)))) (partIn at base (now (starts .entry)) t (now (work .entry)))) at 0 (now (work .entry)) (now (work .exit)) r ⌝ }
+    ensures { λ r. ⌜ Grown (copyBuilt (roomAt at most (length (now (work .entry)))) (partIn at (baseOf upper) (now (starts .entry)) t (now (work .entry)))) at 0 (now (work .entry)) (now (work .exit)) r ⌝ }
 {
-    lay(work, part_at(starts, t, base), at, most)
+    lay(work, part_at(starts, t, upper), at, most)
 }
 
 fn of_body(
@@ -48,10 +46,9 @@ fn of_body(
     at: usize,
     most: usize,
 ) -> Built
-    requires { ⌜ Low (now before) ⌝ }
     ensures { λ r. ⌜ Grown (copyBuilt (roomAt at most (length (now (work .entry)))) (partIn at 0 (now (before .entry)) (getD (now (bodies .entry)) e 0) (now (work .entry)))) at 0 (now (work .entry)) (now (work .exit)) r ⌝ }
 {
-    of_one(work, before, start_of(bodies, e), 0, at, most)
+    of_one(work, before, body_of(bodies, e), false, at, most)
 }
 
 // Two sets in one, with every sum of their labels if those are asked for.
@@ -77,10 +74,9 @@ fn of_two(
     at: usize,
     most: usize,
 ) -> Built
-    requires { ⌜ Low (now before) × Low (now this) ⌝ }
     ensures { λ r. ⌜ Grown (twoGrown sums (roomAt at most (length (now (work .entry)))) at (now (before .entry)) (now (this .entry)) (now (work .entry)) (partIn at 0 (now (before .entry)) n (now (work .entry))) t u) at 0 (now (work .entry)) (now (work .exit)) r ⌝ }
 {
-    let old = of_one(work, before, n, 0, at, most);
+    let old = of_one(work, before, n, false, at, most);
     let Built::Holds(count) = old else {
         return Built::TooLarge;
     };
@@ -93,11 +89,10 @@ fn of_two(
 }
 
 fn of_joint(work: &mut [u64], this: &[usize], t: usize, u: usize, at: usize, most: usize) -> Built
-    requires { ⌜ Low (now this) ⌝ }
     ensures { λ r. ⌜ Grown (jointBuilt (roomAt at most (length (now (work .entry)))) (partIn at 2048 (now (this .entry)) t (now (work .entry))) (partIn at 2048 (now (this .entry)) u (now (work .entry)))) at 0 (now (work .entry)) (now (work .exit)) r ⌝ }
 {
-    let a = part_at(this, t, HALF);
-    let b = part_at(this, u, HALF);
+    let a = part_at(this, t, true);
+    let b = part_at(this, u, true);
     add_product(work, a.from, a.to, b.from, b.to, at, 0, most)
 }
 
@@ -112,10 +107,9 @@ fn of_wrap(
     at: usize,
     most: usize,
 ) -> Built
-    requires { ⌜ Low (now before) × Low (now this) ⌝ }
     ensures { λ r. ⌜ Grown (throughGrown (roomAt at most (length (now (work .entry)))) at (now (store .entry)) (now (before .entry)) (now (this .entry)) (now (work .entry)) (partIn at 0 (now (before .entry)) n (now (work .entry))) operator t) at 0 (now (work .entry)) (now (work .exit)) r ⌝ }
 {
-    let old = of_one(work, before, n, 0, at, most);
+    let old = of_one(work, before, n, false, at, most);
     let Built::Holds(count) = old else {
         return Built::TooLarge;
     };
@@ -133,7 +127,6 @@ pub fn work_out(
     this: &[usize],
     work: &mut [u64],
 ) -> Built
-    requires { ⌜ Low (now before) × Low (now this) ⌝ }
     ensures { λ r. ⌜ Grown (built (roomAt (placeIn (now (this .entry)) n) (leftIn (now (this .entry)) n) (length (now (work .entry)))) (placeIn (now (this .entry)) n) (now (store .entry)) (now (bodies .entry)) (now (before .entry)) (now (this .entry)) (now (work .entry)) (partIn (placeIn (now (this .entry)) n) 0 (now (before .entry)) n (now (work .entry))) shape) (placeIn (now (this .entry)) n) 0 (now (work .entry)) (now (work .exit)) r ⌝ }
 {
     let at = place_of(this, n);
@@ -142,7 +135,7 @@ pub fn work_out(
         Shape::Empty => Built::Holds(0),
         Shape::Leaf(label) => leaf(work, label, at, most),
         Shape::Body(e) => of_body(work, before, bodies, e, at, most),
-        Shape::One(t) => of_one(work, this, t, HALF, at, most),
+        Shape::One(t) => of_one(work, this, t, true, at, most),
         Shape::Two(t, u, sums) => of_two(work, before, this, n, t, u, sums, at, most),
         Shape::Joint(t, u) => of_joint(work, this, t, u, at, most),
         Shape::Through(o, t) => of_wrap(work, store, before, this, n, o, t, at, most),

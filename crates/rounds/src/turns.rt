@@ -1,10 +1,9 @@
 // Round after round, until a limit is passed or the equations' sets stay.
-use crate::moving::carry;
 use crate::passes::pass;
-use crate::starts::HALF;
-use crate::starts::part_at;
-use shapes::sameness::all_stay;
-use shapes::starts::start_of;
+use places::moving::lower;
+use places::sameness::all_stay;
+use places::starts::part_at;
+use places::starts::start_of;
 use table::Table;
 ghost use Prim.Native.Nat.{_≤_};
 ghost use lib.ListN.{length};
@@ -47,10 +46,10 @@ pub fn until_stable(table: Table, store: &[u64], work: &mut [u64]) -> Found
         }
         k += 1;
         if all_stay(&before, &this, &bodies[..equations]) {
-            let root = part_at(&this, table.root, HALF);
+            let root = part_at(&this, table.root, true);
             return Found::At(k, root.from, root.to);
         }
-        carry(work, HALF, 0, start_of(&this, terms));
+        lower(work, start_of(&this, terms));
         older = before;
         before = this;
     }

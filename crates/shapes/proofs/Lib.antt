@@ -1,6 +1,4 @@
--- Laws of words put one after the other, of rules, of two steps that build one set, of labels that are new, of bodies that stay.
-pub mod Filling
+-- Laws of rules, of two steps that build one set, and of labels that are new.
 pub mod Exchanged
 pub mod Makings
 pub mod Renewing
-pub mod Looking

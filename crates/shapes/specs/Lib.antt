@@ -1,5 +1,4 @@
 -- What the sets of terms are built by, and what tells that they stay.
-pub mod Putting
 pub mod Exchanging
 pub mod Fresh
 pub mod Making

@@ -1,23 +1,12 @@
--- Whether sets stayed from one round to the next, told by where they begin: sets only grow, so that one that has as many labels as
--- before is the same.
+-- Whether the sets that a term's set is built of stayed from one round to the next.
 -- Assumes nothing.
-use mathlib.Core.Bool.{Bool, true, false, _&&_}
-use mathlib.Core.List.{List, [], _∷_}
-use Prim.Native.Nat.{ℕ, _+_, _-_}
-use lib.Dec.{eqb}
+use mathlib.Core.Bool.{Bool, false, _&&_}
+use mathlib.Core.List.{List}
+use Prim.Native.Nat.{ℕ}
 use lib.ListN.{getD}
+use Rattle.places.specs.Sameness.{stays}
 use Rattle.shapes.specs.declared.Shape.{Shape}
 use Rattle.shapes.specs.declared.Shape.the-variants.{Empty, Leaf, Body, One, Two, Joint, Through}
-
-abbrev pub sizeAt : List ℕ → ℕ → ℕ
-sizeAt starts i = getD starts (i + 1) 0 - getD starts i 0
-
-abbrev pub stays : List ℕ → List ℕ → ℕ → Bool
-stays older newer i = eqb (sizeAt newer i) (sizeAt older i)
-
-unfoldable pub allStay : List ℕ → List ℕ → List ℕ → Bool
-allStay older newer [] = true
-allStay older newer (b ∷ bs) = stays older newer b && allStay older newer bs
 
 -- Whether the sets that a term's is built of stayed since the round before. A set that is built of none is worked out anew. That one
 -- that is unchanged is the set of the round before is `set-stays` in `rounds/proofs/Copying.antt`.

@@ -1,10 +1,10 @@
 // What labels that are new since the round before give goes into a set. Sets only grow, so that one as it was and as it is are
 // gone through side by side, and what was there then is passed over.
 use crate::Giving;
-use crate::Growth;
-use crate::Part;
 use labels::packing::read_label;
 use labels::packing::same;
+use places::Growth;
+use places::Part;
 use sets::Built;
 use sets::imaging::add_image;
 use sets::multiplying::add_product;
@@ -16,7 +16,8 @@ ghost use lib.Dec.{ltb, eqb};
 ghost use lib.ListN.{length, getD};
 ghost use Rattle.sets.specs.Parts.{roomAt};
 ghost use Rattle.sets.specs.Building.{Grown, each};
-ghost use Rattle.shapes.specs.Fresh.{wordsOf, newIn, given};
+ghost use Rattle.places.specs.Laying.{wordsOf};
+ghost use Rattle.shapes.specs.Fresh.{newIn, given};
 
 // What the labels of a part give.
 fn add_part(

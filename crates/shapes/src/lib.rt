@@ -6,23 +6,11 @@ pub mod making;
 pub mod operators;
 pub mod sameness;
 pub mod shaping;
-pub mod starts;
 
 use labels::Label;
+use places::Part;
 use sets::Way;
 use table::Operator;
-
-// A set in the work area, from a place up to another.
-pub struct Part {
-    pub from: usize,
-    pub to: usize,
-}
-
-// A set as it was in the round before and as it is in this one.
-pub struct Growth {
-    pub known: Part,
-    pub part: Part,
-}
 
 // What labels give: what a way makes of each, or the sum of each with each label of a part.
 pub enum Giving {

@@ -1,9 +1,9 @@
 // The set of an operator's term: the new labels of the operand through the operator with its list.
 use crate::Giving;
-use crate::Growth;
 use crate::exchanging::exchanges;
 use crate::exchanging::first_rules;
 use crate::growing::add_new;
+use places::Growth;
 use sets::Built;
 use sets::Way;
 use table::Operator;

@@ -1,24 +1,11 @@
-// Whether sets stayed from one round to the next, told by how many labels they have.
+// Whether the sets that a term's set is built of stayed from one round to the next.
 use crate::Shape;
-use crate::starts::end_of;
-use crate::starts::start_of;
+use places::sameness::stays;
 ghost use mathlib.Core.Path.{_≡_};
 ghost use mathlib.Core.Bool.{_&&_};
-ghost use Rattle.shapes.specs.Steady.{sizeAt, stays, allStay, unchanged};
-
-fn size_at(starts: &[usize], i: usize) -> usize
-    ensures { λ r. ⌜ r ≡ sizeAt (now (starts .entry)) i ⌝ }
-{
-    let start = start_of(starts, i);
-    let end = end_of(starts, i);
-    if start < end { end - start } else { 0 }
-}
-
-fn stays(older: &[usize], newer: &[usize], i: usize) -> bool
-    ensures { λ r. ⌜ r ≡ stays (now (older .entry)) (now (newer .entry)) i ⌝ }
-{
-    size_at(newer, i) == size_at(older, i)
-}
+ghost use lib.ListN.{getD};
+ghost use Rattle.places.specs.Sameness.{stays};
+ghost use Rattle.shapes.specs.Steady.{unchanged};
 
 fn both_stay(older: &[usize], newer: &[usize], t: usize, u: usize) -> bool
     ensures { λ r. ⌜ r ≡ stays (now (older .entry)) (now (newer .entry)) t && stays (now (older .entry)) (now (newer .entry)) u ⌝ }
@@ -30,18 +17,11 @@ fn both_stay(older: &[usize], newer: &[usize], t: usize, u: usize) -> bool
     }
 }
 
-// Whether the sets of all bodies stayed.
-pub fn all_stay(older: &[usize], newer: &[usize], bodies: &[usize]) -> bool
-    ensures { λ r. ⌜ r ≡ allStay (now (older .entry)) (now (newer .entry)) (now (bodies .entry)) ⌝ }
+// The body of an equation; past the end of the list it is term 0.
+pub fn body_of(bodies: &[usize], e: usize) -> usize
+    ensures { λ r. ⌜ r ≡ getD (now (bodies .entry)) e 0 ⌝ }
 {
-    let mut i = 0;
-    while i < bodies.len() {
-        if !stays(older, newer, bodies[i]) {
-            return false;
-        }
-        i += 1;
-    }
-    true
+    if e < bodies.len() { bodies[e] } else { 0 }
 }
 
 // Whether the sets that a term's set is built of stayed: its operands' from the round before to this one, a body's from the
@@ -58,7 +38,7 @@ pub fn unchanged(
     match shape {
         Shape::Empty => false,
         Shape::Leaf(_) => false,
-        Shape::Body(e) => stays(older, before, start_of(bodies, e)),
+        Shape::Body(e) => stays(older, before, body_of(bodies, e)),
         Shape::One(t) => stays(before, this, t),
         Shape::Two(t, u, _) => both_stay(before, this, t, u),
         Shape::Joint(t, u) => both_stay(before, this, t, u),

@@ -14,16 +14,21 @@ enum-told : tie.Need-enum-told
 enum-told c = c .match .keys2
 
 returns : tie.Need-returns
-returns c = listing-large (c .before .before .before .before .before .args .found) (c .before .before .before .before .before .args .store .now) (c .before .before .before .before .before .args .order) (c .before .before .before .before .before .args .work .now) (c .before .before .before .before .before .args .answer .now) (c .enum-told .given .1)
+returns c =
+    let a = c .before .before .before .before .before .args in
+    listing-large (a .found) (a .store .now) (a .order) (a .work .now) (a .answer .now) (c .enum-told .given .1)
 
 returns-2 : tie.Need-returns-2
-returns-2 c = listing-never (c .before .before .before .before .before .before .before .args .found) (c .before .before .before .before .before .before .before .args .store .now) (c .before .before .before .before .before .before .before .args .order) (c .before .before .before .before .before .before .before .args .work .now) (c .before .before .before .before .before .before .before .args .answer .now) (c .before .before .found .given .0 .0) (c .before .before .found .given .0 .1 .0) (c .before .before .found .given .0 .1 .1 .0) (c .before .before .found .given .1) (inl (c .if1 .taken))
+returns-2 c =
+    let a = c .before .before .before .before .before .before .before .args in
+    let f = c .before .before .found .given in
+    listing-never (a .found) (a .store .now) (a .order) (a .work .now) (a .answer .now) (f .0 .0) (f .0 .1 .0) (f .0 .1 .1 .0) (f .1) (inl (c .if1 .taken))
 
 returns-3 : tie.Need-returns-3
-returns-3 c = listing-never (c .before .before .before .before .before .before .before .before .args .found) (c .before .before .before .before .before .before .before .before .args .store .now) (c .before .before .before .before .before .before .before .before .args .order) (c .before .before .before .before .before .before .before .before .args .work .now) (c .before .before .before .before .before .before .before .before .args .answer .now) (c .before .before .before .found .given .0 .0) (c .before .before .before .found .given .0 .1 .0) (c .before .before .before .found .given .0 .1 .1 .0) (c .before .before .before .found .given .1) (inr (inl (c .if2 .taken)))
-
-returns-4 : tie.Need-returns-4
-returns-4 c = listing-never (c .before .before .before .before .before .before .before .before .before .args .found) (c .before .before .before .before .before .before .before .before .before .args .store .now) (c .before .before .before .before .before .before .before .before .before .args .order) (c .before .before .before .before .before .before .before .before .before .args .work .now) (c .before .before .before .before .before .before .before .before .before .args .answer .now) (c .before .before .before .before .found .given .0 .0) (c .before .before .before .before .found .given .0 .1 .0) (c .before .before .before .before .found .given .0 .1 .1 .0) (c .before .before .before .before .found .given .1) (inr (inr (c .if3 .taken)))
+returns-3 c =
+    let a = c .before .before .before .before .before .before .before .before .args in
+    let f = c .before .before .before .found .given in
+    listing-never (a .found) (a .store .now) (a .order) (a .work .now) (a .answer .now) (f .0 .0) (f .0 .1 .0) (f .0 .1 .1 .0) (f .1) (inr (c .if2 .taken))
 
 mul-set : tie.Need-mul-set
 mul-set c = search needs
@@ -55,17 +60,27 @@ cut-requires-2 c κs = search needs
 same-length : tie.Need-same-length
 same-length c = c .before .before .cut .kept .1 .1 .1 .0
 
-returns-5 : tie.Need-returns-5
-returns-5 c = listing-cut (c .before .before .before .before .before .before .before .before .before .before .before .before .before .before .before .before .before .args .found) (c .before .before .before .before .before .before .before .before .before .before .before .before .before .before .before .before .before .args .store .now) (c .before .before .before .before .before .before .before .before .before .before .before .before .before .before .before .before .before .args .order) (c .before .before .before .before .before .before .before .before .before .before .before .before .before .before .before .before .before .args .work .now) (c .before .before .before .before .before .before .before .before .before .before .before .before .before .before .before .before .before .args .answer .now) (c .before .before .before .before .before .before .before .before .before .before .before .before .found .given .0 .0) (c .before .before .before .before .before .before .before .before .before .before .before .before .found .given .0 .1 .0) (c .before .before .before .before .before .before .before .before .before .before .before .before .found .given .0 .1 .1 .0) (c .before .before .before .before .before .before .before .before .before .before .before .before .found .given .1) _ _ _ _ _ (rw (c .before .before .before .before .before .enum-told2 .given .1)) (rw (c .before .before .before .before .before .enum-told2 .given .1)) refl (c .before .before .cut .ensures .0) (c .before .before .cut .ensures .1)
+returns-4 : tie.Need-returns-4
+returns-4 c =
+    let a = c .before .before .before .before .before .before .before .before .before .before .before .before .before .before .before .before .args in
+    let f = c .before .before .before .before .before .before .before .before .before .before .before .found .given in
+    let cut = c .before .before .cut .ensures in
+    listing-cut (a .found) (a .store .now) (a .order) (a .work .now) (a .answer .now) (f .0 .0) (f .0 .1 .0) (f .0 .1 .1 .0) (f .1) _ _ _ _ _
+    (rw (c .before .before .before .before .before .enum-told2 .given .1)) (rw (c .before .before .before .before .before .enum-told2 .given .1)) refl (cut .0) (cut .1)
 
 same-length-2 : tie.Need-same-length-2
 same-length-2 c = c .before .before .cut2 .kept .1 .1 .1 .0
 
-returns-6 : tie.Need-returns-6
-returns-6 c = listing-cut (c .before .before .before .before .before .before .before .before .before .before .before .before .before .before .before .before .before .before .args .found) (c .before .before .before .before .before .before .before .before .before .before .before .before .before .before .before .before .before .before .args .store .now) (c .before .before .before .before .before .before .before .before .before .before .before .before .before .before .before .before .before .before .args .order) (c .before .before .before .before .before .before .before .before .before .before .before .before .before .before .before .before .before .before .args .work .now) (c .before .before .before .before .before .before .before .before .before .before .before .before .before .before .before .before .before .before .args .answer .now) (c .before .before .before .before .before .before .before .before .before .before .before .before .before .found .given .0 .0) (c .before .before .before .before .before .before .before .before .before .before .before .before .before .found .given .0 .1 .0) (c .before .before .before .before .before .before .before .before .before .before .before .before .before .found .given .0 .1 .1 .0) (c .before .before .before .before .before .before .before .before .before .before .before .before .before .found .given .1) _ _ _ _ _ (rw (c .before .before .before .before .before .before .order .given .1)) (rw (c .before .before .before .before .before .before .order .given .1) (c .before .before .before .before .words-of .ensures)) refl (c .before .before .cut2 .ensures .0) (c .before .before .cut2 .ensures .1)
+returns-5 : tie.Need-returns-5
+returns-5 c =
+    let a = c .before .before .before .before .before .before .before .before .before .before .before .before .before .before .before .before .before .args in
+    let f = c .before .before .before .before .before .before .before .before .before .before .before .before .found .given in
+    let cut = c .before .before .cut2 .ensures in
+    listing-cut (a .found) (a .store .now) (a .order) (a .work .now) (a .answer .now) (f .0 .0) (f .0 .1 .0) (f .0 .1 .1 .0) (f .1) _ _ _ _ _
+    (rw (c .before .before .before .before .before .before .order .given .1)) (rw (c .before .before .before .before .before .before .order .given .1) (c .before .before .before .before .words-of .ensures)) refl (cut .0) (cut .1)
 
 pub listing-spec : {M : Type 1} → statement M
 listing-spec =
     tie.close
-    (tie.spec enum-known-found enum-told returns returns-2 returns-3 returns-4 mul-set part-set-start part-set-end enum-told-2 slice-aggregate-cut
-    cut-requires enum-known-order words-of-requires cut-requires-2 same-length returns-5 same-length-2 returns-6)
+    (tie.spec enum-known-found enum-told returns returns-2 returns-3 mul-set part-set-start part-set-end enum-told-2 slice-aggregate-cut
+    cut-requires enum-known-order words-of-requires cut-requires-2 same-length returns-4 same-length-2 returns-5)

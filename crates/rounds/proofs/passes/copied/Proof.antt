@@ -5,13 +5,13 @@ use Rattle.rounds.proofs.passes.copied.Statement.{statement}
 use Rattle.rounds.proofs.passes.copied.Tie as tie
 
 part-at-requires : tie.Need-part-at-requires
-part-at-requires c κs = search needs
+part-at-requires c κs = tt
 
 place-of-requires : tie.Need-place-of-requires
-place-of-requires c κs = search needs
+place-of-requires c κs = tt
 
 left-of-requires : tie.Need-left-of-requires
-left-of-requires c κs = search needs
+left-of-requires c κs = tt
 
 lay-requires : tie.Need-lay-requires
 lay-requires c κs = search needs

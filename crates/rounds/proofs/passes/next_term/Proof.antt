@@ -12,7 +12,7 @@ unchanged-requires : tie.Need-unchanged-requires
 unchanged-requires c κs = search needs
 
 copied-requires : tie.Need-copied-requires
-copied-requires c κs = search needs
+copied-requires c κs = tt
 
 same-length : tie.Need-same-length
 same-length c = search needs
@@ -21,7 +21,7 @@ returns : tie.Need-returns
 returns c = rw (sym (rw (c .before .before .before .before .before .before .shape-of .ensures) at (c .before .before .before .before .before .unchanged .ensures)) ∙ c .before .before .before .before .if1 .taken) (c .before .before .copied .ensures)
 
 work-out-requires : tie.Need-work-out-requires
-work-out-requires c κs = search needs
+work-out-requires c κs = tt
 
 same-length-2 : tie.Need-same-length-2
 same-length-2 c = search needs

@@ -5,10 +5,10 @@ use Rattle.rounds.proofs.terms.of_joint.Statement.{statement}
 use Rattle.rounds.proofs.terms.of_joint.Tie as tie
 
 part-at-requires : tie.Need-part-at-requires
-part-at-requires c κs = search needs
+part-at-requires c κs = tt
 
 part-at-requires-2 : tie.Need-part-at-requires-2
-part-at-requires-2 c κs = search needs
+part-at-requires-2 c κs = tt
 
 add-product-requires : tie.Need-add-product-requires
 add-product-requires c κs = search needs

@@ -5,7 +5,7 @@ use Rattle.rounds.proofs.terms.of_one.Statement.{statement}
 use Rattle.rounds.proofs.terms.of_one.Tie as tie
 
 part-at-requires : tie.Need-part-at-requires
-part-at-requires c κs = search needs
+part-at-requires c κs = tt
 
 lay-requires : tie.Need-lay-requires
 lay-requires c κs = search needs

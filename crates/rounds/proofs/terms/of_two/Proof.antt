@@ -5,16 +5,17 @@ use Prim.Native.Nat.{ℕ}
 use mathlib.Core.List.{List}
 use lib.ListN.{length}
 use Rattle.sets.specs.Parts.{roomAt}
-use Rattle.shapes.specs.declared.Growth.{Growth}
-use Rattle.rounds.specs.Working.{half}
-use Rattle.rounds.specs.Terms.{partOf, partIn, copyBuilt, wholeOf}
+use Rattle.places.specs.declared.Growth.{Growth}
+use Rattle.places.specs.Starts.{half, partOf, partIn}
+use Rattle.places.specs.Laying.{copyBuilt}
+use Rattle.rounds.specs.Terms.{wholeOf}
 use Rattle.rounds.proofs.Sequence.{first-large, whole-last, more-last, wordsIn, addTwo, steady-two}
 use borrow.Author.Needs.{needs}
 use Rattle.rounds.proofs.terms.of_two.Statement.{statement}
 use Rattle.rounds.proofs.terms.of_two.Tie as tie
 
 of-one-requires : tie.Need-of-one-requires
-of-one-requires c κs = search needs
+of-one-requires c κs = tt
 
 enum-known-old : tie.Need-enum-known-old
 enum-known-old c = search needs
@@ -31,10 +32,10 @@ returns c =
     first-large (a .at) 0 (copyBuilt (roomAt (a .at) (a .most) (length (a .work .now))) (partIn (a .at) 0 (a .before .now) (a .n) (a .work .now))) _ (a .work .now) _ (rw (c .enum-told .given .1) at (c .before .before .before .before .of-one .ensures))
 
 growth-of-requires : tie.Need-growth-of-requires
-growth-of-requires c κs = search needs
+growth-of-requires c κs = tt
 
 growth-of-requires-2 : tie.Need-growth-of-requires-2
-growth-of-requires-2 c κs = search needs
+growth-of-requires-2 c κs = tt
 
 whole-requires : tie.Need-whole-requires
 whole-requires c κs = search needs

@@ -6,16 +6,16 @@ use lib.ListN.{length}
 use Rattle.sets.specs.Parts.{roomAt}
 use Rattle.shapes.specs.Making.{throughBuilt}
 use Rattle.shapes.specs.Ways.{wayFor, wordsFor}
-use Rattle.shapes.specs.declared.Growth.{Growth}
-use Rattle.rounds.specs.Working.{half}
-use Rattle.rounds.specs.Terms.{partOf, partIn, copyBuilt}
+use Rattle.places.specs.declared.Growth.{Growth}
+use Rattle.places.specs.Starts.{half, partOf, partIn}
+use Rattle.places.specs.Laying.{copyBuilt}
 use Rattle.rounds.proofs.Sequence.{first-large, copy-last, newFrom, steady-way}
 use borrow.Author.Needs.{needs}
 use Rattle.rounds.proofs.terms.of_wrap.Statement.{statement}
 use Rattle.rounds.proofs.terms.of_wrap.Tie as tie
 
 of-one-requires : tie.Need-of-one-requires
-of-one-requires c κs = search needs
+of-one-requires c κs = tt
 
 enum-known-old : tie.Need-enum-known-old
 enum-known-old c = search needs
@@ -32,7 +32,7 @@ returns c =
     first-large (a .at) 0 (copyBuilt (roomAt (a .at) (a .most) (length (a .work .now))) (partIn (a .at) 0 (a .before .now) (a .n) (a .work .now))) _ (a .work .now) _ (rw (c .enum-told .given .1) at (c .before .before .before .before .of-one .ensures))
 
 growth-of-requires : tie.Need-growth-of-requires
-growth-of-requires c κs = search needs
+growth-of-requires c κs = tt
 
 wrapped-requires : tie.Need-wrapped-requires
 wrapped-requires c κs = search needs

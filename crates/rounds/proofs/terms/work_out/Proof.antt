@@ -6,10 +6,10 @@ use Rattle.rounds.proofs.terms.work_out.Statement.{statement}
 use Rattle.rounds.proofs.terms.work_out.Tie as tie
 
 place-of-requires : tie.Need-place-of-requires
-place-of-requires c κs = search needs
+place-of-requires c κs = tt
 
 left-of-requires : tie.Need-left-of-requires
-left-of-requires c κs = search needs
+left-of-requires c κs = tt
 
 enum-told : tie.Need-enum-told
 enum-told c = c .match .keys1
@@ -24,31 +24,31 @@ enum-known-shape-2 : tie.Need-enum-known-shape-2
 enum-known-shape-2 c = c .match .keys3
 
 of-body-requires : tie.Need-of-body-requires
-of-body-requires c κs = search needs
+of-body-requires c κs = tt
 
 enum-known-shape-3 : tie.Need-enum-known-shape-3
 enum-known-shape-3 c = c .match .keys4
 
 of-one-requires : tie.Need-of-one-requires
-of-one-requires c κs = search needs
+of-one-requires c κs = tt
 
 enum-known-shape-4 : tie.Need-enum-known-shape-4
 enum-known-shape-4 c = c .match .keys5
 
 of-two-requires : tie.Need-of-two-requires
-of-two-requires c κs = search needs
+of-two-requires c κs = tt
 
 enum-known-shape-5 : tie.Need-enum-known-shape-5
 enum-known-shape-5 c = c .match .keys6
 
 of-joint-requires : tie.Need-of-joint-requires
-of-joint-requires c κs = search needs
+of-joint-requires c κs = tt
 
 enum-known-shape-6 : tie.Need-enum-known-shape-6
 enum-known-shape-6 c = c .match .keys7
 
 of-wrap-requires : tie.Need-of-wrap-requires
-of-wrap-requires c κs = search needs
+of-wrap-requires c κs = tt
 
 returns : tie.Need-returns
 returns c = rw (c .enum-told .given .1) (nothing-grown _ (c .before .before .before .before .before .before .before .before .before .args .work .now))

@@ -13,8 +13,8 @@ enum-told-2 c = search needs
 enum-known-shape : tie.Need-enum-known-shape
 enum-known-shape c = search needs
 
-start-of-requires : tie.Need-start-of-requires
-start-of-requires c κs = search needs
+body-of-requires : tie.Need-body-of-requires
+body-of-requires c κs = search needs
 
 stays-requires : tie.Need-stays-requires
 stays-requires c κs = search needs
@@ -50,7 +50,7 @@ returns-2 : tie.Need-returns-2
 returns-2 c = search needs
 
 returns-3 : tie.Need-returns-3
-returns-3 c = rw (c .before .before .before .shape .given .1) (rw (c .before .start-of .ensures) at (c .stays .ensures))
+returns-3 c = rw (c .before .before .before .shape .given .1) (rw (c .before .body-of .ensures) at (c .stays .ensures))
 
 returns-4 : tie.Need-returns-4
 returns-4 c = rw (c .before .before .shape2 .given .1) (c .stays2 .ensures)
@@ -67,6 +67,6 @@ returns-7 c = rw (c .before .before .shape5 .given .1) (c .stays3 .ensures)
 pub unchanged-spec : {M : Type 1} → statement M
 unchanged-spec =
     tie.close
-    (tie.spec enum-told enum-told-2 enum-known-shape start-of-requires stays-requires enum-known-shape-2 stays-requires-2 enum-known-shape-3
+    (tie.spec enum-told enum-told-2 enum-known-shape body-of-requires stays-requires enum-known-shape-2 stays-requires-2 enum-known-shape-3
     both-stay-requires enum-known-shape-4 both-stay-requires-2 enum-known-shape-5 stays-requires-3 returns returns-2 returns-3 returns-4
     returns-5 returns-6 returns-7)

@@ -1,0 +1,55 @@
+-- `places::carrying::carry` meets its contract: the words are put one after the other, and none is read after it was written.
+-- Assumes nothing.
+use native.Mathlib.Omega.{arith}
+use Prim.Native.Nat.{_-_}
+use Rattle.places.proofs.Carries.{Carrying, carrying-start, carrying-step, carrying-end}
+use Rattle.places.proofs.carrying.carry.Statement.{statement}
+use Rattle.places.proofs.carrying.carry.Tie as tie
+
+abbrev Inv-loop : tie.InvT-loop
+Inv-loop area₀ from to count i₀ area i = Carrying area₀ from to count area i
+
+abbrev μ-loop : tie.MeasureT-loop
+μ-loop area₀ from to count i₀ area i = count - i
+
+loop-holds : tie.Need-loop-holds Inv-loop μ-loop
+loop-holds c = carrying-start (c .args .area .now) (c .args .from) (c .args .to) (c .args .count) (c .pre)
+
+add-area : tie.Need-add-area Inv-loop μ-loop
+add-area c = omega arith
+
+mul-area : tie.Need-mul-area Inv-loop μ-loop
+mul-area c = omega arith
+
+slice-read-area : tie.Need-slice-read-area Inv-loop μ-loop
+slice-read-area c = omega arith
+
+add-area-2 : tie.Need-add-area-2 Inv-loop μ-loop
+add-area-2 c = omega arith
+
+mul-area-2 : tie.Need-mul-area-2 Inv-loop μ-loop
+mul-area-2 c = omega arith
+
+slice-write-area : tie.Need-slice-write-area Inv-loop μ-loop
+slice-write-area c = omega arith
+
+add-i : tie.Need-add-i Inv-loop μ-loop
+add-i c = omega arith
+
+loop-less : tie.Need-loop-less Inv-loop μ-loop
+loop-less c = omega arith
+
+loop-again : tie.Need-loop-again Inv-loop μ-loop
+loop-again c = carrying-step (c .before .before .before .args .area .now) (c .before .before .before .args .from) (c .before .before .before .args .to) (c .before .before .before .args .count) (c .before .before .loop .area) (c .before .before .loop .i) (c .before .before .loop .inv) (c .before .loop-test .taken)
+
+same-length : tie.Need-same-length Inv-loop μ-loop
+same-length c = c .before .loop .inv .same
+
+returns : tie.Need-returns Inv-loop μ-loop
+returns c = carrying-end (c .before .before .args .area .now) (c .before .before .args .from) (c .before .before .args .to) (c .before .before .args .count) (c .before .loop .area) (c .before .loop .i) (c .before .loop .inv) (omega arith)
+
+pub carry-spec : {M : Type 1} → statement M
+carry-spec =
+    tie.close
+    (tie.spec Inv-loop μ-loop loop-holds add-area mul-area slice-read-area add-area-2 mul-area-2 slice-write-area add-i loop-less loop-again
+    same-length returns)

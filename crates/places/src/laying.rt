@@ -1,0 +1,27 @@
+// A set laid where it is to stand, as it stands elsewhere in the work area.
+use crate::Part;
+use crate::carrying::carry;
+use sets::Built;
+use sets::placing::end_before;
+use sets::placing::room;
+ghost use lib.ListN.{length};
+ghost use Rattle.sets.specs.Parts.{roomAt};
+ghost use Rattle.sets.specs.Building.{Grown};
+ghost use Rattle.places.specs.Laying.{wordsOf, copyBuilt};
+
+// What of the part stands before the place is laid there, if there is room.
+pub fn lay(work: &mut [u64], part: Part, at: usize, most: usize) -> Built
+    ensures { λ r. ⌜ Grown (copyBuilt (roomAt at most (length (now (work .entry)))) (wordsOf at part (now (work .entry)))) at 0 (now (work .entry)) (now (work .exit)) r ⌝ }
+{
+    let from = part.from;
+    let end = end_before(work, part.to, at);
+    if end <= from {
+        return Built::Holds(0);
+    }
+    let count = end - from;
+    if room(work, at, most) < count {
+        return Built::TooLarge;
+    }
+    carry(work, from, at, count);
+    Built::Holds(count)
+}
