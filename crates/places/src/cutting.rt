@@ -1,7 +1,5 @@
 // The root's set, cut to the order.
 ghost use mathlib.Core.Path.{_≡_};
-ghost use mathlib.Core.Bool.{_||_};
-ghost use lib.Dec.{eqb};
 ghost use lib.ListN.{length};
 ghost use Rattle.sets.specs.Building.{listedIn};
 ghost use Rattle.places.specs.Cutting.{allows, cutInto, put};

@@ -15,7 +15,7 @@ use Rattle.labels.proofs.Meant.{Packs}
 use Rattle.sets.proofs.Meant.{AllPack}
 use Rattle.sets.proofs.Ways.{number-zero, same-test, member-number}
 use Rattle.places.specs.Cutting.{allows, cutWords}
-use Rattle.rounds.proofs.Shaped.{listed-packs}
+use Rattle.terms.proofs.Shaped.{listed-packs}
 
 -- whether an order is `all`, and the words of its list
 abbrev pub isAll : Order → Bool

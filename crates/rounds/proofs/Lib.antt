@@ -1,19 +1,7 @@
--- Laws of sets laid one behind the other, and of words put one after the other.
-pub mod Areas
-pub mod Passing
+-- Laws of a round that goes on to the next, of equation sets that stay, and of the root's set in the answer.
 pub mod Turning
 pub mod Staying
 pub mod Answering
-pub mod Shaped
-pub mod Fitting
-pub mod Settling
-pub mod Operands
-pub mod Arms
-pub mod Growing
-pub mod Sequence
-pub mod Stores
-pub mod Dispatch
-pub mod Copying
 pub mod Progress
 pub mod Rounding
 pub mod Listings

@@ -39,7 +39,7 @@ use Rattle.places.specs.Starts.{whole}
 use Rattle.rounds.specs.Alphabets.{alphabetOf, answerWords, cleared, Answered, Stands, Ends, Reached, Listing}
 use Rattle.places.proofs.Copies.{part-taken}
 use Rattle.rounds.proofs.Answering.{isAll, listOf, cut-number}
-use Rattle.rounds.proofs.Operands.{packed-sets}
+use Rattle.terms.proofs.Operands.{packed-sets}
 
 -- Sets that pass no limit have at most 1,024 labels each.
 some-many : (sets : List (List Label)) (i : ℕ) → 1024 < length (at sets i) → T (someOver sets)

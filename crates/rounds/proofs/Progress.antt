@@ -1,54 +1,27 @@
 -- A round, term by term.
 -- Assumes nothing.
-use mathlib.Core.Path.{_≡_, refl, sym, ap, ap₂, subst, _∙_}
-use mathlib.Core.Bool.{Bool, true, false}
+use mathlib.Core.Path.{_≡_, refl, sym, ap, subst, _∙_}
+use mathlib.Core.Bool.{true, false}
 use mathlib.Core.List.{List}
 use Prim.Native.Nat.{ℕ, _+_, _-_, _≤_, _<_, zero-le}
 use native.Mathlib.Numerals.{add-one}
 use native.Mathlib.Omega.{arith}
-use lib.Dec.{T}
 use lib.ListN.{length, getD, set, length-set}
 use Rattle.meaning.specs.Descriptions as D
-use Rattle.table.specs.declared.Term.{Term}
-use Rattle.table.specs.Encoded.{termFor, storeOf, tableOf}
+use Rattle.table.specs.Encoded.{storeOf}
 use Rattle.table.specs.Packed.{wordTerm}
 use Rattle.table.proofs.Stored.{term-of}
 use Rattle.sets.specs.declared.Built.{Built}
 use Rattle.sets.specs.declared.Built.the-variants.{TooLarge, Holds}
-use Rattle.sets.specs.Parts.{roomAt}
-use Rattle.sets.specs.Building.{Grown}
-use Rattle.places.specs.Starts.{half, whole, startIn, partIn, placeIn, leftIn}
-use Rattle.rounds.specs.Working.{Ready, Kept, Worked, Between}
-use Rattle.shapes.specs.Shaping.{shapeFor}
-use Rattle.shapes.specs.Steady.{unchanged}
-use Rattle.rounds.specs.Terms.{built, renewed, TermBuilt}
-use Rattle.places.specs.Laying.{copyBuilt}
-use Rattle.rounds.specs.Passes.{TermWorked, Read, Passed}
+use Rattle.places.specs.Starts.{half, whole, startIn}
+use Rattle.terms.specs.Working.{Ready, Kept, Worked}
+use Rattle.rounds.specs.Passes.{Between, Read, Passed}
+use Rattle.terms.specs.Terms.{TermBuilt}
 use Rattle.places.proofs.Beginnings.{start-other}
-use Rattle.rounds.proofs.Passing.{kept-self, kept-trans, next-fits, term-kept, ready-next}
+use Rattle.terms.proofs.Passing.{kept-self, kept-trans, next-fits, term-kept, ready-next}
 use Rattle.rounds.proofs.Turning.{ready-start, round-done, round-over}
-use Rattle.rounds.proofs.Dispatch.{starts-here, kind-worked}
-use Rattle.rounds.proofs.Copying.{copy-worked}
-
--- A term: copied if what it is built of stayed, and else worked out.
-module _ (term : Term) (store bodies : List ℕ) (n : ℕ) (older before this work work′ : List ℕ) (r : Built) where
-  abbrev at : ℕ
-  at = placeIn this n
-
-  abbrev old : List ℕ
-  old = partIn at 0 before n work
-
-  abbrev room : ℕ
-  room = roomAt at (leftIn this n) (length work)
-
-  term-worked : TermBuilt term store bodies n older before this work work′ r → TermWorked term store bodies n older before this work work′ r
-  term-worked g d o k e f b more ready = by (unchanged (tableOf d .bodies) older before this (shapeFor (termFor n (D.termAt d n)))) refl (rw (f, b, e) at g)
-    where
-      by : (t : Bool) → unchanged (tableOf d .bodies) older before this (shapeFor (termFor n (D.termAt d n))) ≡ t
-          → Grown (renewed t (copyBuilt room old) (built room at (storeOf d o) (tableOf d .bodies) before this work old (shapeFor (termFor n (D.termAt d n))))) at 0 work work′ r
-          → Worked d k n work work′ r
-      by true u x = copy-worked d k n older before this work work′ r ready more (subst (λ (t : Bool). T t) (sym u) tt) x
-      by false u x = kind-worked d o k n older before this work work′ r ready more x
+use Rattle.terms.proofs.Dispatch.{starts-here}
+use Rattle.terms.proofs.Worked.{term-worked}
 
 -- How far the round has come: n terms worked out.
 pub record Progress (slots bodies : List ℕ) (terms : ℕ) (store older before work₀ work this : List ℕ) (n : ℕ) : Type 0 where

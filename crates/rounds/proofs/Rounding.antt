@@ -22,18 +22,18 @@ use Rattle.table.specs.declared.Table.{Table}
 use Rattle.table.specs.Encoded.{storeOf, tableOf}
 use Rattle.table.proofs.Stored.{bodies-of}
 use Rattle.rounds.specs.declared.turns.Found.the-variants.{TooLarge, At}
-use Rattle.rounds.specs.Laid.{flat, Begins}
+use Rattle.terms.specs.Laid.{flat, Begins}
 use Rattle.places.specs.Sameness.{allStay}
 use Rattle.places.specs.Starts.{half, whole, startIn}
-use Rattle.rounds.specs.Working.{Kept, RoundDone, RoundOver, Between}
-use Rattle.rounds.specs.Passes.{RoundEnds, Read, Passed}
+use Rattle.terms.specs.Working.{Kept}
+use Rattle.rounds.specs.Passes.{RoundDone, RoundOver, Between, RoundEnds, Read, Passed}
 use Rattle.rounds.specs.Alphabets.{Reached}
-use Rattle.rounds.proofs.Areas.{laid-part, total-take, total-part}
+use Rattle.terms.proofs.Areas.{laid-part, total-take, total-part}
 use Rattle.places.specs.Moving.{lowered, loweredIn}
 use Rattle.places.proofs.Filling.{length-zeros}
 use Rattle.places.proofs.Beginnings.{start-low, start-zero}
 use Rattle.places.proofs.Lowering.{lowered-all}
-use Rattle.rounds.proofs.Passing.{kept-self, kept-trans, at-most}
+use Rattle.terms.proofs.Passing.{kept-self, kept-trans, at-most}
 use Rattle.rounds.proofs.Turning.{none-over}
 use Rattle.rounds.proofs.Staying.{stable-if, unstable-if, between-lowered, kept-lowered}
 

@@ -6,7 +6,7 @@ use Prim.Native.Nat.{ℕ, suc, _+_, _-_, _≤_, _<_}
 use native.Mathlib.Nat.{min-eq-left}
 use native.Mathlib.Omega.{arith}
 use native.Mathlib.Decide.{decLt}
-use lib.Dec.{T, eqb→eq, eqb-refl}
+use lib.Dec.{T}
 use lib.ListN.{length, getD, take, drop, length-append, length-take, length-drop}
 use lib.Seq.{drop-append-add, drop-drop, take-at}
 use Rattle.meaning.specs.Labels.{Label}
@@ -17,42 +17,28 @@ use Rattle.meaning.specs.Rounds.{roundSets}
 use Rattle.meaning.specs.Limits.{total}
 use Rattle.meaning.proofs.Tests.{and-left, and-right, and-both}
 use Rattle.meaning.proofs.Stable.{Stable}
-use Rattle.rounds.specs.Laid.{flat, Begins}
-use Rattle.places.specs.Sameness.{sizeAt, stays, allStay}
+use Rattle.terms.specs.Laid.{flat, Begins}
+use Rattle.places.specs.Sameness.{stays, allStay}
 use Rattle.places.specs.Starts.{half, whole}
-use Rattle.rounds.specs.Working.{Kept, RoundDone, Between}
-use Rattle.rounds.proofs.Areas.{length-flat}
-use Rattle.rounds.proofs.Passing.{at-most}
-use Rattle.rounds.proofs.Turning.{size-of, same-size}
-
-module _ (n : ℕ) (sets : List (List Label)) (starts : List ℕ) (b : Begins n sets starts) where
-  pub size-is : (i : ℕ) → i < n → sizeAt starts i ≡ length (at sets i)
-  size-is i h = let e = size-of n sets starts b i h in omega arith
+use Rattle.terms.specs.Working.{Kept}
+use Rattle.rounds.specs.Passes.{RoundDone, Between}
+use Rattle.terms.proofs.Areas.{length-flat}
+use Rattle.terms.proofs.Passing.{at-most}
+use Rattle.terms.proofs.Sizes.{stays→, →stays}
 
 module _ (d : Description) (k : ℕ) (before this : List ℕ) (p : Begins (termCount d) (roundSets d k) before) (q : Begins (termCount d) (roundSets d (suc k)) this) where
-  pub stays→ : (i : ℕ) → i < termCount d → T (stays before this i) → at (roundSets d (suc k)) i ≡ at (roundSets d k) i
-  stays→ i h t =
-      same-size d k i
-      (sym (size-is (termCount d) (roundSets d (suc k)) this q i h) ∙ eqb→eq (sizeAt this i) (sizeAt before i) t ∙ size-is (termCount d) (roundSets d k) before p i h)
-
-  →stays : (i : ℕ) → i < termCount d → at (roundSets d (suc k)) i ≡ at (roundSets d k) i → T (stays before this i)
-  →stays i h e =
-      let same : sizeAt this i ≡ sizeAt before i =
-      size-is (termCount d) (roundSets d (suc k)) this q i h ∙ ap length e ∙ sym (size-is (termCount d) (roundSets d k) before p i h) in
-      rw same (eqb-refl (sizeAt before i))
-
   all-stay→ : (bs : List ℕ) → Each (λ x. x < termCount d) bs → T (allStay before this bs) → map (at (roundSets d (suc k))) bs ≡ map (at (roundSets d k)) bs
   unfolding allStay
   all-stay→ [] h t = refl
   all-stay→ (x ∷ bs) h t =
-      ap₂ {C = List (List Label)} _∷_ (stays→ x (h .0) (and-left (stays before this x) (allStay before this bs) t))
+      ap₂ {C = List (List Label)} _∷_ (stays→ d k before this p q x (h .0) (and-left (stays before this x) (allStay before this bs) t))
       (all-stay→ bs (h .1) (and-right (stays before this x) (allStay before this bs) t))
 
   →all-stay : (bs : List ℕ) → Each (λ x. x < termCount d) bs → map (at (roundSets d (suc k))) bs ≡ map (at (roundSets d k)) bs → T (allStay before this bs)
   unfolding allStay
   →all-stay [] h e = tt
   →all-stay (x ∷ bs) h e =
-      and-both (stays before this x) (allStay before this bs) (→stays x (h .0) (ap (λ (l : List (List Label)). getD l 0 []) e)) (→all-stay bs (h .1) (ap tail e))
+      and-both (stays before this x) (allStay before this bs) (→stays d k before this p q x (h .0) (ap (λ (l : List (List Label)). getD l 0 []) e)) (→all-stay bs (h .1) (ap tail e))
 
   pub stable-if : Each (λ x. x < termCount d) (d .bodies) → T (allStay before this (d .bodies)) → Stable d k
   stable-if h t = all-stay→ (d .bodies) h t

@@ -1,26 +1,20 @@
--- A round begins and ends; what the numbers of labels tell of two rounds.
+-- A round begins and ends.
 -- Assumes nothing.
-use mathlib.Core.Path.{_≡_, refl, sym, ap, subst, _∙_}
+use mathlib.Core.Path.{_≡_, refl, ap, subst}
 use mathlib.Core.List.{List, []}
-use Prim.Native.Nat.{ℕ, zero, suc, _+_, _-_, _<_}
+use Prim.Native.Nat.{ℕ, zero, suc, _-_, _<_}
 use native.Mathlib.Omega.{arith}
 use lib.Dec.{T}
-use lib.ListN.{length}
 use Rattle.meaning.specs.Labels.{Label}
-use Rattle.meaning.specs.Sets.{at}
 use Rattle.meaning.specs.Descriptions.{Description, termCount}
 use Rattle.meaning.specs.Rounds.{worked, next, roundSets, equationSets}
 use Rattle.meaning.specs.Limits.{total, someOver, over}
-use Rattle.meaning.proofs.Sorted.{once-count}
-use Rattle.meaning.proofs.Members.{ascending-unique}
-use Rattle.meaning.proofs.Growth.{round-grows, round-ascends}
-use Rattle.meaning.proofs.Stable.{once-round}
 use Rattle.meaning.proofs.Outcomes.{worked-over}
-use Rattle.rounds.specs.Laid.{flat, Begins, Laid}
+use Rattle.terms.specs.Laid.{flat, Laid}
 use Rattle.places.specs.Starts.{half, startIn}
-use Rattle.rounds.specs.Working.{partly, Ready, Kept, TermOver, RoundDone, RoundOver, Between}
-use Rattle.rounds.proofs.Areas.{total-take}
-use Rattle.rounds.proofs.Passing.{kept-trans}
+use Rattle.terms.specs.Working.{partly, Ready, Kept, TermOver}
+use Rattle.rounds.specs.Passes.{RoundDone, RoundOver, Between}
+use Rattle.terms.proofs.Passing.{kept-trans}
 
 pub none-over : T (over []) → ⊥
 unfolding over someOver total
@@ -54,14 +48,3 @@ round-done d k n older before this work work′ r e kept =
 pub round-over : (d : Description) (k n : ℕ) (work now work′ : List ℕ) → n < termCount d → Kept work now → TermOver d k n now work′ → RoundOver d k work work′
 round-over d k n work now work′ h kept t =
     record { passed = worked-over d k (suc n) h (t .passed); kept = kept-trans work now work′ kept (t .kept) }
-
--- The number of labels of a set, from where it begins.
-pub size-of : (n : ℕ) (sets : List (List Label)) (starts : List ℕ) → Begins n sets starts → (i : ℕ) → i < n
-    → startIn starts (suc i) ≡ startIn starts i + length (at sets i)
-size-of n sets starts b i h = b (suc i) h ∙ total-take sets i ∙ ap (λ (m : ℕ). m + length (at sets i)) (sym (b i (omega arith)))
-
--- A set that has as many labels as in the round before is the same.
-pub same-size : (d : Description) (k i : ℕ) → length (at (roundSets d (suc k)) i) ≡ length (at (roundSets d k) i) → at (roundSets d (suc k)) i ≡ at (roundSets d k) i
-same-size d k i e =
-    let back = once-count (at (roundSets d k) i) (at (roundSets d (suc k)) i) (once-round d k i) (round-grows d k i) .1 (omega arith) in
-    ascending-unique (at (roundSets d (suc k)) i) (at (roundSets d k) i) (round-ascends d (suc k) i) (round-ascends d k i) back (round-grows d k i)

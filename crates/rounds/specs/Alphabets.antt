@@ -24,7 +24,7 @@ use Rattle.rounds.specs.declared.turns.Found.{Found}
 use Rattle.rounds.specs.declared.turns.Found.the-variants as F
 use Rattle.places.specs.Cutting.{put}
 use Rattle.places.specs.Starts.{whole}
-use Rattle.rounds.specs.Working.{Kept}
+use Rattle.terms.specs.Working.{Kept}
 
 -- An outcome as the code answers it, and the answer area after it.
 abbrev pub alphabetOf : Outcome → Answer

@@ -1,20 +1,39 @@
--- What working out a term and a round comes to, for the table of a legal description.
+-- What a round comes to, for the table of a legal description. Only private functions cite this: no public contract rests on it.
 -- Assumes nothing.
 use mathlib.Core.Path.{_≡_}
 use mathlib.Core.Bool.{Bool, true, false}
 use mathlib.Core.List.{List}
-use Prim.Native.Nat.{ℕ, _<_}
+use Prim.Native.Nat.{ℕ, suc, pred, _≤_, _<_}
+use lib.Dec.{T}
+use lib.ListN.{length}
 use Rattle.meaning.specs.Descriptions as D
-use Rattle.table.specs.declared.Term.{Term}
-use Rattle.table.specs.Encoded.{termFor, storeOf, tableOf}
-use Rattle.sets.specs.declared.Built.{Built}
-use Rattle.places.specs.Starts.{startIn}
-use Rattle.rounds.specs.Working.{Ready, Worked, RoundDone, RoundOver, Between}
+use Rattle.meaning.specs.Descriptions.{Description, termCount, all}
+use Rattle.meaning.specs.Legal.{Legal}
+use Rattle.meaning.specs.Rounds.{equationSets, roundSets}
+use Rattle.meaning.specs.Limits.{over}
+use Rattle.table.specs.Encoded.{storeOf, tableOf}
+use Rattle.places.specs.Starts.{half, whole, startIn}
+use Rattle.terms.specs.Laid.{Begins, Laid}
+use Rattle.terms.specs.Working.{Kept}
 
-abbrev pub TermWorked : Term → (store bodies : List ℕ) → ℕ → (older before this work work′ : List ℕ) → Built → Type 0
-TermWorked term store bodies n older before this work work′ r =
-    (d : D.Description) (o : D.Order) (k : ℕ) → term ≡ termFor n (D.termAt d n) → store ≡ storeOf d o → bodies ≡ tableOf d .bodies → n < D.termCount d
-    → Ready d k n older before this work → Worked d k n work work′ r
+-- A round worked out: its sets in the upper half; or a limit passed.
+pub record RoundDone (d : Description) (k : ℕ) (before this work work′ : List ℕ) : Type 0 where
+  pub upper : Laid half (termCount d) (roundSets d (suc k)) this work′
+  pub few : T (over (roundSets d (suc k))) → ⊥
+  pub kept : Kept work work′
+
+pub record RoundOver (d : Description) (k : ℕ) (work work′ : List ℕ) : Type 0 where
+  pub passed : T (over (roundSets d (suc k)))
+  pub kept : Kept work work′
+
+-- Between two rounds: round k in the lower half, no round before it stable, no limit passed.
+pub record Between (d : Description) (k : ℕ) (older before work : List ℕ) : Type 0 where
+  pub legal : Legal d all
+  pub room : whole ≤ length work
+  pub old : Begins (termCount d) (roundSets d (pred k)) older
+  pub lower : Laid 0 (termCount d) (roundSets d k) before work
+  pub few : T (over (roundSets d k)) → ⊥
+  pub unstable : (j : ℕ) → j < k → equationSets d (suc j) ≡ equationSets d j → ⊥
 
 -- the sets in the upper half, or a limit passed
 abbrev pub RoundEnds : Bool → D.Description → ℕ → (before starts work work′ : List ℕ) → Type 0

@@ -1,7 +1,5 @@
 // The sets of all terms, worked out round by round in a lent work area, and the root's set cut to the order.
-mod adding;
 mod passes;
-mod terms;
 mod turns;
 
 use crate::turns::Found;
@@ -13,9 +11,7 @@ use table::TERMS;
 use table::Table;
 use table::areas::clear;
 use table::lists::words_of;
-ghost use mathlib.Core.Path.{_≡_};
-ghost use Prim.Native.Nat.{_≤_, _<_};
-ghost use lib.ListN.{length};
+ghost use Prim.Native.Nat.{_<_};
 ghost use Rattle.rounds.specs.Alphabets.{Answered, Listing};
 
 // The words that are used of the work area, and the words that the answer may take.

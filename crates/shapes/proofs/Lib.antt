@@ -1,4 +1,3 @@
--- Laws of rules, of two steps that build one set, and of labels that are new.
-pub mod Exchanged
+-- Laws of steps that build one set after one another.
 pub mod Makings
-pub mod Renewing
+pub mod Sequence

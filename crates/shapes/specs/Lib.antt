@@ -1,7 +1,5 @@
--- What the sets of terms are built by, and what tells that they stay.
-pub mod Exchanging
-pub mod Fresh
+-- The shapes of terms: what their sets are built of and by, and what tells that it stays.
 pub mod Making
-pub mod Ways
+pub mod Adding
 pub mod Shaping
 pub mod Steady

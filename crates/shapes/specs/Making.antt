@@ -2,15 +2,11 @@
 -- Assumes nothing.
 use mathlib.Core.List.{List}
 use Prim.Native.Nat.{ℕ}
-use Rattle.sets.specs.declared.Way.{Way}
-use Rattle.sets.specs.Building.{Building, next, each, enter, imaged, multiplied}
+use Rattle.sets.specs.Building.{Building, next, enter, multiplied}
 use Rattle.sets.specs.Joining.{united}
 
 abbrev pub leafBuilt : ℕ → ℕ → List ℕ → Building
 leafBuilt room w s = enter room w s
-
-abbrev pub throughBuilt : ℕ → Way → List ℕ → List ℕ → List ℕ → Building
-throughBuilt room way list a s = each (imaged room way list) a s
 
 abbrev pub eitherBuilt : ℕ → List ℕ → List ℕ → List ℕ → Building
 eitherBuilt room a b s = united room a b

@@ -1,7 +1,6 @@
 -- The shapes of terms: what the set of each kind is built of, and how.
 -- Assumes nothing.
 use mathlib.Core.Bool.{true, false}
-use Prim.Native.Nat.{ℕ}
 use Rattle.meaning.specs.Labels.{number, single}
 use Rattle.labels.specs.Packing.{packed}
 use Rattle.table.specs.declared.Term.{Term}

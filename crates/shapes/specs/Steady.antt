@@ -9,7 +9,7 @@ use Rattle.shapes.specs.declared.Shape.{Shape}
 use Rattle.shapes.specs.declared.Shape.the-variants.{Empty, Leaf, Body, One, Two, Joint, Through}
 
 -- Whether the sets that a term's is built of stayed since the round before. A set that is built of none is worked out anew. That one
--- that is unchanged is the set of the round before is `set-stays` in `rounds/proofs/Copying.antt`.
+-- that is unchanged is the set of the round before is `set-stays` in `terms/proofs/Copying.antt`.
 abbrev pub unchanged : (bodies older before this : List ℕ) → Shape → Bool
 unchanged bodies older before this Empty = false
 unchanged bodies older before this (Leaf label) = false

@@ -1,5 +1,6 @@
 // The set of a term, built at a place of the work area from parts that stand before it, by the shape of the term.
 use labels::Label;
+use places::Part;
 use sets::Built;
 use sets::Inserted;
 use sets::inserting::insert;
@@ -9,7 +10,9 @@ ghost use lib.ListN.{length};
 ghost use Rattle.labels.specs.Packing.{held, code};
 ghost use Rattle.sets.specs.Parts.{partBefore, roomAt};
 ghost use Rattle.sets.specs.Building.{Grown};
+ghost use Rattle.places.specs.Laying.{wordsOf};
 ghost use Rattle.shapes.specs.Making.{leafBuilt, bothBuilt};
+ghost use Rattle.shapes.specs.Adding.{wholeOf};
 
 // One label.
 pub fn leaf(work: &mut [u64], label: Label, at: usize, most: usize) -> Built
@@ -24,7 +27,7 @@ pub fn leaf(work: &mut [u64], label: Label, at: usize, most: usize) -> Built
 }
 
 // Both of two parts, and their product.
-pub fn both(
+fn both(
     work: &mut [u64],
     from: usize,
     to: usize,
@@ -40,4 +43,15 @@ pub fn both(
         return Built::TooLarge;
     };
     add_product(work, from, to, by_from, by_to, at, n, most)
+}
+
+// Two sets in one, with every sum of their labels if those are asked for.
+pub fn whole(work: &mut [u64], a: Part, b: Part, sums: bool, at: usize, most: usize) -> Built
+    ensures { λ r. ⌜ Grown (wholeOf sums (roomAt at most (length (now (work .entry)))) (wordsOf at a (now (work .entry))) (wordsOf at b (now (work .entry)))) at 0 (now (work .entry)) (now (work .exit)) r ⌝ }
+{
+    if sums {
+        both(work, a.from, a.to, b.from, b.to, at, most)
+    } else {
+        union(work, a.from, a.to, b.from, b.to, at, most)
+    }
 }

@@ -1,0 +1,3 @@
+-- Laws of rules, and of labels that are new.
+pub mod Exchanged
+pub mod Renewing

@@ -1,0 +1,34 @@
+-- The ways of operators, with their lists from the list store.
+-- Assumes nothing.
+use mathlib.Core.List.{List}
+use Prim.Native.Nat.{ℕ}
+use lib.ListN.{length, take}
+use Rattle.table.specs.declared.Operator.{Operator}
+use Rattle.table.specs.declared.Operator.the-variants as O
+use Rattle.table.specs.Decoded.{wordsAt}
+use Rattle.sets.specs.declared.Way.{Way}
+use Rattle.sets.specs.declared.Way.the-variants.{Block, Hide, Rename, Comm, Allow}
+use Rattle.sets.specs.Building.{Building, each, imaged}
+use Rattle.growth.specs.Exchanging.{exchangeList}
+
+-- The way of an operator, and its list as the way takes it: of rules, the first eight.
+abbrev pub ruleList : List ℕ → List ℕ
+ruleList ws = take (length (take 16 ws)) (exchangeList (take 16 ws))
+
+abbrev pub wayFor : Operator → Way
+wayFor (O.Block p) = Block
+wayFor (O.Hide p) = Hide
+wayFor (O.Rename p) = Rename
+wayFor (O.Comm p) = Comm
+wayFor (O.Allow p) = Allow
+
+abbrev pub wordsFor : List ℕ → Operator → List ℕ
+wordsFor store (O.Block p) = wordsAt store p 1
+wordsFor store (O.Hide p) = wordsAt store p 1
+wordsFor store (O.Rename p) = wordsAt store p 1
+wordsFor store (O.Comm p) = ruleList (wordsAt store p 2)
+wordsFor store (O.Allow p) = wordsAt store p 1
+
+-- what a way makes of each label of a list goes into a set
+abbrev pub throughBuilt : ℕ → Way → List ℕ → List ℕ → List ℕ → Building
+throughBuilt room way list a s = each (imaged room way list) a s

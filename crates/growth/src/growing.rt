@@ -1,0 +1,85 @@
+// What labels that are new since the round before give goes into a set. Sets only grow, so that one as it was and as it is are
+// gone through side by side, and what was there then is passed over.
+use crate::Giving;
+use labels::packing::read_label;
+use labels::packing::same;
+use places::Growth;
+use places::Part;
+use sets::Built;
+use sets::imaging::add_image;
+use sets::multiplying::add_product;
+use sets::placing::end_before;
+use sets::placing::reach;
+ghost use mathlib.Core.Path.{_≡_};
+ghost use mathlib.Core.Bool.{_&&_};
+ghost use lib.Dec.{ltb, eqb};
+ghost use lib.ListN.{length, getD};
+ghost use Rattle.sets.specs.Parts.{roomAt};
+ghost use Rattle.sets.specs.Building.{Grown, each};
+ghost use Rattle.places.specs.Laying.{wordsOf};
+ghost use Rattle.growth.specs.Fresh.{newIn, given};
+
+// What the labels of a part give.
+fn add_part(
+    work: &mut [u64],
+    giving: Giving,
+    part: Part,
+    list: &[u64],
+    at: usize,
+    len: usize,
+    most: usize,
+) -> Built
+    ensures { λ r. ⌜ Grown (each (given (roomAt at most (length (now (work .entry)))) at (now (work .entry)) giving (now (list .entry))) (wordsOf at part (now (work .entry)))) at len (now (work .entry)) (now (work .exit)) r ⌝ }
+{
+    match giving {
+        Giving::Through(way) => add_image(work, part.from, part.to, way, list, at, len, most),
+        Giving::Times(by) => {
+            add_product(work, part.from, part.to, by.from, by.to, at, len, most)
+        }
+    }
+}
+
+// Whether the label at a place is the one that stands next among those that are known.
+fn stands_next(work: &[u64], next: usize, end: usize, i: usize) -> bool
+    ensures { λ r. ⌜ r ≡ ltb next end && eqb (getD (now (work .entry)) next 0) (getD (now (work .entry)) i 0) ⌝ }
+{
+    next < end && same(read_label(work, next), read_label(work, i))
+}
+
+// What the new labels of a set give.
+pub fn add_new(
+    work: &mut [u64],
+    set: Growth,
+    giving: Giving,
+    list: &[u64],
+    at: usize,
+    len: usize,
+    most: usize,
+) -> Built
+    ensures { λ r. ⌜ Grown (each (given (roomAt at most (length (now (work .entry)))) at (now (work .entry)) giving (now (list .entry))) (newIn at set (now (work .entry)))) at len (now (work .entry)) (now (work .exit)) r ⌝ }
+{
+    let known = set.known;
+    let part = set.part;
+    let known_end = end_before(work, known.to, at);
+    if known_end <= known.from {
+        return add_part(work, giving, part, list, at, len, most);
+    }
+    let end = end_before(work, part.to, at);
+    let mut count = reach(work, at, len);
+    let mut next = known.from;
+    let mut i = part.from;
+    while i < end {
+        if stands_next(work, next, known_end, i) {
+            next += 1;
+        } else {
+            let one = Part { from: i, to: i + 1 };
+            let step = add_part(work, giving, one, list, at, count, most);
+            let Built::Holds(n) = step else {
+                return Built::TooLarge;
+            };
+            count = n;
+        }
+        i += 1;
+    }
+    Built::Holds(count)
+}

@@ -1,0 +1,28 @@
+-- What is built for two operands: all of it, or what is added to a set for the new labels of both.
+-- Assumes nothing.
+use mathlib.Core.Bool.{Bool, true, false}
+use mathlib.Core.List.{List, []}
+use Prim.Native.Nat.{ℕ}
+use Rattle.sets.specs.declared.Way.the-variants.{Copy}
+use Rattle.sets.specs.Building.{Building, next, multiplied}
+use Rattle.growth.specs.Ways.{throughBuilt}
+use Rattle.shapes.specs.Making.{eitherBuilt, bothBuilt}
+
+-- What is added to a set for the new labels of two others: those labels; every sum with one of them.
+abbrev pub eitherAdded : ℕ → (newA newB : List ℕ) → List ℕ → Building
+eitherAdded room newA newB s = next (throughBuilt room Copy [] newA s) (throughBuilt room Copy [] newB)
+
+abbrev pub jointAdded : ℕ → (newA a newB b : List ℕ) → List ℕ → Building
+jointAdded room newA a newB b s = next (multiplied room newA b s) (multiplied room newB a)
+
+abbrev pub bothAdded : ℕ → (newA a newB b : List ℕ) → List ℕ → Building
+bothAdded room newA a newB b s = next (eitherAdded room newA newB s) (jointAdded room newA a newB b)
+
+-- `sums` says whether every sum goes in as well.
+abbrev pub wholeOf : (sums : Bool) → ℕ → (a b : List ℕ) → List ℕ → Building
+wholeOf true room a b = bothBuilt room a b
+wholeOf false room a b = eitherBuilt room a b
+
+abbrev pub addedOf : (sums : Bool) → ℕ → (newA a newB b : List ℕ) → List ℕ → Building
+addedOf true room newA a newB b = bothAdded room newA a newB b
+addedOf false room newA a newB b = eitherAdded room newA newB

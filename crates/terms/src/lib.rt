@@ -1,0 +1,50 @@
+// The set of a term in a round: worked out from the sets that stand in the work area, or copied from the round before.
+mod building;
+
+use crate::building::work_out;
+use places::laying::lay;
+use places::starts::left_of;
+use places::starts::part_at;
+use places::starts::place_of;
+use sets::Built;
+use shapes::sameness::unchanged;
+use shapes::shaping::shape_of;
+use table::Term;
+ghost use lib.ListN.{length};
+ghost use Rattle.sets.specs.Parts.{roomAt};
+ghost use Rattle.sets.specs.Building.{Grown};
+ghost use Rattle.places.specs.Starts.{partIn, placeIn, leftIn};
+ghost use Rattle.places.specs.Laying.{copyBuilt};
+ghost use Rattle.terms.specs.Terms.{TermBuilt};
+
+// The set of a term as it was in the round before.
+fn copied(n: usize, before: &[usize], this: &[usize], work: &mut [u64]) -> Built
+    ensures { λ r. ⌜ Grown (copyBuilt (roomAt (placeIn (now (this .entry)) n) (leftIn (now (this .entry)) n) (length (now (work .entry)))) (partIn (placeIn (now (this .entry)) n) 0 (now (before .entry)) n (now (work .entry)))) (placeIn (now (this .entry)) n) 0 (now (work .entry)) (now (work .exit)) r ⌝ }
+{
+    lay(
+        work,
+        part_at(before, n, false),
+        place_of(this, n),
+        left_of(this, n),
+    )
+}
+
+// A term's set, copied where what it is built of stayed.
+pub fn next_term(
+    term: Term,
+    store: &[u64],
+    bodies: &[usize],
+    n: usize,
+    older: &[usize],
+    before: &[usize],
+    this: &[usize],
+    work: &mut [u64],
+) -> Built
+    ensures { λ r. ⌜ TermBuilt term (now (store .entry)) (now (bodies .entry)) n (now (older .entry)) (now (before .entry)) (now (this .entry)) (now (work .entry)) (now (work .exit)) r ⌝ }
+{
+    let shape = shape_of(term);
+    if unchanged(shape, bodies, older, before, this) {
+        return copied(n, before, this, work);
+    }
+    work_out(shape, store, bodies, n, before, this, work)
+}
