@@ -11,7 +11,7 @@ use Rattle.table.specs.declared.Term.the-variants.{Delta, Tau, Act, Ref, Sum, C
 use Rattle.sets.specs.declared.Way.the-variants.{Copy}
 use Rattle.sets.specs.Parts.{partBefore}
 use Rattle.sets.specs.Building.{Building, done, stopped, next, multiplied}
-use Rattle.shapes.specs.declared.Part.{Part}
+use Rattle.sets.specs.declared.Part.{Part}
 use Rattle.table.specs.declared.Operator.{Operator}
 use Rattle.shapes.specs.Fresh.{fresh}
 use Rattle.shapes.specs.Ways.{wayFor, wordsFor}

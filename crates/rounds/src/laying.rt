@@ -1,9 +1,9 @@
 // A set laid where it is to stand, as it stands elsewhere in the work area.
 use crate::moving::carry;
 use sets::Built;
+use sets::Part;
 use sets::placing::end_before;
 use sets::placing::room;
-use shapes::Part;
 ghost use lib.ListN.{length};
 ghost use Rattle.sets.specs.Parts.{roomAt};
 ghost use Rattle.sets.specs.Building.{Grown};

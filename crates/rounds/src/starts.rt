@@ -1,6 +1,6 @@
 // Where the sets of terms stand in their half of the work area.
+use sets::Part;
 use shapes::Growth;
-use shapes::Part;
 use shapes::starts::end_of;
 use shapes::starts::start_of;
 ghost use mathlib.Core.Path.{_≡_};

@@ -10,9 +10,10 @@ use crate::starts::place_of;
 use labels::bags::single;
 use labels::packing::tau;
 use sets::Built;
+use sets::Part;
+use sets::Target;
 use sets::joining::union;
 use sets::multiplying::add_product;
-use shapes::Part;
 use shapes::making::both;
 use shapes::making::leaf;
 use shapes::operators::wrapped;
@@ -74,9 +75,9 @@ fn whole(work: &mut [u64], a: Part, b: Part, sums: bool, at: usize, most: usize)
     ensures { λ r. ⌜ Grown (wholeOf sums (roomAt at most (length (now (work .entry)))) (wordsOf at a (now (work .entry))) (wordsOf at b (now (work .entry)))) at 0 (now (work .entry)) (now (work .exit)) r ⌝ }
 {
     if sums {
-        both(work, a.from, a.to, b.from, b.to, at, most)
+        both(work, a, b, at, most)
     } else {
-        union(work, a.from, a.to, b.from, b.to, at, most)
+        union(work, a, b, at, most)
     }
 }
 
@@ -113,7 +114,7 @@ fn of_joint(work: &mut [u64], this: &[usize], t: usize, u: usize, at: usize, mos
 {
     let a = part_at(this, t, HALF);
     let b = part_at(this, u, HALF);
-    add_product(work, a.from, a.to, b.from, b.to, at, 0, most)
+    add_product(work, a, b, Target { at, len: 0, most })
 }
 
 fn of_wrap(

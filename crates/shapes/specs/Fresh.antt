@@ -4,9 +4,8 @@ use mathlib.Core.Bool.{true, false}
 use mathlib.Core.List.{List, [], _∷_}
 use Prim.Native.Nat.{ℕ}
 use lib.Dec.{eqb}
-use Rattle.sets.specs.Parts.{partBefore}
+pub use Rattle.sets.specs.Parts.{wordsOf}
 use Rattle.sets.specs.Building.{Building, each, imaged, row}
-use Rattle.shapes.specs.declared.Part.{Part}
 use Rattle.shapes.specs.declared.Growth.{Growth}
 use Rattle.shapes.specs.declared.Giving.{Giving}
 use Rattle.shapes.specs.declared.Giving.the-variants.{Through, Times}
@@ -17,10 +16,6 @@ unfoldable pub fresh : List ℕ → List ℕ → List ℕ
 fresh known [] = []
 fresh [] (w ∷ ws) = w ∷ ws
 fresh (v ∷ known) (w ∷ ws) = elim (eqb v w) [ true ↦ fresh known ws | false ↦ w ∷ fresh (v ∷ known) ws ]
-
--- the words of a part that stands before a place
-abbrev pub wordsOf : ℕ → Part → List ℕ → List ℕ
-wordsOf at p ls = partBefore at (p .from) (p .to) ls
 
 -- the new labels of a set, as far as it stands before a place
 abbrev pub newIn : ℕ → Growth → List ℕ → List ℕ

@@ -2,10 +2,11 @@
 // gone through side by side, and what was there then is passed over.
 use crate::Giving;
 use crate::Growth;
-use crate::Part;
 use labels::packing::read_label;
 use labels::packing::same;
 use sets::Built;
+use sets::Part;
+use sets::Target;
 use sets::imaging::add_image;
 use sets::multiplying::add_product;
 use sets::placing::end_before;
@@ -31,10 +32,8 @@ fn add_part(
     ensures { λ r. ⌜ Grown (each (given (roomAt at most (length (now (work .entry)))) at (now (work .entry)) giving (now (list .entry))) (wordsOf at part (now (work .entry)))) at len (now (work .entry)) (now (work .exit)) r ⌝ }
 {
     match giving {
-        Giving::Through(way) => add_image(work, part.from, part.to, way, list, at, len, most),
-        Giving::Times(by) => {
-            add_product(work, part.from, part.to, by.from, by.to, at, len, most)
-        }
+        Giving::Through(way) => add_image(work, part, way, list, Target { at, len, most }),
+        Giving::Times(by) => add_product(work, part, by, Target { at, len, most }),
     }
 }
 

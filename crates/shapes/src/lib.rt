@@ -7,13 +7,8 @@ pub mod operators;
 pub mod sameness;
 pub mod starts;
 
+use sets::Part;
 use sets::Way;
-
-// A set in the work area, from a place up to another.
-pub struct Part {
-    pub from: usize,
-    pub to: usize,
-}
 
 // A set as it was in the round before and as it is in this one.
 pub struct Growth {

@@ -2,12 +2,14 @@
 use labels::Label;
 use sets::Built;
 use sets::Inserted;
+use sets::Part;
+use sets::Target;
 use sets::inserting::insert;
 use sets::joining::union;
 use sets::multiplying::add_product;
 ghost use lib.ListN.{length};
 ghost use Rattle.labels.specs.Packing.{held, code};
-ghost use Rattle.sets.specs.Parts.{partBefore, roomAt};
+ghost use Rattle.sets.specs.Parts.{wordsOf, roomAt};
 ghost use Rattle.sets.specs.Building.{Grown};
 ghost use Rattle.shapes.specs.Making.{leafBuilt, bothBuilt};
 
@@ -15,7 +17,7 @@ ghost use Rattle.shapes.specs.Making.{leafBuilt, bothBuilt};
 pub fn leaf(work: &mut [u64], label: Label, at: usize, most: usize) -> Built
     ensures { λ r. ⌜ Grown (leafBuilt (roomAt at most (length (held (now (work .entry))))) (code label)) at 0 (held (now (work .entry))) (held (now (work .exit))) r ⌝ }
 {
-    let answer = insert(work, at, 0, most, label);
+    let answer = insert(work, Target { at, len: 0, most }, label);
     match answer {
         Inserted::Full => Built::TooLarge,
         Inserted::Present => Built::Holds(0),
@@ -24,20 +26,12 @@ pub fn leaf(work: &mut [u64], label: Label, at: usize, most: usize) -> Built
 }
 
 // Both of two parts, and their product.
-pub fn both(
-    work: &mut [u64],
-    from: usize,
-    to: usize,
-    by_from: usize,
-    by_to: usize,
-    at: usize,
-    most: usize,
-) -> Built
-    ensures { λ r. ⌜ Grown (bothBuilt (roomAt at most (length (held (now (work .entry))))) (partBefore at from to (held (now (work .entry)))) (partBefore at «by_from» «by_to» (held (now (work .entry))))) at 0 (held (now (work .entry))) (held (now (work .exit))) r ⌝ }
+pub fn both(work: &mut [u64], part: Part, by: Part, at: usize, most: usize) -> Built
+    ensures { λ r. ⌜ Grown (bothBuilt (roomAt at most (length (held (now (work .entry))))) (wordsOf at part (held (now (work .entry)))) (wordsOf at by (held (now (work .entry))))) at 0 (held (now (work .entry))) (held (now (work .exit))) r ⌝ }
 {
-    let first = union(work, from, to, by_from, by_to, at, most);
+    let first = union(work, part, by, at, most);
     let Built::Holds(n) = first else {
         return Built::TooLarge;
     };
-    add_product(work, from, to, by_from, by_to, at, n, most)
+    add_product(work, part, by, Target { at, len: n, most })
 }

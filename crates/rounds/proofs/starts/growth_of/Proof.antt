@@ -1,7 +1,7 @@
 -- `rounds::starts::growth_of` meets its contract: a part in each half.
 -- Assumes nothing.
 use mathlib.Core.Path.{ap₂}
-use Rattle.shapes.specs.declared.Part.{Part}
+use Rattle.sets.specs.declared.Part.{Part}
 use Rattle.shapes.specs.declared.Growth.{Growth}
 use borrow.Author.Needs.{needs}
 use Rattle.rounds.proofs.starts.growth_of.Statement.{statement}
