@@ -6,7 +6,7 @@ use Prim.Native.Nat.{ℕ}
 use lib.Dec.{eqb}
 use Rattle.sets.specs.Building.{Building, imaged, row}
 use Rattle.places.specs.declared.Growth.{Growth}
-use Rattle.places.specs.Laying.{wordsOf}
+use Rattle.sets.specs.Parts.{wordsOf}
 use Rattle.growth.specs.declared.Giving.{Giving}
 use Rattle.growth.specs.declared.Giving.the-variants.{Through, Times}
 

@@ -4,8 +4,9 @@ use crate::Giving;
 use labels::packing::read_label;
 use labels::packing::same;
 use places::Growth;
-use places::Part;
 use sets::Built;
+use sets::Part;
+use sets::Target;
 use sets::imaging::add_image;
 use sets::multiplying::add_product;
 use sets::placing::end_before;
@@ -14,9 +15,8 @@ ghost use mathlib.Core.Path.{_≡_};
 ghost use mathlib.Core.Bool.{_&&_};
 ghost use lib.Dec.{ltb, eqb};
 ghost use lib.ListN.{length, getD};
-ghost use Rattle.sets.specs.Parts.{roomAt};
+ghost use Rattle.sets.specs.Parts.{wordsOf, roomAt};
 ghost use Rattle.sets.specs.Building.{Grown, each};
-ghost use Rattle.places.specs.Laying.{wordsOf};
 ghost use Rattle.growth.specs.Fresh.{newIn, given};
 
 // What the labels of a part give.
@@ -32,10 +32,8 @@ fn add_part(
     ensures { λ r. ⌜ Grown (each (given (roomAt at most (length (now (work .entry)))) at (now (work .entry)) giving (now (list .entry))) (wordsOf at part (now (work .entry)))) at len (now (work .entry)) (now (work .exit)) r ⌝ }
 {
     match giving {
-        Giving::Through(way) => add_image(work, part.from, part.to, way, list, at, len, most),
-        Giving::Times(by) => {
-            add_product(work, part.from, part.to, by.from, by.to, at, len, most)
-        }
+        Giving::Through(way) => add_image(work, part, way, list, Target { at, len, most }),
+        Giving::Times(by) => add_product(work, part, by, Target { at, len, most }),
     }
 }
 

@@ -3,7 +3,7 @@ mod exchanging;
 pub mod growing;
 pub mod operators;
 
-use places::Part;
+use sets::Part;
 use sets::Way;
 
 // What labels give: what a way makes of each, or the sum of each with each label of a part.

@@ -6,7 +6,7 @@ use mathlib.Core.List.{List}
 use Prim.Native.Nat.{ℕ, suc, _+_, _-_, min}
 use lib.ListN.{getD}
 use Rattle.sets.specs.Parts.{partBefore}
-use Rattle.places.specs.declared.Part.{Part}
+use Rattle.sets.specs.declared.Part.{Part}
 use Rattle.places.specs.declared.Growth.{Growth}
 
 -- the middle and the end of what is used of the work area

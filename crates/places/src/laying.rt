@@ -1,13 +1,13 @@
 // A set laid where it is to stand, as it stands elsewhere in the work area.
-use crate::Part;
 use crate::carrying::carry;
 use sets::Built;
+use sets::Part;
 use sets::placing::end_before;
 use sets::placing::room;
 ghost use lib.ListN.{length};
-ghost use Rattle.sets.specs.Parts.{roomAt};
+ghost use Rattle.sets.specs.Parts.{wordsOf, roomAt};
 ghost use Rattle.sets.specs.Building.{Grown};
-ghost use Rattle.places.specs.Laying.{wordsOf, copyBuilt};
+ghost use Rattle.places.specs.Laying.{copyBuilt};
 
 // What of the part stands before the place is laid there, if there is room.
 pub fn lay(work: &mut [u64], part: Part, at: usize, most: usize) -> Built

@@ -6,14 +6,10 @@ pub mod moving;
 pub mod sameness;
 pub mod starts;
 
+use sets::Part;
+
 // The middle of what is used of the work area: so many labels all sets may have together.
 pub const HALF: usize = 2048;
-
-// A set in the work area, from a place up to another.
-pub struct Part {
-    pub from: usize,
-    pub to: usize,
-}
 
 // A set as it was in the round before and as it is in this one.
 pub struct Growth {

@@ -15,10 +15,10 @@ use Rattle.sets.specs.declared.Built.{Built}
 use Rattle.sets.specs.declared.Built.the-variants.{TooLarge, Holds}
 use Rattle.sets.specs.declared.Offer.{Offer}
 use Rattle.sets.specs.declared.Offer.the-variants.{Nothing, TooLong, Next}
-use Rattle.sets.specs.Parts.{setAt, roomAt}
+use Rattle.sets.specs.Parts.{setAt, roomAt, reachOf}
 use Rattle.sets.specs.Inserting.{inserted, Entered}
 use Rattle.sets.specs.Building.{Building, done, next, followed, enter, taken, Exchange, exchangesIn, exchangeOf, eachRule, closed, Grown}
-use Rattle.sets.proofs.Steps.{steady-closed, steady-eachRule, Going, going-start, going-length, going-end, going-stop, going-as, going-holds, going-large, going-last, grown-as, followed-stops, followed-stays, followed-going, followed-ends}
+use Rattle.sets.proofs.Steps.{Steady, steady-closed, steady-eachRule, Going, going-start, going-length, going-end, going-stop, going-as, going-holds, going-large, going-last, grown-as, followed-stops, followed-stays, followed-going, followed-ends, insertedThen}
 
 -- The rules from a label of the list on.
 exchanges-more : (ls : List ℕ) (i : ℕ) → i + 1 < length ls
@@ -38,53 +38,59 @@ none-left (x ∷ y ∷ l) h = absurd (omega arith)
 exchanges-end : (ls : List ℕ) (i : ℕ) → length ls ≤ i + 1 → exchangesIn (drop i ls) ≡ []
 exchanges-end ls i h = none-left (drop i ls) (rw (length-drop i ls) (omega arith))
 
--- The loop over the rules.
-module _ (at len most depth w : ℕ) (rules before : List ℕ) where
-  abbrev step : ℕ → ℕ → List ℕ → Building
-  step v room = closed room (exchangesIn rules) depth v
+-- The loop over the rules: what those from the i-th label of the list on make of w is to come.
+abbrev rulesFrom : (room depth w : ℕ) → List ℕ → ℕ → List ℕ → Building
+rulesFrom room depth w rules i = eachRule (closed room (exchangesIn rules) depth) (exchangesIn (drop i rules)) w
 
-  abbrev rest : ℕ → List ℕ → Building
-  rest i = eachRule (closed (roomAt at most (length before)) (exchangesIn rules) depth) (exchangesIn (drop i rules)) w
+pub record Following (at len most depth w : ℕ) (rules before now : List ℕ) (count i : ℕ) : Type 0 where
+  pub within : i ≤ length rules
+  pub going : Going at before now count (rulesFrom (roomAt at most (length before)) depth w rules i)
+      (rulesFrom (roomAt at most (length before)) depth w rules 0 (setAt at len before))
 
-  pub record Following (now : List ℕ) (count i : ℕ) : Type 0 where
-    pub within : i ≤ length rules
-    pub going : Going at before now count (eachRule (closed (roomAt at most (length before)) (exchangesIn rules) depth) (exchangesIn (drop i rules)) w)
-        (eachRule (closed (roomAt at most (length before)) (exchangesIn rules) depth) (exchangesIn rules) w (setAt at len before))
+pub following-start : (at len most depth w : ℕ) (rules before : List ℕ) → len ≤ length before - at
+    → Following at len most depth w rules before before len 0
+following-start at len most depth w rules before h =
+    record { within = zero-le; going = going-start at before len (rulesFrom (roomAt at most (length before)) depth w rules 0) h }
 
-  abbrev pub Followed : List ℕ → Built → Type 0
+module _ {at len most depth w : ℕ} {rules before now : List ℕ} {count i : ℕ} (x : Following at len most depth w rules before now count i) where
+  abbrev Followed : List ℕ → Built → Type 0
   Followed after r = Grown (eachRule (closed (roomAt at most (length before)) (exchangesIn rules) depth) (exchangesIn rules) w) at len before after r
 
-  pub following-start : len ≤ length before - at → Following before len 0
-  following-start h = record { within = zero-le; going = going-start at before len (rest 0) h }
+  abbrev rest : ℕ → List ℕ → Building
+  rest = rulesFrom (roomAt at most (length before)) depth w rules
 
-  module _ {now : List ℕ} {count i : ℕ} (x : Following now count i) where
-    pub following-end : length rules ≤ i + 1 → Followed now (Holds count)
+  pub following-end : length rules ≤ i + 1 → Followed now (Holds count)
+  unfolding eachRule
+  following-end h = let p = going-end (x .going) (λ s. rw (exchanges-end rules i h)) in record { answer = p .0; words = p .1 }
+
+  module _ (h : i + 1 < length rules) {o : Offer} (made : o ≡ exchangeOf (getD rules i 0) (getD rules (i + 1) 0) w) where
+    offered : Going at before now count (λ s. next (taken (closed (roomAt at most (length before)) (exchangesIn rules) depth) o s) (rest (i + 2)))
+        (rest 0 (setAt at len before))
     unfolding eachRule
-    following-end h = let p = going-end (x .going) (λ s. rw (exchanges-end rules i h)) in record { answer = p .0; words = p .1 }
+    offered = going-as _ (x .going) (λ s. rw (exchanges-more rules i h, made))
 
-    module _ (h : i + 1 < length rules) (o : Offer) (made : o ≡ exchangeOf (getD rules i 0) (getD rules (i + 1) 0) w) where
-      offered : Going at before now count (λ s. next (taken (closed (roomAt at most (length before)) (exchangesIn rules) depth) o s) (rest (i + 2)))
-          (rest 0 (setAt at len before))
-      unfolding eachRule
-      offered = going-as _ (x .going) (λ s. rw (exchanges-more rules i h, made))
+    pub following-nothing : o ≡ Nothing → Following at len most depth w rules before now count (i + 2)
+    following-nothing e = record { within = omega arith; going = going-as (rest (i + 2)) offered (λ s. rw e) }
 
-      pub following-nothing : o ≡ Nothing → Following now count (i + 2)
-      following-nothing e = record { within = omega arith; going = going-as (rest (i + 2)) offered (λ s. rw e) }
+    pub following-long : o ≡ TooLong → Followed now TooLarge
+    following-long e = let p = going-stop offered (λ s. rw e) in record { answer = p .0; words = p .1 }
 
-      pub following-long : o ≡ TooLong → Followed now TooLarge
-      following-long e = let p = going-stop offered (λ s. rw e) in record { answer = p .0; words = p .1 }
+    module _ (a : Label) (e : o ≡ Next a) {after : List ℕ} {r : Built}
+        (g : Grown (closed (roomAt at most (length now)) (exchangesIn rules) depth (code a)) at count now after r) where
+      abbrev step : ℕ → List ℕ → Building
+      step room = closed room (exchangesIn rules) depth (code a)
 
-      module _ (a : Label) (e : o ≡ Next a) {after : List ℕ} {r : Built} (g : Grown (step (code a) (roomAt at most (length now))) at count now after r) where
-        goes : Going at before now count (λ s. next (step (code a) (roomAt at most (length before)) s) (rest (i + 2))) (rest 0 (setAt at len before))
-        goes = going-as _ offered (λ s. rw e)
+      steady : (room : ℕ) → Steady room (step room)
+      steady room = steady-closed room (exchangesIn rules) depth (code a)
 
-        pub following-next : (n : ℕ) → r ≡ Holds n → Following after n (i + 2)
-        following-next n f = record { within = omega arith; going = going-holds most (step (code a)) (rest (i + 2)) (λ room. steady-closed room (exchangesIn rules) depth (code a)) goes g n f }
+      goes : Going at before now count (λ s. next (step (roomAt at most (length before)) s) (rest (i + 2))) (rest 0 (setAt at len before))
+      goes = going-as _ offered (λ s. rw e)
 
-        pub following-large : r ≡ TooLarge → Followed after TooLarge
-        following-large f =
-            let p = going-large most (step (code a)) (rest (i + 2)) (λ room. steady-closed room (exchangesIn rules) depth (code a)) goes g f in
-            record { answer = p .0; words = p .1 }
+      pub following-next : (n : ℕ) → r ≡ Holds n → Following at len most depth w rules before after n (i + 2)
+      following-next n f = record { within = omega arith; going = going-holds most step (rest (i + 2)) steady goes g n f }
+
+      pub following-large : r ≡ TooLarge → Followed after TooLarge
+      following-large f = let p = going-large most step (rest (i + 2)) steady goes g f in record { answer = p .0; words = p .1 }
 
 -- A label and what follows from it.
 pub more : ℕ → List Exchange → ℕ → ℕ → List ℕ → Building
@@ -101,33 +107,33 @@ pub closed-alone : (room : ℕ) (rs : List Exchange) (depth w : ℕ) → depth �
 unfolding closed
 closed-alone room rs depth w z s = rw z
 
-module _ (at len most w : ℕ) (ls after : List ℕ) (within : len ≤ length ls - at) (rs : List Exchange) (depth : ℕ) (o : Inserted) (x : Entered at len most w ls after o) where
+module _ {at len most w : ℕ} {ls after : List ℕ} {o : Inserted} (x : Entered at len most w ls after o) (rs : List Exchange) (depth : ℕ) where
   pub closed-stops : o ≡ Full → Grown (closed (roomAt at most (length ls)) rs depth w) at len ls after TooLarge
-  closed-stops e =
-      grown-as (closed-is (roomAt at most (length ls)) rs depth w) (followed-stops at len most w ls after within o (more (roomAt at most (length ls)) rs depth w) x e)
+  closed-stops e = grown-as (closed-is (roomAt at most (length ls)) rs depth w) (followed-stops x (more (roomAt at most (length ls)) rs depth w) e)
 
-  pub closed-stays : o ≡ Present → Grown (closed (roomAt at most (length ls)) rs depth w) at len ls after (Holds len)
-  closed-stays e =
-      grown-as (closed-is (roomAt at most (length ls)) rs depth w) (followed-stays at len most w ls after within o (more (roomAt at most (length ls)) rs depth w) x e)
+  module _ (count : ℕ) (reached : count ≡ reachOf at len (length ls)) where
+    pub closed-stays : o ≡ Present → Grown (closed (roomAt at most (length ls)) rs depth w) at len ls after (Holds count)
+    closed-stays e =
+        grown-as (closed-is (roomAt at most (length ls)) rs depth w) (followed-stays x count reached (more (roomAt at most (length ls)) rs depth w) e)
 
-  pub closed-ends : o ≡ Added → depth ≡ 0 → Grown (closed (roomAt at most (length ls)) rs depth w) at len ls after (Holds (len + 1))
-  closed-ends e z = grown-as (closed-alone (roomAt at most (length ls)) rs depth w z) (followed-ends at len most w ls after within o x e)
+    pub closed-ends : o ≡ Added → depth ≡ 0 → Grown (closed (roomAt at most (length ls)) rs depth w) at len ls after (Holds (count + 1))
+    closed-ends e z = grown-as (closed-alone (roomAt at most (length ls)) rs depth w z) (followed-ends x count reached e)
 
-  -- the room and the length that the rules are followed with
-  pub closed-within : o ≡ Added → len + 1 ≤ length after - at
-  closed-within e = going-length (followed-going at len most w ls after within o done x e) .1
+    -- the room and the length that the rules are followed with
+    pub closed-within : o ≡ Added → count + 1 ≤ length after - at
+    closed-within e = going-length (followed-going x count reached done e) .1
 
-  pub closed-goes : o ≡ Added → (depth ≡ 0 → ⊥) → {last : List ℕ} {r : Built}
-      → Grown (eachRule (closed (roomAt at most (length after)) rs (depth - 1)) rs w) at (len + 1) after last r
-      → Grown (closed (roomAt at most (length ls)) rs depth w) at len ls last r
-  unfolding more
-  closed-goes e n g =
-      let d : depth ≡ suc (depth - 1) = omega arith in
-      let p = going-last most (λ room. eachRule (closed room rs (depth - 1)) rs w)
-      (λ room. steady-eachRule room (closed room rs (depth - 1)) rs w (steady-closed room rs (depth - 1)))
-      (followed-going at len most w ls after within o (eachRule (closed (roomAt at most (length ls)) rs (depth - 1)) rs w) x e) g in
-      grown-as (λ s. deeper s d) (record { answer = p .0; words = p .1 })
-    where
-      deeper : (s : List ℕ) → depth ≡ suc (depth - 1)
-          → followed (inserted (roomAt at most (length ls)) w s) w (eachRule (closed (roomAt at most (length ls)) rs (depth - 1)) rs w) s ≡ closed (roomAt at most (length ls)) rs depth w s
-      deeper s d = closed-is (roomAt at most (length ls)) rs (suc (depth - 1)) w s ∙ ap (λ (k : ℕ). closed (roomAt at most (length ls)) rs k w s) (sym d)
+    pub closed-goes : o ≡ Added → (depth ≡ 0 → ⊥) → {last : List ℕ} {r : Built}
+        → Grown (eachRule (closed (roomAt at most (length after)) rs (depth - 1)) rs w) at (count + 1) after last r
+        → Grown (closed (roomAt at most (length ls)) rs depth w) at len ls last r
+    unfolding more
+    closed-goes e n g =
+        let d : depth ≡ suc (depth - 1) = omega arith in
+        let step : ℕ → List ℕ → Building = λ room. eachRule (closed room rs (depth - 1)) rs w in
+        let p = going-last most step (λ room. steady-eachRule room (closed room rs (depth - 1)) rs w (steady-closed room rs (depth - 1)))
+        (followed-going x count reached (step (roomAt at most (length ls))) e) g in
+        grown-as (λ s. deeper s d) (record { answer = p .0; words = p .1 })
+      where
+        deeper : (s : List ℕ) → depth ≡ suc (depth - 1)
+            → insertedThen (roomAt at most (length ls)) w (eachRule (closed (roomAt at most (length ls)) rs (depth - 1)) rs w) s ≡ closed (roomAt at most (length ls)) rs depth w s
+        deeper s d = closed-is (roomAt at most (length ls)) rs (suc (depth - 1)) w s ∙ ap (λ (k : ℕ). closed (roomAt at most (length ls)) rs k w s) (sym d)

@@ -18,7 +18,7 @@ use Rattle.sets.specs.declared.Built.the-variants.{TooLarge, Holds}
 use Rattle.sets.specs.declared.Offer.{Offer}
 use Rattle.sets.specs.declared.Offer.the-variants.{Nothing, TooLong, Next}
 use Rattle.sets.specs.declared.Way.{Way}
-use Rattle.sets.specs.Parts.{setAt, laid, roomAt}
+use Rattle.sets.specs.Parts.{setAt, laid, roomAt, reachOf}
 use Rattle.sets.specs.Inserting.{present, putIn, pickInserted, inserted, Entered}
 use Rattle.sets.specs.Building.{Building, done, stopped, pickBuilt, answerOf, goesOn, next, each, followed, enter, taken, summed, Exchange, exchangesIn, exchangeOf, eachRule, closed, offerOf, depthOf, imaged, added, row, Grown}
 use Rattle.sets.proofs.Laid.{Fits, length-setAt, laid-self, length-laid, setAt-laid, laid-laid}
@@ -194,27 +194,28 @@ grown-as {at = at} {len} {before} h x =
     record { answer = x .answer ∙ ap answerOf e; words = x .words ∙ ap (λ (b : Building). laid at (b .set) before) e }
 
 -- What follows an insertion.
-module _ (at len most w : ℕ) (ls after : List ℕ) (within : len ≤ length ls - at) where
-  pub followed-stops : (o : Inserted) (more : List ℕ → Building) → Entered at len most w ls after o → o ≡ Full
-      → Grown (λ s. followed (inserted (roomAt at most (length ls)) w s) w more s) at len ls after TooLarge
-  followed-stops o more x e = let i = sym (x .answer) ∙ e in record { answer = rw i; words = x .words ∙ rw (e, i) }
+abbrev pub insertedThen : ℕ → ℕ → (List ℕ → Building) → List ℕ → Building
+insertedThen room w more s = followed (inserted room w s) w more s
 
-  pub followed-stays : (o : Inserted) (more : List ℕ → Building) → Entered at len most w ls after o → o ≡ Present
-      → Grown (λ s. followed (inserted (roomAt at most (length ls)) w s) w more s) at len ls after (Holds len)
-  followed-stays o more x e =
-      let i = sym (x .answer) ∙ e in
-      let l : len ≡ length (setAt at len ls) = let k = length-setAt at len ls in omega arith in
-      record { answer = rw i (ap Holds l); words = x .words ∙ rw (e, i) }
+module _ {at len most w : ℕ} {ls after : List ℕ} {o : Inserted} (x : Entered at len most w ls after o) where
+  pub followed-stops : (more : List ℕ → Building) → o ≡ Full → Grown (insertedThen (roomAt at most (length ls)) w more) at len ls after TooLarge
+  followed-stops more e = let i = sym (x .answer) ∙ e in record { answer = rw i; words = x .words ∙ rw (e, i) }
 
-  -- a label was put in: what goes on from there
-  pub followed-going : (o : Inserted) (more : List ℕ → Building) → Entered at len most w ls after o → o ≡ Added
-      → Going at ls after (len + 1) more (followed (inserted (roomAt at most (length ls)) w (setAt at len ls)) w more (setAt at len ls))
-  followed-going o more x e =
-      let i = sym (x .answer) ∙ e in
-      let k = length-putIn (setAt at len ls) w in
-      let l = length-setAt at len ls in
-      let room = inserted-room (roomAt at most (length ls)) w (setAt at len ls) i in
-      record { set = putIn (setAt at len ls) w; held = x .words ∙ rw e; count = omega arith; fits = omega arith; goes = rw i }
+  module _ (count : ℕ) (reached : count ≡ reachOf at len (length ls)) where
+    pub followed-stays : (more : List ℕ → Building) → o ≡ Present → Grown (insertedThen (roomAt at most (length ls)) w more) at len ls after (Holds count)
+    followed-stays more e =
+        let i = sym (x .answer) ∙ e in
+        let l : count ≡ length (setAt at len ls) = reached ∙ sym (length-setAt at len ls) in
+        record { answer = rw i (ap Holds l); words = x .words ∙ rw (e, i) }
 
-  pub followed-ends : (o : Inserted) → Entered at len most w ls after o → o ≡ Added → Grown (enter (roomAt at most (length ls)) w) at len ls after (Holds (len + 1))
-  followed-ends o x e = let p = going-end (followed-going o done x e) (λ s. refl) in record { answer = p .0; words = p .1 }
+    -- a label was put in: what goes on from there
+    pub followed-going : (more : List ℕ → Building) → o ≡ Added → Going at ls after (count + 1) more (insertedThen (roomAt at most (length ls)) w more (setAt at len ls))
+    followed-going more e =
+        let i = sym (x .answer) ∙ e in
+        let k = length-putIn (setAt at len ls) w in
+        let l = length-setAt at len ls in
+        let room = inserted-room (roomAt at most (length ls)) w (setAt at len ls) i in
+        record { set = putIn (setAt at len ls) w; held = x .words ∙ rw e; count = omega arith; fits = omega arith; goes = rw i }
+
+    pub followed-ends : o ≡ Added → Grown (enter (roomAt at most (length ls)) w) at len ls after (Holds (count + 1))
+    followed-ends e = let p = going-end (followed-going done e) (λ s. refl) in record { answer = p .0; words = p .1 }

@@ -1,8 +1,7 @@
 -- A walk over a part that stands before the set that is built: label by label, each goes through a step.
 -- Assumes nothing.
-use mathlib.Core.Path.{_≡_, refl, sym, ap, ap₂, subst, _∙_}
-use mathlib.Core.Bool.{Bool, true, false}
-use mathlib.Core.List.{List, [], _∷_}
+use mathlib.Core.Path.{_≡_, sym, ap, ap₂, _∙_}
+use mathlib.Core.List.{List, []}
 use Prim.Native.Nat.{ℕ, _+_, _-_, _≤_, _<_, min}
 use native.Mathlib.Decide.{decLe}
 use native.Mathlib.Numerals.{add-one}
@@ -11,10 +10,12 @@ use lib.ListN.{length, getD, take, drop, length-take, drop-of-length-le}
 use lib.Seq.{take-take, take-all, slice-cons}
 use Rattle.sets.specs.declared.Built.{Built}
 use Rattle.sets.specs.declared.Built.the-variants.{TooLarge, Holds}
-use Rattle.sets.specs.Parts.{setAt, laid, partBefore, roomAt, reachOf}
-use Rattle.sets.specs.Building.{Building, goesOn, next, answerOf, each, Grown}
+use Rattle.sets.specs.declared.Part.{Part}
+use Rattle.sets.specs.declared.Target.{Target}
+use Rattle.sets.specs.Parts.{setAt, laid, partBefore, wordsOf, roomAt, reachOf}
+use Rattle.sets.specs.Building.{Building, answerOf, next, each, Grown, GrownAt}
 use Rattle.sets.proofs.Laid.{setAt-reach, getD-laid, take-laid, take-min}
-use Rattle.sets.proofs.Steps.{Steady, Going, going-start, going-end, going-as, going-holds, going-large}
+use Rattle.sets.proofs.Steps.{Steady, Going, going-start, going-length, going-end, going-as, going-holds, going-large}
 
 -- A part before a place, by its end in the list; it does not change while the set is built.
 take-both : (m n : ℕ) (l : List ℕ) → take m (take n l) ≡ take (min m n) l
@@ -31,54 +32,65 @@ pub part-stays : {at len : ℕ} {before now : List ℕ} {rest : List ℕ → Bui
 part-stays {at} {before = before} from to x =
     ap (λ (l : List ℕ). drop from (take to l)) (ap (take at) (x .held) ∙ take-laid at (x .set) before (x .fits))
 
--- The walk: what the labels from the i-th on give is to come.
-abbrev pub Walk : ℕ → List ℕ → ℕ → (ℕ → List ℕ → Building) → Building → List ℕ → ℕ → ℕ → Type 0
-Walk at before end step goal now count i = Going at before now count (each step (drop i (take end before))) goal
+-- The walk from one place up to another: what the labels from the i-th on give is to come. A step is what a label gives in the
+-- room; the set had `start` labels.
+module _ (step : ℕ → ℕ → List ℕ → Building) (at most : ℕ) (before : List ℕ) (start end from : ℕ) where
+  pub record Walk (now : List ℕ) (count i : ℕ) : Type 0 where
+    pub within : (end ≤ at) × (end ≤ length before)
+    pub going : Going at before now count (each (step (roomAt at most (length before))) (drop i (take end before)))
+        (each (step (roomAt at most (length before))) (drop from (take end before)) (setAt at start before))
 
-module _ (at : ℕ) (before : List ℕ) (from to : ℕ) (step : ℕ → List ℕ → Building) where
-  pub walk-start : (len count end : ℕ) → count ≡ reachOf at len (length before) → end ≡ min (min to at) (length before)
-      → Walk at before end step (each step (partBefore at from to before) (setAt at len before)) before count from
-  walk-start len count end e f =
-      subst (λ (goal : Building). Walk at before end step goal before count from) same
-      (going-start at before count (each step (drop from (take end before))) (omega arith))
-    where
-      same : each step (drop from (take end before)) (setAt at count before) ≡ each step (partBefore at from to before) (setAt at len before)
-      same = ap₂ (each step) (ap (λ (n : ℕ). drop from (take n before)) f ∙ sym (part-end at from to before)) (rw e (setAt-reach at len before))
+  pub walk-start : (start ≤ length before - at) × (end ≤ at) × (end ≤ length before) → Walk before start from
+  walk-start h = record { within = (h .1, h .2); going = going-start at before start (each (step (roomAt at most (length before))) (drop from (take end before))) (h .0) }
 
-module _ (step : ℕ → List ℕ → Building) {at end : ℕ} {before now : List ℕ} {goal : Building} {count i : ℕ} (x : Walk at before end step goal now count i) where
-  pub walk-end : end ≤ length before → end ≤ i → (Holds count ≡ answerOf goal) × (now ≡ laid at (goal .set) before)
+module _ {step : ℕ → ℕ → List ℕ → Building} {at most : ℕ} {before : List ℕ} {start end from : ℕ} {now : List ℕ} {count i : ℕ}
+    (x : Walk step at most before start end from now count i) where
+  abbrev pub Walked : List ℕ → Built → Type 0
+  Walked after r = Grown (each (step (roomAt at most (length before))) (drop from (take end before))) at start before after r
+
+  pub walk-length : (length now ≡ length before) × (count ≤ length now - at)
+  walk-length = going-length (x .going)
+
+  pub walk-end : end ≤ i → Walked now (Holds count)
   unfolding each
-  walk-end h k = going-end x (λ s. rw (drop-of-length-le (take end before) {i = i} (rw (length-take end before) (omega arith))))
+  walk-end k =
+      let b = x .within in
+      let none : drop i (take end before) ≡ [] = drop-of-length-le (take end before) {i = i} (rw (length-take end before) (omega arith)) in
+      let q = going-end (x .going) (λ s. rw none) in
+      record { answer = q .0; words = q .1 }
 
-  pub walk-next : (w : ℕ) → end ≤ length before → end ≤ at → i < end → w ≡ getD now i 0
-      → Going at before now count (λ s. next (step w s) (each step (drop (i + 1) (take end before)))) goal
-  unfolding each
-  walk-next w h k l e =
-      let read : w ≡ getD before i 0 = e ∙ ap (λ (ls : List ℕ). getD ls i 0) (x .held) ∙ getD-laid at (x .set) before i (omega arith) (omega arith) in
-      going-as (λ s. next (step w s) (each step (drop (i + 1) (take end before)))) x (λ s. rw (slice-cons i end before 0 l h, ← read, add-one i))
+  -- a label goes through a step that a function takes
+  module _ (steady : (room w : ℕ) → Steady room (step room w)) (l : i < end) (w : ℕ) (e : w ≡ getD now i 0) {after : List ℕ} {r : Built}
+      (g : Grown (step (roomAt at most (length now)) w) at count now after r) where
+    abbrev all : ℕ → List ℕ → Building
+    all = step (roomAt at most (length before))
 
--- A label of the part goes through a step that a function takes.
-module _ (most to : ℕ) (step : ℕ → ℕ → List ℕ → Building) (steady : (room w : ℕ) → Steady room (step room w)) {at end : ℕ} {before now : List ℕ} {goal : Building}
-    {count i : ℕ} (x : Walk at before end (step (roomAt at most (length before))) goal now count i) (bound : end ≡ min (min to at) (length before)) (l : i < end) (w : ℕ)
-    (e : w ≡ getD now i 0) {after : List ℕ} {r : Built} (g : Grown (step (roomAt at most (length now)) w) at count now after r) where
-  pub walk-holds : (n : ℕ) → r ≡ Holds n → Walk at before end (step (roomAt at most (length before))) goal after n (i + 1)
-  walk-holds n f =
-      going-holds most (λ room. step room w) (each (step (roomAt at most (length before))) (drop (i + 1) (take end before))) (λ room. steady room w)
-      (walk-next (step (roomAt at most (length before))) x w (omega arith) (omega arith) l e) g n f
+    abbrev rest : List ℕ → Building
+    rest = each all (drop (i + 1) (take end before))
 
-  pub walk-large : r ≡ TooLarge → (TooLarge ≡ answerOf goal) × (after ≡ laid at (goal .set) before)
-  walk-large f =
-      going-large most (λ room. step room w) (each (step (roomAt at most (length before))) (drop (i + 1) (take end before))) (λ room. steady room w)
-      (walk-next (step (roomAt at most (length before))) x w (omega arith) (omega arith) l e) g f
+    goes : Going at before now count (λ s. next (all w s) rest) (each all (drop from (take end before)) (setAt at start before))
+    unfolding each
+    goes =
+        let b = x .within in
+        let read : w ≡ getD before i 0 =
+        e ∙ ap (λ (ls : List ℕ). getD ls i 0) (x .going .held) ∙ getD-laid at (x .going .set) before i (omega arith) (omega arith) in
+        going-as (λ s. next (all w s) rest) (x .going) (λ s. rw (slice-cons i end before 0 l (b .1), ← read, add-one i))
 
-pub each-as : (f g : ℕ → List ℕ → Building) (ws s : List ℕ) → ((w : ℕ) (t : List ℕ) → f w t ≡ g w t) → each f ws s ≡ each g ws s
-unfolding each
-each-as f g [] s h = refl
-each-as f g (w ∷ ws) s h = goes (f w s) (g w s) (h w s) (λ t. each-as f g ws t h)
-  where
-    goes : (b c : Building) → b ≡ c → ((t : List ℕ) → each f ws t ≡ each g ws t) → next b (each f ws) ≡ next c (each g ws)
-    goes b c e k = same (b .whole) ∙ ap (λ (d : Building). next d (each g ws)) e
-      where
-        same : (t : Bool) → goesOn t b (each f ws) ≡ goesOn t b (each g ws)
-        same true = k (b .set)
-        same false = refl
+    pub walk-holds : (n : ℕ) → r ≡ Holds n → Walk step at most before start end from after n (i + 1)
+    walk-holds n f = record { within = x .within; going = going-holds most (λ room. step room w) rest (λ room. steady room w) goes g n f }
+
+    pub walk-large : r ≡ TooLarge → Walked after TooLarge
+    walk-large f = let q = going-large most (λ room. step room w) rest (λ room. steady room w) goes g f in record { answer = q .0; words = q .1 }
+
+-- The part that was to be walked over, as far as it lies before the set, and the set, as far as it lies in the list.
+pub walked : (step : ℕ → ℕ → List ℕ → Building) (t : Target) (p : Part) {before after : List ℕ} {start end : ℕ} {r : Built}
+    → start ≡ reachOf (t .at) (t .len) (length before) → end ≡ min (min (p .to) (t .at)) (length before)
+    → Grown (each (step (roomAt (t .at) (t .most) (length before))) (drop (p .from) (take end before))) (t .at) start before after r
+    → GrownAt t (λ room. each (step room) (wordsOf (t .at) p before)) before after r
+walked step t p {before} {start = start} {end} e f g =
+    let all = step (roomAt (t .at) (t .most) (length before)) in
+    let words : drop (p .from) (take end before) ≡ wordsOf (t .at) p before =
+    ap (λ (n : ℕ). drop (p .from) (take n before)) f ∙ sym (part-end (t .at) (p .from) (p .to) before) in
+    let set : setAt (t .at) start before ≡ setAt (t .at) (t .len) before = rw e (setAt-reach (t .at) (t .len) before) in
+    let same = ap₂ (each all) words set in
+    record { answer = g .answer ∙ ap answerOf same; words = g .words ∙ ap (λ (b : Building). laid (t .at) (b .set) before) same }

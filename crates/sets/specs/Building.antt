@@ -21,7 +21,8 @@ use Rattle.sets.specs.declared.Offer.{Offer}
 use Rattle.sets.specs.declared.Offer.the-variants.{Nothing, TooLong, Next}
 use Rattle.sets.specs.declared.Way.{Way}
 use Rattle.sets.specs.declared.Way.the-variants.{Copy, Block, Hide, Rename, Comm, Allow}
-use Rattle.sets.specs.Parts.{setAt, laid}
+use Rattle.sets.specs.declared.Target.{Target}
+use Rattle.sets.specs.Parts.{setAt, laid, roomAt}
 use Rattle.sets.specs.Inserting.{putIn, inserted}
 
 -- A set as far as it is built, and whether all went in.
@@ -151,3 +152,7 @@ multiplied room ls bs = each (row room bs) ls
 pub record Grown (build : List ℕ → Building) (at len : ℕ) (before after : List ℕ) (r : Built) : Type 0 where
   pub answer : r ≡ answerOf (build (setAt at len before))
   pub words : after ≡ laid at (build (setAt at len before) .set) before
+
+-- The same of a function that is told where: what it builds, by the room that is there.
+abbrev pub GrownAt : Target → (ℕ → List ℕ → Building) → (before after : List ℕ) → Built → Type 0
+GrownAt t build before after r = Grown (build (roomAt (t .at) (t .most) (length before))) (t .at) (t .len) before after r

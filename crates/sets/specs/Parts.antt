@@ -3,13 +3,17 @@
 use mathlib.Core.List.{List, _++_}
 use Prim.Native.Nat.{ℕ, _+_, _-_, min}
 use lib.ListN.{length, take, drop}
+use Rattle.sets.specs.declared.Part.{Part}
 
--- The labels from one place up to another, and those that stand before a place as well.
+-- The labels from one place up to another, and those that stand before a third place as well.
 abbrev pub part : ℕ → ℕ → List ℕ → List ℕ
 part from to ls = drop from (take to ls)
 
 abbrev pub partBefore : ℕ → ℕ → ℕ → List ℕ → List ℕ
 partBefore at from to ls = part from to (take at ls)
+
+abbrev pub wordsOf : ℕ → Part → List ℕ → List ℕ
+wordsOf at p ls = partBefore at (p .from) (p .to) ls
 
 -- The set that holds `len` labels at a place, as far as they lie in the list; the list with a set laid at a place.
 abbrev pub setAt : ℕ → ℕ → List ℕ → List ℕ

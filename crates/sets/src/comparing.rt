@@ -1,17 +1,19 @@
 // How far a part ascends.
+use crate::Part;
 use crate::placing::end_before;
 use labels::packing::below;
 use labels::packing::read_label;
 ghost use mathlib.Core.Path.{_≡_};
 ghost use Rattle.labels.specs.Packing.{held};
-ghost use Rattle.sets.specs.Parts.{partBefore};
+ghost use Rattle.sets.specs.Parts.{partBefore, wordsOf};
 ghost use Rattle.sets.specs.Joining.{ascent};
 
 // Up to where a part that stands before a place ascends.
-pub fn ascent_end(words: &[u64], from: usize, to: usize, at: usize) -> usize
-    ensures { λ r. ⌜ partBefore at from r (held (now (words .entry))) ≡ ascent (partBefore at from to (held (now (words .entry)))) ⌝ }
+pub fn ascent_end(words: &[u64], part: Part, at: usize) -> usize
+    ensures { λ r. ⌜ partBefore at (part .from) r (held (now (words .entry))) ≡ ascent (wordsOf at part (held (now (words .entry)))) ⌝ }
 {
-    let end = end_before(words, to, at);
+    let from = part.from;
+    let end = end_before(words, part.to, at);
     if end <= from {
         return end;
     }

@@ -4,74 +4,54 @@
 use crate::Built;
 use crate::Inserted;
 use crate::Offer;
+use crate::Target;
 use crate::inserting::insert;
+use crate::placing::reach;
 use crate::rules::offer;
 use labels::Label;
 use labels::packing::labels_in;
 ghost use Prim.Native.Nat.{_-_, _≤_};
 ghost use lib.ListN.{length};
 ghost use Rattle.labels.specs.Packing.{held, code};
-ghost use Rattle.sets.specs.Parts.{roomAt};
-ghost use Rattle.sets.specs.Building.{Grown, enter, closed, eachRule, exchangesIn};
+ghost use Rattle.sets.specs.Building.{GrownAt, closed, eachRule, exchangesIn};
 
 // How many applications one after the other are followed. A rule leaves fewer actions than there were, so that a label of
 // 31 actions needs fewer.
 pub const MOST_APPLICATIONS: usize = 31;
 
-// A label alone.
-pub fn enter(words: &mut [u64], at: usize, len: usize, most: usize, label: Label) -> Built
-    requires { ⌜ len ≤ length (held (now words)) - at ⌝ }
-    ensures { λ r. ⌜ Grown (enter (roomAt at most (length (held (now (words .entry))))) (code label)) at len (held (now (words .entry))) (held (now (words .exit))) r ⌝ }
-{
-    let answer = insert(words, at, len, most, label);
-    match answer {
-        Inserted::Full => Built::TooLarge,
-        Inserted::Present => Built::Holds(len),
-        Inserted::Added => Built::Holds(len + 1),
-    }
-}
-
 // A label, and all that follows from it.
-pub fn close(
-    words: &mut [u64],
-    at: usize,
-    len: usize,
-    most: usize,
-    rules: &[u64],
-    label: Label,
-    depth: usize,
-) -> Built
-    requires { ⌜ len ≤ length (held (now words)) - at ⌝ }
-    ensures { λ r. ⌜ Grown (closed (roomAt at most (length (held (now (words .entry))))) (exchangesIn (held (now (rules .entry)))) depth (code label)) at len (held (now (words .entry))) (held (now (words .exit))) r ⌝ }
+pub fn close(words: &mut [u64], target: Target, rules: &[u64], label: Label, depth: usize) -> Built
+    ensures { λ r. ⌜ GrownAt target (λ room. closed room (exchangesIn (held (now (rules .entry)))) depth (code label))
+        (held (now (words .entry))) (held (now (words .exit))) r ⌝ }
 {
-    let answer = insert(words, at, len, most, label);
+    let at = target.at;
+    let most = target.most;
+    let count = reach(words, at, target.len);
+    let answer = insert(words, target, label);
     match answer {
         Inserted::Full => Built::TooLarge,
-        Inserted::Present => Built::Holds(len),
+        Inserted::Present => Built::Holds(count),
         Inserted::Added => {
+            let len = count + 1;
             if depth == 0 {
-                Built::Holds(len + 1)
+                Built::Holds(len)
             } else {
-                follow(words, label, rules, depth - 1, at, len + 1, most)
+                follow(words, Target { at, len, most }, rules, label, depth - 1)
             }
         }
     }
 }
 
 // All that follows from a label that is put in already.
-fn follow(
-    words: &mut [u64],
-    label: Label,
-    rules: &[u64],
-    depth: usize,
-    at: usize,
-    len: usize,
-    most: usize,
-) -> Built
-    requires { ⌜ len ≤ length (held (now words)) - at ⌝ }
-    ensures { λ r. ⌜ Grown (eachRule (closed (roomAt at most (length (held (now (words .entry))))) (exchangesIn (held (now (rules .entry)))) depth) (exchangesIn (held (now (rules .entry)))) (code label)) at len (held (now (words .entry))) (held (now (words .exit))) r ⌝ }
+fn follow(words: &mut [u64], target: Target, rules: &[u64], label: Label, depth: usize) -> Built
+    requires { ⌜ target .len ≤ length (held (now words)) - target .at ⌝ }
+    ensures { λ r. ⌜ GrownAt target
+        (λ room. eachRule (closed room (exchangesIn (held (now (rules .entry)))) depth) (exchangesIn (held (now (rules .entry)))) (code label))
+        (held (now (words .entry))) (held (now (words .exit))) r ⌝ }
 {
-    let mut count = len;
+    let at = target.at;
+    let most = target.most;
+    let mut len = target.len;
     let mut i = 0;
     while i + 1 < labels_in(rules) {
         let made = offer(rules, i, label);
@@ -82,13 +62,13 @@ fn follow(
                 return Built::TooLarge;
             }
             Offer::Next(next) => {
-                let step = close(words, at, count, most, rules, next, depth);
+                let step = close(words, Target { at, len, most }, rules, next, depth);
                 let Built::Holds(n) = step else {
                     return Built::TooLarge;
                 };
-                count = n;
+                len = n;
             }
         }
     }
-    Built::Holds(count)
+    Built::Holds(len)
 }

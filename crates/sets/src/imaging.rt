@@ -1,10 +1,12 @@
 // The labels of a part, copied or through an operator.
 use crate::Built;
 use crate::Offer;
+use crate::Part;
+use crate::Target;
 use crate::Way;
 use crate::following::MOST_APPLICATIONS;
 use crate::following::close;
-use crate::following::enter;
+use crate::inserting::enter;
 use crate::placing::end_before;
 use crate::placing::reach;
 use labels::Label;
@@ -22,8 +24,8 @@ ghost use Prim.Native.Nat.{_-_, _≤_};
 ghost use lib.Dec.{eqb};
 ghost use lib.ListN.{length};
 ghost use Rattle.labels.specs.Packing.{held, code};
-ghost use Rattle.sets.specs.Parts.{roomAt, partBefore};
-ghost use Rattle.sets.specs.Building.{Grown, each, imaged, listedIn, MapFor, offerOf, depthOf, taken, closed, exchangesIn};
+ghost use Rattle.sets.specs.Parts.{wordsOf};
+ghost use Rattle.sets.specs.Building.{GrownAt, each, imaged, listedIn, MapFor, offerOf, depthOf, taken, closed, exchangesIn};
 
 // Whether a label is in a list of labels, or is tau.
 fn allowed(list: &[u64], label: Label) -> bool
@@ -90,64 +92,44 @@ fn depth(way: Way) -> usize
 }
 
 // What is offered goes into a set, with what follows from it. Where no rules are followed the recursion is passed by.
-fn take(
-    words: &mut [u64],
-    at: usize,
-    len: usize,
-    most: usize,
-    rules: &[u64],
-    offer: Offer,
-    depth: usize,
-) -> Built
-    requires { ⌜ len ≤ length (held (now words)) - at ⌝ }
-    ensures { λ r. ⌜ Grown (taken (closed (roomAt at most (length (held (now (words .entry))))) (exchangesIn (held (now (rules .entry)))) depth) offer) at len (held (now (words .entry))) (held (now (words .exit))) r ⌝ }
+fn take(words: &mut [u64], target: Target, rules: &[u64], offer: Offer, depth: usize) -> Built
+    requires { ⌜ target .len ≤ length (held (now words)) - target .at ⌝ }
+    ensures { λ r. ⌜ GrownAt target (λ room. taken (closed room (exchangesIn (held (now (rules .entry)))) depth) offer)
+        (held (now (words .entry))) (held (now (words .exit))) r ⌝ }
 {
     match offer {
-        Offer::Nothing => Built::Holds(len),
+        Offer::Nothing => Built::Holds(target.len),
         Offer::TooLong => Built::TooLarge,
         Offer::Next(label) => {
             if depth == 0 {
-                enter(words, at, len, most, label)
+                enter(words, target, label)
             } else {
-                close(words, at, len, most, rules, label, depth)
+                close(words, target, rules, label, depth)
             }
         }
     }
 }
 
 // What the labels of a part that stands before a set give goes into the set.
-pub fn add_image(
-    words: &mut [u64],
-    from: usize,
-    to: usize,
-    way: Way,
-    list: &[u64],
-    at: usize,
-    len: usize,
-    most: usize,
-) -> Built
-    ensures { λ r. ⌜ Grown (each (imaged (roomAt at most (length (held (now (words .entry))))) way (now (list .entry))) (partBefore at from to (held (now (words .entry))))) at len (held (now (words .entry))) (held (now (words .exit))) r ⌝ }
+pub fn add_image(words: &mut [u64], part: Part, way: Way, list: &[u64], target: Target) -> Built
+    ensures { λ r. ⌜ GrownAt target (λ room. each (imaged room way (now (list .entry))) (wordsOf (target .at) part (held (now (words .entry)))))
+        (held (now (words .entry))) (held (now (words .exit))) r ⌝ }
 {
-    let mut count = reach(words, at, len);
-    let end = end_before(words, to, at);
+    let at = target.at;
+    let most = target.most;
+    let mut len = reach(words, at, target.len);
+    let end = end_before(words, part.to, at);
     let map = map_for(way, list);
-    let mut i = from;
+    let mut i = part.from;
     while i < end {
         let label = read_label(words, i);
-        let step = take(
-            words,
-            at,
-            count,
-            most,
-            list,
-            made(way, list, map, label),
-            depth(way),
-        );
+        let offer = made(way, list, map, label);
+        let step = take(words, Target { at, len, most }, list, offer, depth(way));
         let Built::Holds(n) = step else {
             return Built::TooLarge;
         };
-        count = n;
+        len = n;
         i += 1;
     }
-    Built::Holds(count)
+    Built::Holds(len)
 }

@@ -1,80 +1,69 @@
 // The product of two parts: every sum of a label of the one and a label of the other.
 use crate::Built;
-use crate::following::enter;
+use crate::Part;
+use crate::Target;
+use crate::inserting::enter;
 use crate::placing::end_before;
 use crate::placing::reach;
 use labels::Label;
 use labels::Sum;
 use labels::bags::sum;
 use labels::packing::read_label;
-ghost use Prim.Native.Nat.{_-_, _≤_};
-ghost use lib.ListN.{length};
 ghost use Rattle.labels.specs.Packing.{held, code};
-ghost use Rattle.sets.specs.Parts.{roomAt, partBefore};
-ghost use Rattle.sets.specs.Building.{Grown, each, enter, taken, summed, added, multiplied};
+ghost use Rattle.sets.specs.Parts.{wordsOf};
+ghost use Rattle.sets.specs.Building.{GrownAt, enter, taken, summed, row, multiplied};
 
 // A sum goes into a set, unless it has over 31 actions.
-fn take_sum(words: &mut [u64], at: usize, len: usize, most: usize, result: Sum) -> Built
-    requires { ⌜ len ≤ length (held (now words)) - at ⌝ }
-    ensures { λ r. ⌜ Grown (taken (enter (roomAt at most (length (held (now (words .entry)))))) (summed result)) at len (held (now (words .entry))) (held (now (words .exit))) r ⌝ }
+fn take_sum(words: &mut [u64], target: Target, result: Sum) -> Built
+    ensures { λ r. ⌜ GrownAt target (λ room. taken (enter room) (summed result)) (held (now (words .entry))) (held (now (words .exit))) r ⌝ }
 {
     match result {
         Sum::Over => Built::TooLarge,
-        Sum::Of(total) => enter(words, at, len, most, total),
+        Sum::Of(total) => enter(words, target, total),
     }
 }
 
 // The sums of one label and those of a part that stands before a set go into the set.
-fn add_row(
-    words: &mut [u64],
-    label: Label,
-    from: usize,
-    to: usize,
-    at: usize,
-    len: usize,
-    most: usize,
-) -> Built
-    ensures { λ r. ⌜ Grown (each (added (roomAt at most (length (held (now (words .entry))))) (code label)) (partBefore at from to (held (now (words .entry))))) at len (held (now (words .entry))) (held (now (words .exit))) r ⌝ }
+fn add_row(words: &mut [u64], label: Label, by: Part, target: Target) -> Built
+    ensures { λ r. ⌜ GrownAt target (λ room. row room (wordsOf (target .at) by (held (now (words .entry)))) (code label))
+        (held (now (words .entry))) (held (now (words .exit))) r ⌝ }
 {
-    let mut count = reach(words, at, len);
-    let end = end_before(words, to, at);
-    let mut i = from;
+    let at = target.at;
+    let most = target.most;
+    let mut len = reach(words, at, target.len);
+    let end = end_before(words, by.to, at);
+    let mut i = by.from;
     while i < end {
         let result = sum(label, read_label(words, i));
-        let step = take_sum(words, at, count, most, result);
+        let step = take_sum(words, Target { at, len, most }, result);
         let Built::Holds(n) = step else {
             return Built::TooLarge;
         };
-        count = n;
+        len = n;
         i += 1;
     }
-    Built::Holds(count)
+    Built::Holds(len)
 }
 
 // The product of two parts that stand before a set goes into the set.
-pub fn add_product(
-    words: &mut [u64],
-    from: usize,
-    to: usize,
-    by_from: usize,
-    by_to: usize,
-    at: usize,
-    len: usize,
-    most: usize,
-) -> Built
-    ensures { λ r. ⌜ Grown (multiplied (roomAt at most (length (held (now (words .entry))))) (partBefore at from to (held (now (words .entry)))) (partBefore at «by_from» «by_to» (held (now (words .entry))))) at len (held (now (words .entry))) (held (now (words .exit))) r ⌝ }
+pub fn add_product(words: &mut [u64], part: Part, by: Part, target: Target) -> Built
+    ensures { λ r. ⌜ GrownAt target
+        (λ room. multiplied room (wordsOf (target .at) part (held (now (words .entry)))) (wordsOf (target .at) by (held (now (words .entry)))))
+        (held (now (words .entry))) (held (now (words .exit))) r ⌝ }
 {
-    let mut count = reach(words, at, len);
-    let end = end_before(words, to, at);
-    let mut i = from;
+    let at = target.at;
+    let most = target.most;
+    let mut len = reach(words, at, target.len);
+    let end = end_before(words, part.to, at);
+    let mut i = part.from;
     while i < end {
         let label = read_label(words, i);
-        let step = add_row(words, label, by_from, by_to, at, count, most);
+        let step = add_row(words, label, by, Target { at, len, most });
         let Built::Holds(n) = step else {
             return Built::TooLarge;
         };
-        count = n;
+        len = n;
         i += 1;
     }
-    Built::Holds(count)
+    Built::Holds(len)
 }

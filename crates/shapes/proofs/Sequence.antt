@@ -14,7 +14,7 @@ use Rattle.sets.specs.Parts.{setAt, laid, part, roomAt}
 use Rattle.sets.specs.Building.{Building, answerOf, next, imaged, multiplied, Grown}
 use Rattle.sets.proofs.Laid.{length-setAt, take-laid}
 use Rattle.sets.proofs.Steps.{Steady, steady-each, steady-next, steady-imaged, Going, going-last, grown-as, next-holds, next-large, built-holds}
-use Rattle.places.specs.declared.Part.{Part}
+use Rattle.sets.specs.declared.Part.{Part}
 use Rattle.places.specs.declared.Growth.{Growth}
 use Rattle.growth.specs.Fresh.{fresh}
 use Rattle.growth.specs.Ways.{throughBuilt}

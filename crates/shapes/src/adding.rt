@@ -6,9 +6,8 @@ use places::Growth;
 use sets::Built;
 use sets::Way;
 ghost use lib.ListN.{length};
-ghost use Rattle.sets.specs.Parts.{roomAt};
+ghost use Rattle.sets.specs.Parts.{wordsOf, roomAt};
 ghost use Rattle.sets.specs.Building.{Grown};
-ghost use Rattle.places.specs.Laying.{wordsOf};
 ghost use Rattle.growth.specs.Fresh.{newIn};
 ghost use Rattle.shapes.specs.Adding.{eitherAdded, jointAdded, bothAdded, addedOf};
 

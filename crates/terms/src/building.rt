@@ -7,6 +7,7 @@ use places::starts::left_of;
 use places::starts::part_at;
 use places::starts::place_of;
 use sets::Built;
+use sets::Target;
 use sets::multiplying::add_product;
 use shapes::Shape;
 use shapes::adding::add_two;
@@ -80,7 +81,7 @@ fn of_joint(work: &mut [u64], this: &[usize], t: usize, u: usize, at: usize, mos
 {
     let a = part_at(this, t, true);
     let b = part_at(this, u, true);
-    add_product(work, a.from, a.to, b.from, b.to, at, 0, most)
+    add_product(work, a, b, Target { at, len: 0, most })
 }
 
 fn of_wrap(

@@ -20,15 +20,16 @@ use Rattle.sets.proofs.following.follow.Kinds as follow-kinds
 use Rattle.sets.proofs.following.+close+follow.Lts-follow as follow-lts
 use Rattle.labels.proofs.packing.labels_in.Reads as labels-in-reads
 use Rattle.sets.proofs.inserting.insert.Reads as insert-reads
+use Rattle.sets.proofs.placing.reach.Reads as reach-reads
 use Rattle.sets.proofs.rules.offer.Reads as offer-reads
 use Rattle.sets.proofs.following.+close+follow.{statement}
 use Rattle.sets.proofs.following.+close+follow.Tie.{close}
 
 abbrev μ-close : Measures 2 close-kinds.ps ℕ
-μ-close κs a = 2 * a .1 .1 .1 .1 .1 .1 .0
+μ-close κs a = 2 * a .1 .1 .1 .1 .0
 
 abbrev μ-follow : Measures 2 follow-kinds.ps ℕ
-μ-follow κs a = 2 * a .1 .1 .1 .0 + 1
+μ-follow κs a = 2 * a .1 .1 .1 .1 .0 + 1
 
 abbrev close-at : ℕ → In 2 close-kinds.ps
 close-at t = and 2 close-kinds.ps (is 2 close-kinds.ps μ-close t) close′.Pre
@@ -44,12 +45,15 @@ follow-below t = and 2 follow-kinds.ps (falls 2 follow-kinds.ps _<_ μ-follow t)
 
 -- what is known of the functions that each calls
 abbrev close-calls : ℕ → close-lts.Claims
-close-calls t = (insert-reads.Asked, insert-reads.Learnt, follow-below t, follow.Post)
+close-calls t = (reach-reads.Asked, reach-reads.Learnt, insert-reads.Asked, insert-reads.Learnt, follow-below t, follow.Post)
 
 abbrev follow-calls : ℕ → follow-lts.Claims
 follow-calls t = (labels-in-reads.Asked, labels-in-reads.Learnt, offer-reads.Asked, offer-reads.Learnt, close-below t, close′.Post)
 
 module _ (t : ℕ) where
+  close-reach-requires : close-lts.Need-reach-requires (close-calls t) (close-at t) close′.Post
+  close-reach-requires c κs = search needs
+
   close-insert-requires : close-lts.Need-insert-requires (close-calls t) (close-at t) close′.Post
   close-insert-requires c κs = search needs
 
@@ -62,22 +66,20 @@ module _ (t : ℕ) where
   close-enum-told-3 : close-lts.Need-enum-told-3 (close-calls t) (close-at t) close′.Post
   close-enum-told-3 c = search needs
 
-  close-add-t14 : close-lts.Need-add-t14 (close-calls t) (close-at t) close′.Post
-  close-add-t14 c = omega (arith, c .before .before .before .before .before .before .before .before .before .pre .1)
+  close-add-len : close-lts.Need-add-len (close-calls t) (close-at t) close′.Post
+  close-add-len c = omega (arith, c .before .before .before .before .before .before .reach .ensures)
 
   close-sub-follow : close-lts.Need-sub-follow (close-calls t) (close-at t) close′.Post
   close-sub-follow c = omega arith
 
-  close-add-follow : close-lts.Need-add-follow (close-calls t) (close-at t) close′.Post
-  close-add-follow c = omega (arith, c .before .before .before .before .before .before .before .before .before .before .pre .1)
-
   close-follow-requires : close-lts.Need-follow-requires (close-calls t) (close-at t) close′.Post
   close-follow-requires c κs =
-      let a = c .before .before .before .before .before .before .before .before .before .before in (
+      let put = c .before .before .before .before .before .before in
+      let reached = put .before .before in
+      let a = reached .before .before .before .before in (
         omega (arith, a .pre .0, c .before .if1 .left),
-        let a = c .before .before .before .before .before .before .before .before .before .before .args in
-            closed-within (a .at) (a .len) (a .most) (a .label .word) (a .words .now) (c .before .before .before .before .before .before .insert .last .0) (c .before .before .before .before .before .before .before .before .before .before .pre .1)
-            (exchangesIn (a .rules .now)) (a .depth) (c .before .before .before .before .before .before .insert .result) (c .before .before .before .before .before .before .insert .ensures) (c .before .before .enum-told3 .given .1),
+        closed-within (put .insert .ensures) (exchangesIn (a .args .rules .now)) (a .args .depth) (reached .reach .result) (reached .reach .ensures)
+            (c .before .before .enum-told3 .given .1),
       )
 
   close-same-length : close-lts.Need-same-length (close-calls t) (close-at t) close′.Post
@@ -85,47 +87,52 @@ module _ (t : ℕ) where
 
   close-returns : close-lts.Need-returns (close-calls t) (close-at t) close′.Post
   close-returns c =
-      let a = c .before .before .before .before .before .before .before .before .args in
-      closed-stops (a .at) (a .len) (a .most) (a .label .word) (a .words .now) (c .before .before .before .before .insert .last .0) (c .before .before .before .before .before .before .before .before .pre .1)
-      (exchangesIn (a .rules .now)) (a .depth) (c .before .before .before .before .insert .result) (c .before .before .before .before .insert .ensures) (c .enum-told .given .1)
+      let put = c .before .before .before .before in
+      let a = put .before .before .before .before .before .before .args in
+      closed-stops (put .insert .ensures) (exchangesIn (a .rules .now)) (a .depth) (c .enum-told .given .1)
 
   close-same-length-2 : close-lts.Need-same-length-2 (close-calls t) (close-at t) close′.Post
   close-same-length-2 c = search needs
 
   close-returns-2 : close-lts.Need-returns-2 (close-calls t) (close-at t) close′.Post
   close-returns-2 c =
-      let a = c .before .before .before .before .before .before .before .before .args in
-      closed-stays (a .at) (a .len) (a .most) (a .label .word) (a .words .now) (c .before .before .before .before .insert .last .0) (c .before .before .before .before .before .before .before .before .pre .1)
-      (exchangesIn (a .rules .now)) (a .depth) (c .before .before .before .before .insert .result) (c .before .before .before .before .insert .ensures) (c .enum-told2 .given .1)
+      let put = c .before .before .before .before in
+      let reached = put .before .before in
+      let a = reached .before .before .before .before .args in
+      closed-stays (put .insert .ensures) (exchangesIn (a .rules .now)) (a .depth) (reached .reach .result) (reached .reach .ensures) (c .enum-told2 .given .1)
 
   close-same-length-3 : close-lts.Need-same-length-3 (close-calls t) (close-at t) close′.Post
   close-same-length-3 c = search needs
 
   close-returns-3 : close-lts.Need-returns-3 (close-calls t) (close-at t) close′.Post
   close-returns-3 c =
-      let a = c .before .before .before .before .before .before .before .before .before .args in
-      closed-ends (a .at) (a .len) (a .most) (a .label .word) (a .words .now) (c .before .before .before .before .before .insert .last .0) (c .before .before .before .before .before .before .before .before .before .pre .1)
-      (exchangesIn (a .rules .now)) (a .depth) (c .before .before .before .before .before .insert .result) (c .before .before .before .before .before .insert .ensures) (c .before .enum-told3 .given .1) (c .if1 .taken)
+      let put = c .before .before .before .before .before in
+      let reached = put .before .before in
+      let a = reached .before .before .before .before .args in
+      closed-ends (put .insert .ensures) (exchangesIn (a .rules .now)) (a .depth) (reached .reach .result) (reached .reach .ensures)
+      (c .before .enum-told3 .given .1) (c .if1 .taken)
 
   close-same-length-4 : close-lts.Need-same-length-4 (close-calls t) (close-at t) close′.Post
   close-same-length-4 c = c .before .before .follow .kept .0 ∙ c .before .before .before .before .before .before .before .before .before .insert .kept .0
 
   close-returns-4 : close-lts.Need-returns-4 (close-calls t) (close-at t) close′.Post
   close-returns-4 c =
-      let a = c .before .before .before .before .before .before .before .before .before .before .before .before .before .args in
-      closed-goes (a .at) (a .len) (a .most) (a .label .word) (a .words .now) (c .before .before .before .before .before .before .before .before .before .insert .last .0) (c .before .before .before .before .before .before .before .before .before .before .before .before .before .pre .1)
-      (exchangesIn (a .rules .now)) (a .depth) (c .before .before .before .before .before .before .before .before .before .insert .result) (c .before .before .before .before .before .before .before .before .before .insert .ensures) (c .before .before .before .before .before .enum-told3 .given .1) (c .before .before .before .before .if1 .left) (c .before .before .follow .ensures)
+      let put = c .before .before .before .before .before .before .before .before .before in
+      let reached = put .before .before in
+      let a = reached .before .before .before .before .args in
+      closed-goes (put .insert .ensures) (exchangesIn (a .rules .now)) (a .depth) (reached .reach .result) (reached .reach .ensures)
+      (c .before .before .before .before .before .enum-told3 .given .1) (c .before .before .before .before .if1 .left) (c .before .before .follow .ensures)
 
   close-meets : {M : Type 1} → close-lts.Closed (close-calls t) (close-at t) close′.Post M
   close-meets =
       close-lts.spec (close-calls t) (close-at t) close′.Post
+      close-reach-requires
       close-insert-requires
       close-enum-told
       close-enum-told-2
       close-enum-told-3
-      close-add-t14
+      close-add-len
       close-sub-follow
-      close-add-follow
       close-follow-requires
       close-same-length
       close-returns
@@ -137,16 +144,16 @@ module _ (t : ℕ) where
       close-returns-4
 
 abbrev follow-Inv-loop : follow-lts.InvT-loop
-follow-Inv-loop words₀ label rules depth at len most count₀ i₀ words count i = Following at len most depth (label .word) rules words₀ words count i
+follow-Inv-loop words₀ rules label depth at most count₀ i₀ words count i = Following at count₀ most depth (label .word) rules words₀ words count i
 
 abbrev follow-μ-loop : follow-lts.MeasureT-loop
-follow-μ-loop words₀ label rules depth at len most count₀ i₀ words count i = length rules - i
+follow-μ-loop words₀ rules label depth at most count₀ i₀ words count i = length rules - i
 
 module _ (t : ℕ) where
   follow-loop-holds : follow-lts.Need-loop-holds (follow-calls t) (follow-at t) follow.Post follow-Inv-loop follow-μ-loop
   follow-loop-holds c =
       let a = c .before .before .args in
-      following-start (a .at) (a .len) (a .most) (a .depth) (a .label .word) (a .rules .now) (a .words .now) (c .before .before .pre .1)
+      following-start (a .target .at) (a .target .len) (a .target .most) (a .depth) (a .label .word) (a .rules .now) (a .words .now) (c .before .before .pre .1)
 
   follow-add-if1 : follow-lts.Need-add-if1 (follow-calls t) (follow-at t) follow.Post follow-Inv-loop follow-μ-loop
   follow-add-if1 c = omega (arith, c .before .before .before .good)
@@ -168,9 +175,8 @@ module _ (t : ℕ) where
 
   follow-loop-again : follow-lts.Need-loop-again (follow-calls t) (follow-at t) follow.Post follow-Inv-loop follow-μ-loop
   follow-loop-again c =
-      let a = c .before .before .before .before .before .before .before .before .args in
-      following-nothing (a .at) (a .len) (a .most) (a .depth) (a .label .word) (a .rules .now) (a .words .now) (c .before .before .before .before .before .loop .inv)
-      (rw (c .before .before .before .before .labels-in .ensures) at (c .before .before .before .if1 .taken)) (c .before .before .offer .result) (c .before .before .offer .ensures) (c .enum-told .given .1)
+      let tested = c .before .before .before in
+      following-nothing (tested .before .before .loop .inv) (rw (tested .before .labels-in .ensures) at (tested .if1 .taken)) (c .before .before .offer .ensures) (c .enum-told .given .1)
 
   follow-enum-told-2 : follow-lts.Need-enum-told-2 (follow-calls t) (follow-at t) follow.Post follow-Inv-loop follow-μ-loop
   follow-enum-told-2 c = search needs
@@ -180,15 +186,14 @@ module _ (t : ℕ) where
 
   follow-returns : follow-lts.Need-returns (follow-calls t) (follow-at t) follow.Post follow-Inv-loop follow-μ-loop
   follow-returns c =
-      let a = c .before .before .before .before .before .before .before .before .args in
-      following-long (a .at) (a .len) (a .most) (a .depth) (a .label .word) (a .rules .now) (a .words .now) (c .before .before .before .before .before .loop .inv)
-      (rw (c .before .before .before .before .labels-in .ensures) at (c .before .before .before .if1 .taken)) (c .before .before .offer .result) (c .before .before .offer .ensures) (c .enum-told2 .given .1)
+      let tested = c .before .before .before in
+      following-long (tested .before .before .loop .inv) (rw (tested .before .labels-in .ensures) at (tested .if1 .taken)) (c .before .before .offer .ensures) (c .enum-told2 .given .1)
 
   follow-enum-known-made : follow-lts.Need-enum-known-made (follow-calls t) (follow-at t) follow.Post follow-Inv-loop follow-μ-loop
   follow-enum-known-made c = search needs
 
   follow-close-requires : follow-lts.Need-close-requires (follow-calls t) (follow-at t) follow.Post follow-Inv-loop follow-μ-loop
-  follow-close-requires c κs = (omega (arith, c .before .before .before .before .before .before .before .before .before .before .pre .0), going-length (c .before .before .before .before .before .before .before .loop .inv .going) .1)
+  follow-close-requires c κs = (omega (arith, c .before .before .before .before .before .before .before .before .before .before .pre .0), tt)
 
   follow-enum-known-step : follow-lts.Need-enum-known-step (follow-calls t) (follow-at t) follow.Post follow-Inv-loop follow-μ-loop
   follow-enum-known-step c = search needs
@@ -201,27 +206,26 @@ module _ (t : ℕ) where
 
   follow-returns-2 : follow-lts.Need-returns-2 (follow-calls t) (follow-at t) follow.Post follow-Inv-loop follow-μ-loop
   follow-returns-2 c =
-      let a = c .before .before .before .before .before .before .before .before .before .before .before .before .before .before .before .args in
-      following-large (a .at) (a .len) (a .most) (a .depth) (a .label .word) (a .rules .now) (a .words .now) (c .before .before .before .before .before .before .before .before .before .before .before .before .loop .inv)
-      (rw (c .before .before .before .before .before .before .before .before .before .before .before .labels-in .ensures) at (c .before .before .before .before .before .before .before .before .before .before .if1 .taken)) (c .before .before .before .before .before .before .before .before .before .offer .result) (c .before .before .before .before .before .before .before .before .before .offer .ensures) (c .before .before .before .before .before .before .before .made .given .0 .0) (c .before .before .before .before .before .before .before .made .given .1) (c .before .before .before .before .close .ensures) (c .enum-told3 .given .1)
+      let next = c .before .before .before .before .before .before .before .made .given in
+      let tested = c .before .before .before .before .before .before .before .before .before .before in
+      following-large (tested .before .before .loop .inv) (rw (tested .before .labels-in .ensures) at (tested .if1 .taken)) (c .before .before .before .before .before .before .before .before .before .offer .ensures) (next .0 .0) (next .1)
+      (c .before .before .before .before .close .ensures) (c .enum-told3 .given .1)
 
   follow-loop-less-2 : follow-lts.Need-loop-less-2 (follow-calls t) (follow-at t) follow.Post follow-Inv-loop follow-μ-loop
   follow-loop-less-2 c = omega (arith, c .before .before .before .before .before .before .before .before .before .before .before .before .labels-in .ensures)
 
   follow-loop-again-2 : follow-lts.Need-loop-again-2 (follow-calls t) (follow-at t) follow.Post follow-Inv-loop follow-μ-loop
   follow-loop-again-2 c =
-      let a = c .before .before .before .before .before .before .before .before .before .before .before .before .before .before .before .before .args in
-      following-next (a .at) (a .len) (a .most) (a .depth) (a .label .word) (a .rules .now) (a .words .now) (c .before .before .before .before .before .before .before .before .before .before .before .before .before .loop .inv)
-      (rw (c .before .before .before .before .before .before .before .before .before .before .before .before .labels-in .ensures) at (c .before .before .before .before .before .before .before .before .before .before .before .if1 .taken)) (c .before .before .before .before .before .before .before .before .before .before .offer .result) (c .before .before .before .before .before .before .before .before .before .before .offer .ensures) (c .before .before .before .before .before .before .before .before .made .given .0 .0) (c .before .before .before .before .before .before .before .before .made .given .1) (c .before .before .before .before .before .close .ensures) (c .before .step .given .0 .0) (c .before .step .given .1)
+      let next = c .before .before .before .before .before .before .before .before .made .given in
+      let tested = c .before .before .before .before .before .before .before .before .before .before .before in
+      following-next (tested .before .before .loop .inv) (rw (tested .before .labels-in .ensures) at (tested .if1 .taken)) (c .before .before .before .before .before .before .before .before .before .before .offer .ensures) (next .0 .0) (next .1)
+      (c .before .before .before .before .before .close .ensures) (c .before .step .given .0 .0) (c .before .step .given .1)
 
   follow-same-length-3 : follow-lts.Need-same-length-3 (follow-calls t) (follow-at t) follow.Post follow-Inv-loop follow-μ-loop
   follow-same-length-3 c = going-length (c .before .before .loop .inv .going) .0
 
   follow-returns-3 : follow-lts.Need-returns-3 (follow-calls t) (follow-at t) follow.Post follow-Inv-loop follow-μ-loop
-  follow-returns-3 c =
-      let a = c .before .before .before .before .before .args in
-      following-end (a .at) (a .len) (a .most) (a .depth) (a .label .word) (a .rules .now) (a .words .now) (c .before .before .loop .inv)
-      (rw (c .before .labels-in .ensures) at (c .if1 .left))
+  follow-returns-3 c = following-end (c .before .before .loop .inv) (rw (c .before .labels-in .ensures) at (c .if1 .left))
 
   follow-meets : {M : Type 1} → follow-lts.Closed (follow-calls t) (follow-at t) follow.Post M
   follow-meets =

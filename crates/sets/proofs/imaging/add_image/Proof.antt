@@ -4,21 +4,17 @@ use mathlib.Core.Path.{ap, _∙_}
 use Prim.Native.Nat.{_-_}
 use native.Mathlib.Omega.{arith}
 use borrow.Author.Needs.{needs}
-use lib.ListN.{length}
-use Rattle.sets.specs.Parts.{setAt, partBefore, roomAt}
-use Rattle.sets.specs.Building.{each, imaged, taken}
-use Rattle.sets.proofs.Steps.{steady-imaged, going-length}
-use Rattle.sets.proofs.Walking.{Walk, walk-start, walk-end, walk-holds, walk-large}
+use Rattle.sets.specs.Building.{imaged}
+use Rattle.sets.proofs.Steps.{steady-imaged}
+use Rattle.sets.proofs.Walking.{Walk, walk-start, walk-length, walk-end, walk-holds, walk-large, walked}
 use Rattle.sets.proofs.imaging.add_image.Statement.{statement}
 use Rattle.sets.proofs.imaging.add_image.Tie as tie
 
 abbrev Inv-loop : tie.InvT-loop
-Inv-loop words₀ from to way list at len most count₀ end map i₀ words count i =
-    Walk at words₀ end (imaged (roomAt at most (length words₀)) way list)
-    (each (imaged (roomAt at most (length words₀)) way list) (partBefore at from to words₀) (setAt at len words₀)) words count i
+Inv-loop words₀ way list at most count₀ end map i₀ words count i = Walk (λ room. imaged room way list) at most words₀ count₀ end i₀ words count i
 
 abbrev μ-loop : tie.MeasureT-loop
-μ-loop words₀ from to way list at len most count₀ end map i₀ words count i = end - i
+μ-loop words₀ way list at most count₀ end map i₀ words count i = end - i
 
 reach-requires : tie.Need-reach-requires Inv-loop μ-loop
 reach-requires c κs = search needs
@@ -30,22 +26,19 @@ map-for-requires : tie.Need-map-for-requires Inv-loop μ-loop
 map-for-requires c κs = search needs
 
 loop-holds : tie.Need-loop-holds Inv-loop μ-loop
-loop-holds c =
-    let a = c .before .before .before .before .before .before .before .args in
-    walk-start (a .at) (a .words .now) (a .from) (a .to) (imaged (roomAt (a .at) (a .most) (length (a .words .now))) (a .way) (a .list .now)) (a .len) (c .before .before .before .reach .result)
-    (c .before .end-before .result) (c .before .before .before .reach .ensures) (c .before .end-before .ensures)
+loop-holds c = walk-start _ _ _ _ _ _ _ (omega (arith, c .before .before .before .reach .ensures, c .before .end-before .ensures))
 
 read-label-requires : tie.Need-read-label-requires Inv-loop μ-loop
 read-label-requires c κs = search needs
 
 made-requires : tie.Need-made-requires Inv-loop μ-loop
-made-requires c κs = c .before .before .before .before .before .map-for .ensures
+made-requires c κs = c .before .before .before .before .map-for .ensures
 
 depth-requires : tie.Need-depth-requires Inv-loop μ-loop
 depth-requires c κs = search needs
 
 take-requires : tie.Need-take-requires Inv-loop μ-loop
-take-requires c κs = going-length (c .before .before .before .before .before .before .loop .inv) .1
+take-requires c κs = walk-length (c .before .before .before .before .before .before .loop .inv) .1
 
 enum-known-step : tie.Need-enum-known-step Inv-loop μ-loop
 enum-known-step c = search needs
@@ -54,15 +47,16 @@ enum-told : tie.Need-enum-told Inv-loop μ-loop
 enum-told c = search needs
 
 same-length : tie.Need-same-length Inv-loop μ-loop
-same-length c = c .before .before .before .before .take .kept .0 ∙ going-length (c .before .before .before .before .before .before .before .before .before .before .before .loop .inv) .0
+same-length c = c .before .before .before .before .take .kept .0 ∙ walk-length (c .before .before .before .before .before .before .before .before .before .before .before .loop .inv) .0
 
 returns : tie.Need-returns Inv-loop μ-loop
 returns c =
-    let a = c .before .before .before .before .before .before .before .before .before .before .before .before .before .before .before .before .before .before .before .args in
-    let p = walk-large (a .most) (a .to) (λ room. imaged room (a .way) (a .list .now)) (λ room. steady-imaged room (a .way) (a .list .now)) (c .before .before .before .before .before .before .before .before .before .before .before .loop .inv)
-    (c .before .before .before .before .before .before .before .before .before .before .before .before .before .end-before .ensures) (c .before .before .before .before .before .before .before .before .before .before .loop-test .taken) (c .before .before .before .before .before .before .before .before .read-label .result .word) (ap (λ x. x .word) (c .before .before .before .before .before .before .before .before .read-label .ensures))
-    (rw (c .before .before .before .before .before .before .made .ensures, c .before .before .before .before .before .depth .ensures) at (c .before .before .before .before .take .ensures)) (c .enum-told .given .1) in
-    record { answer = p .0; words = p .1 }
+    let read = c .before .before .before .before .before .before .before .before in
+    let looped = read .before .before .before in
+    let a = looped .before .before .before .before .before .before .before .before .args in
+    walked (λ room. imaged room (a .way) (a .list .now)) (a .target) (a .part) (looped .before .before .before .before .reach .ensures) (looped .before .before .end-before .ensures)
+    (walk-large (looped .loop .inv) (λ room. steady-imaged room (a .way) (a .list .now)) (read .before .before .loop-test .taken) (read .read-label .result .word)
+    (ap (λ x. x .word) (read .read-label .ensures)) (rw (c .before .before .before .before .before .before .before .made .ensures, c .before .before .before .before .before .depth .ensures) at (c .before .before .before .before .take .ensures)) (c .enum-told .given .1))
 
 add-i : tie.Need-add-i Inv-loop μ-loop
 add-i c = omega arith
@@ -72,19 +66,22 @@ loop-less c = omega arith
 
 loop-again : tie.Need-loop-again Inv-loop μ-loop
 loop-again c =
-    let a = c .before .before .before .before .before .before .before .before .before .before .before .before .before .before .before .before .before .before .before .before .args in
-    walk-holds (a .most) (a .to) (λ room. imaged room (a .way) (a .list .now)) (λ room. steady-imaged room (a .way) (a .list .now)) (c .before .before .before .before .before .before .before .before .before .before .before .before .loop .inv)
-    (c .before .before .before .before .before .before .before .before .before .before .before .before .before .before .end-before .ensures) (c .before .before .before .before .before .before .before .before .before .before .before .loop-test .taken) (c .before .before .before .before .before .before .before .before .before .read-label .result .word) (ap (λ x. x .word) (c .before .before .before .before .before .before .before .before .before .read-label .ensures))
-    (rw (c .before .before .before .before .before .before .before .made .ensures, c .before .before .before .before .before .before .depth .ensures) at (c .before .before .before .before .before .take .ensures)) (c .before .step .given .0 .0) (c .before .step .given .1)
+    let read = c .before .before .before .before .before .before .before .before .before in
+    let looped = read .before .before .before in
+    let a = looped .before .before .before .before .before .before .before .before .args in
+    walk-holds (looped .loop .inv) (λ room. steady-imaged room (a .way) (a .list .now)) (read .before .before .loop-test .taken) (read .read-label .result .word)
+    (ap (λ x. x .word) (read .read-label .ensures)) (rw (c .before .before .before .before .before .before .before .before .made .ensures, c .before .before .before .before .before .before .depth .ensures) at (c .before .before .before .before .before .take .ensures))
+    (c .before .step .given .0 .0) (c .before .step .given .1)
 
 same-length-2 : tie.Need-same-length-2 Inv-loop μ-loop
-same-length-2 c = going-length (c .before .loop .inv) .0
+same-length-2 c = walk-length (c .before .loop .inv) .0
 
 returns-2 : tie.Need-returns-2 Inv-loop μ-loop
 returns-2 c =
-    let a = c .before .before .before .before .before .before .before .before .before .args in
-    let p = walk-end (imaged (roomAt (a .at) (a .most) (length (a .words .now))) (a .way) (a .list .now)) (c .before .loop .inv) (omega (arith, c .before .before .before .end-before .ensures)) (c .loop-test .left) in
-    record { answer = p .0; words = p .1 }
+    let looped = c .before in
+    let a = looped .before .before .before .before .before .before .before .before .args in
+    walked (λ room. imaged room (a .way) (a .list .now)) (a .target) (a .part) (looped .before .before .before .before .reach .ensures) (looped .before .before .end-before .ensures)
+    (walk-end (looped .loop .inv) (c .loop-test .left))
 
 pub add-image-spec : {M : Type 1} → statement M
 add-image-spec =

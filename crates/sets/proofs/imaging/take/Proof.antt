@@ -1,10 +1,11 @@
 -- `sets::imaging::take` meets its contract. Assumes nothing.
-use mathlib.Core.Path.{refl}
+use mathlib.Core.Path.{refl, sym}
 use borrow.Author.Needs.{needs}
 use lib.ListN.{length}
 use Rattle.sets.specs.Parts.{roomAt}
-use Rattle.sets.specs.Building.{done, stopped, exchangesIn}
-use Rattle.sets.proofs.Steps.{going-start, going-end, going-stop, grown-as}
+use Rattle.sets.specs.Building.{done, exchangesIn}
+use Rattle.sets.proofs.Laid.{laid-self}
+use Rattle.sets.proofs.Steps.{going-start, going-end, grown-as}
 use Rattle.sets.proofs.Closure.{closed-alone}
 use Rattle.sets.proofs.imaging.take.Statement.{statement}
 use Rattle.sets.proofs.imaging.take.Tie as tie
@@ -26,22 +27,24 @@ close-requires c κs = search needs
 
 returns : tie.Need-returns
 returns c =
-    let p = going-end (going-start (c .before .before .before .before .args .at) (c .before .before .before .before .args .words .now) (c .before .before .before .before .args .len) done (c .before .before .before .before .pre)) (λ s. refl) in
+    let a = c .before .before .before .before .args in
+    let p = going-end (going-start (a .target .at) (a .words .now) (a .target .len) done (c .before .before .before .before .pre)) (λ s. refl) in
     rw (c .enum-told .given .1) (record { answer = p .0; words = p .1 })
 
 returns-2 : tie.Need-returns-2
 returns-2 c =
-    let p = going-stop (going-start (c .before .before .before .before .args .at) (c .before .before .before .before .args .words .now) (c .before .before .before .before .args .len) stopped (c .before .before .before .before .pre)) (λ s. refl) in
-    rw (c .enum-told2 .given .1) (record { answer = p .0; words = p .1 })
+    let a = c .before .before .before .before .args in
+    rw (c .enum-told2 .given .1) (record { answer = refl; words = sym (laid-self (a .target .at) (a .target .len) (a .words .now)) })
 
 same-length : tie.Need-same-length
 same-length c = search needs
 
 returns-3 : tie.Need-returns-3
 returns-3 c =
+    let offered = c .before .before .before .before .before .before .offer .given in
     let a = c .before .before .before .before .before .before .before .before .before .before .args in
-    rw (c .before .before .before .before .before .before .offer .given .1)
-    (grown-as (closed-alone (roomAt (a .at) (a .most) (length (a .words .now))) (exchangesIn (a .rules .now)) (a .depth) (c .before .before .before .before .before .before .offer .given .0 .0 .word) (c .before .before .before .before .if1 .taken)) (c .before .before .enter .ensures))
+    let space = roomAt (a .target .at) (a .target .most) (length (a .words .now)) in
+    rw (offered .1) (grown-as (closed-alone space (exchangesIn (a .rules .now)) (a .depth) (offered .0 .0 .word) (c .before .before .before .before .if1 .taken)) (c .before .before .enter .ensures))
 
 same-length-2 : tie.Need-same-length-2
 same-length-2 c = search needs

@@ -1,25 +1,24 @@
--- `sets::multiplying::add_product` meets its contract. The loop's invariant: what the labels from the i-th on give with those of
--- the second part is to come; the measure is how many they are. Assumes nothing.
+-- `sets::multiplying::add_product` meets its contract. The loop's invariant: the products with the labels from the i-th on are to come; the
+-- measure is how many they are. Assumes nothing.
 use mathlib.Core.Path.{ap, _∙_}
-use mathlib.Core.List.{List}
-use Prim.Native.Nat.{ℕ, _-_}
+use Prim.Native.Nat.{_-_}
 use native.Mathlib.Omega.{arith}
 use borrow.Author.Needs.{needs}
+use mathlib.Core.List.{List}
+use Prim.Native.Nat.{ℕ}
 use lib.ListN.{length}
-use Rattle.sets.specs.Parts.{setAt, partBefore, roomAt}
-use Rattle.sets.specs.Building.{each, added, row, multiplied}
-use Rattle.sets.proofs.Steps.{steady-row, going-length, grown-as}
-use Rattle.sets.proofs.Walking.{Walk, walk-start, walk-end, walk-holds, walk-large, part-stays}
+use Rattle.sets.specs.Parts.{wordsOf, roomAt}
+use Rattle.sets.specs.Building.{row}
+use Rattle.sets.proofs.Steps.{steady-row, grown-as}
+use Rattle.sets.proofs.Walking.{part-stays, Walk, walk-start, walk-length, walk-end, walk-holds, walk-large, walked}
 use Rattle.sets.proofs.multiplying.add_product.Statement.{statement}
 use Rattle.sets.proofs.multiplying.add_product.Tie as tie
 
 abbrev Inv-loop : tie.InvT-loop
-Inv-loop words₀ from to by-from by-to at len most count₀ end i₀ words count i =
-    Walk at words₀ end (row (roomAt at most (length words₀)) (partBefore at by-from by-to words₀))
-    (multiplied (roomAt at most (length words₀)) (partBefore at from to words₀) (partBefore at by-from by-to words₀) (setAt at len words₀)) words count i
+Inv-loop words₀ by at most count₀ end i₀ words count i = Walk (λ room. row room (wordsOf at by words₀)) at most words₀ count₀ end i₀ words count i
 
 abbrev μ-loop : tie.MeasureT-loop
-μ-loop words₀ from to by-from by-to at len most count₀ end i₀ words count i = end - i
+μ-loop words₀ by at most count₀ end i₀ words count i = end - i
 
 reach-requires : tie.Need-reach-requires Inv-loop μ-loop
 reach-requires c κs = search needs
@@ -28,10 +27,7 @@ end-before-requires : tie.Need-end-before-requires Inv-loop μ-loop
 end-before-requires c κs = search needs
 
 loop-holds : tie.Need-loop-holds Inv-loop μ-loop
-loop-holds c =
-    let a = c .before .before .before .before .before .args in
-    walk-start (a .at) (a .words .now) (a .from) (a .to) (row (roomAt (a .at) (a .most) (length (a .words .now))) (partBefore (a .at) (a .by-from) (a .by-to) (a .words .now))) (a .len) (c .before .before .reach .result) (c .end-before .result)
-    (c .before .before .reach .ensures) (c .end-before .ensures)
+loop-holds c = walk-start _ _ _ _ _ _ _ (omega (arith, c .before .before .reach .ensures, c .end-before .ensures))
 
 read-label-requires : tie.Need-read-label-requires Inv-loop μ-loop
 read-label-requires c κs = search needs
@@ -46,14 +42,16 @@ enum-told : tie.Need-enum-told Inv-loop μ-loop
 enum-told c = search needs
 
 same-length : tie.Need-same-length Inv-loop μ-loop
-same-length c = c .before .before .before .before .add-row .kept .0 ∙ going-length (c .before .before .before .before .before .before .before .before .before .loop .inv) .0
+same-length c = c .before .before .before .before .add-row .kept .0 ∙ walk-length (c .before .before .before .before .before .before .before .before .before .loop .inv) .0
 
 returns : tie.Need-returns Inv-loop μ-loop
 returns c =
-    let a = c .before .before .before .before .before .before .before .before .before .before .before .before .before .before .before .args in
-    let p = walk-large (a .most) (a .to) (λ room. row room (partBefore (a .at) (a .by-from) (a .by-to) (a .words .now))) (λ room. steady-row room (partBefore (a .at) (a .by-from) (a .by-to) (a .words .now))) (c .before .before .before .before .before .before .before .before .before .loop .inv) (c .before .before .before .before .before .before .before .before .before .before .end-before .ensures) (c .before .before .before .before .before .before .before .before .loop-test .taken) (c .before .before .before .before .before .before .read-label .result .word)
-    (ap (λ x. x .word) (c .before .before .before .before .before .before .read-label .ensures)) (grown-as (λ s. ap (λ (ps : List ℕ). each (added (roomAt (a .at) (a .most) (length (c .before .before .before .before .before .before .before .before .before .loop .words))) (c .before .before .before .before .before .before .read-label .result .word)) ps s) (part-stays (a .by-from) (a .by-to) (c .before .before .before .before .before .before .before .before .before .loop .inv))) (c .before .before .before .before .add-row .ensures)) (c .enum-told .given .1) in
-    record { answer = p .0; words = p .1 }
+    let read = c .before .before .before .before .before .before in
+    let looped = read .before .before .before in
+    let a = looped .before .before .before .before .before .before .args in
+    let w = read .read-label .result .word in
+    walked (λ room. row room (wordsOf (a .target .at) (a .by) (a .words .now))) (a .target) (a .part) (looped .before .before .before .reach .ensures) (looped .before .end-before .ensures)
+    (walk-large (looped .loop .inv) (λ room. steady-row room (wordsOf (a .target .at) (a .by) (a .words .now))) (read .before .before .loop-test .taken) w (ap (λ x. x .word) (read .read-label .ensures)) (grown-as (λ s. ap (λ (b : List ℕ). row (roomAt (a .target .at) (a .target .most) (length (looped .loop .words))) b w s) (part-stays (a .by .from) (a .by .to) (looped .loop .inv .going))) (c .before .before .before .before .add-row .ensures)) (c .enum-told .given .1))
 
 add-i : tie.Need-add-i Inv-loop μ-loop
 add-i c = omega arith
@@ -63,21 +61,24 @@ loop-less c = omega arith
 
 loop-again : tie.Need-loop-again Inv-loop μ-loop
 loop-again c =
-    let a = c .before .before .before .before .before .before .before .before .before .before .before .before .before .before .before .before .args in
-    walk-holds (a .most) (a .to) (λ room. row room (partBefore (a .at) (a .by-from) (a .by-to) (a .words .now))) (λ room. steady-row room (partBefore (a .at) (a .by-from) (a .by-to) (a .words .now))) (c .before .before .before .before .before .before .before .before .before .before .loop .inv) (c .before .before .before .before .before .before .before .before .before .before .before .end-before .ensures) (c .before .before .before .before .before .before .before .before .before .loop-test .taken) (c .before .before .before .before .before .before .before .read-label .result .word)
-    (ap (λ x. x .word) (c .before .before .before .before .before .before .before .read-label .ensures)) (grown-as (λ s. ap (λ (ps : List ℕ). each (added (roomAt (a .at) (a .most) (length (c .before .before .before .before .before .before .before .before .before .before .loop .words))) (c .before .before .before .before .before .before .before .read-label .result .word)) ps s) (part-stays (a .by-from) (a .by-to) (c .before .before .before .before .before .before .before .before .before .before .loop .inv))) (c .before .before .before .before .before .add-row .ensures)) (c .before .step .given .0 .0) (c .before .step .given .1)
+    let read = c .before .before .before .before .before .before .before in
+    let looped = read .before .before .before in
+    let a = looped .before .before .before .before .before .before .args in
+    let w = read .read-label .result .word in
+    walk-holds (looped .loop .inv) (λ room. steady-row room (wordsOf (a .target .at) (a .by) (a .words .now))) (read .before .before .loop-test .taken) w (ap (λ x. x .word) (read .read-label .ensures)) (grown-as (λ s. ap (λ (b : List ℕ). row (roomAt (a .target .at) (a .target .most) (length (looped .loop .words))) b w s) (part-stays (a .by .from) (a .by .to) (looped .loop .inv .going))) (c .before .before .before .before .before .add-row .ensures))
+    (c .before .step .given .0 .0) (c .before .step .given .1)
 
 same-length-2 : tie.Need-same-length-2 Inv-loop μ-loop
-same-length-2 c = going-length (c .before .loop .inv) .0
+same-length-2 c = walk-length (c .before .loop .inv) .0
 
 returns-2 : tie.Need-returns-2 Inv-loop μ-loop
 returns-2 c =
-    let a = c .before .before .before .before .before .before .before .args in
-    let p = walk-end (row (roomAt (a .at) (a .most) (length (a .words .now))) (partBefore (a .at) (a .by-from) (a .by-to) (a .words .now))) (c .before .loop .inv) (omega (arith, c .before .before .end-before .ensures)) (c .loop-test .left) in
-    record { answer = p .0; words = p .1 }
+    let looped = c .before in
+    let a = looped .before .before .before .before .before .before .args in
+    walked (λ room. row room (wordsOf (a .target .at) (a .by) (a .words .now))) (a .target) (a .part) (looped .before .before .before .reach .ensures) (looped .before .end-before .ensures) (walk-end (looped .loop .inv) (c .loop-test .left))
 
 pub add-product-spec : {M : Type 1} → statement M
 add-product-spec =
     tie.close
-    (tie.spec Inv-loop μ-loop reach-requires end-before-requires loop-holds read-label-requires add-row-requires
-    enum-known-step enum-told same-length returns add-i loop-less loop-again same-length-2 returns-2)
+    (tie.spec Inv-loop μ-loop reach-requires end-before-requires loop-holds read-label-requires add-row-requires enum-known-step
+    enum-told same-length returns add-i loop-less loop-again same-length-2 returns-2)

@@ -4,21 +4,17 @@ use mathlib.Core.Path.{ap, _∙_}
 use Prim.Native.Nat.{_-_}
 use native.Mathlib.Omega.{arith}
 use borrow.Author.Needs.{needs}
-use lib.ListN.{length}
-use Rattle.sets.specs.Parts.{setAt, partBefore, roomAt}
-use Rattle.sets.specs.Building.{each, added}
-use Rattle.sets.proofs.Steps.{steady-added, going-length}
-use Rattle.sets.proofs.Walking.{Walk, walk-start, walk-end, walk-holds, walk-large}
+use Rattle.sets.specs.Building.{added}
+use Rattle.sets.proofs.Steps.{steady-added}
+use Rattle.sets.proofs.Walking.{Walk, walk-start, walk-length, walk-end, walk-holds, walk-large, walked}
 use Rattle.sets.proofs.multiplying.add_row.Statement.{statement}
 use Rattle.sets.proofs.multiplying.add_row.Tie as tie
 
 abbrev Inv-loop : tie.InvT-loop
-Inv-loop words₀ label from to at len most count₀ end i₀ words count i =
-    Walk at words₀ end (added (roomAt at most (length words₀)) (label .word))
-    (each (added (roomAt at most (length words₀)) (label .word)) (partBefore at from to words₀) (setAt at len words₀)) words count i
+Inv-loop words₀ label at most count₀ end i₀ words count i = Walk (λ room. added room (label .word)) at most words₀ count₀ end i₀ words count i
 
 abbrev μ-loop : tie.MeasureT-loop
-μ-loop words₀ label from to at len most count₀ end i₀ words count i = end - i
+μ-loop words₀ label at most count₀ end i₀ words count i = end - i
 
 reach-requires : tie.Need-reach-requires Inv-loop μ-loop
 reach-requires c κs = search needs
@@ -27,10 +23,7 @@ end-before-requires : tie.Need-end-before-requires Inv-loop μ-loop
 end-before-requires c κs = search needs
 
 loop-holds : tie.Need-loop-holds Inv-loop μ-loop
-loop-holds c =
-    let a = c .before .before .before .before .before .args in
-    walk-start (a .at) (a .words .now) (a .from) (a .to) (added (roomAt (a .at) (a .most) (length (a .words .now))) (a .label .word)) (a .len) (c .before .before .reach .result)
-    (c .end-before .result) (c .before .before .reach .ensures) (c .end-before .ensures)
+loop-holds c = walk-start _ _ _ _ _ _ _ (omega (arith, c .before .before .reach .ensures, c .end-before .ensures))
 
 read-label-requires : tie.Need-read-label-requires Inv-loop μ-loop
 read-label-requires c κs = search needs
@@ -39,7 +32,7 @@ sum-requires : tie.Need-sum-requires Inv-loop μ-loop
 sum-requires c κs = search needs
 
 take-sum-requires : tie.Need-take-sum-requires Inv-loop μ-loop
-take-sum-requires c κs = going-length (c .before .before .before .before .before .loop .inv) .1
+take-sum-requires c κs = search needs
 
 enum-known-step : tie.Need-enum-known-step Inv-loop μ-loop
 enum-known-step c = search needs
@@ -48,15 +41,16 @@ enum-told : tie.Need-enum-told Inv-loop μ-loop
 enum-told c = search needs
 
 same-length : tie.Need-same-length Inv-loop μ-loop
-same-length c = c .before .before .before .before .take-sum .kept .0 ∙ going-length (c .before .before .before .before .before .before .before .before .before .before .loop .inv) .0
+same-length c = c .before .before .before .before .take-sum .kept .0 ∙ walk-length (c .before .before .before .before .before .before .before .before .before .before .loop .inv) .0
 
 returns : tie.Need-returns Inv-loop μ-loop
 returns c =
-    let a = c .before .before .before .before .before .before .before .before .before .before .before .before .before .before .before .before .args in
-    let p = walk-large (a .most) (a .to) (λ room. added room (a .label .word)) (λ room w. steady-added room (a .label .word) w) (c .before .before .before .before .before .before .before .before .before .before .loop .inv)
-    (c .before .before .before .before .before .before .before .before .before .before .before .end-before .ensures) (c .before .before .before .before .before .before .before .before .before .loop-test .taken) (c .before .before .before .before .before .before .before .read-label .result .word) (ap (λ x. x .word) (c .before .before .before .before .before .before .before .read-label .ensures))
-    (rw (c .before .before .before .before .before .before .sum .ensures) at (c .before .before .before .before .take-sum .ensures)) (c .enum-told .given .1) in
-    record { answer = p .0; words = p .1 }
+    let read = c .before .before .before .before .before .before .before in
+    let looped = read .before .before .before in
+    let a = looped .before .before .before .before .before .before .args in
+    let w = read .read-label .result .word in
+    walked (λ room. added room (a .label .word)) (a .target) (a .by) (looped .before .before .before .reach .ensures) (looped .before .end-before .ensures)
+    (walk-large (looped .loop .inv) (λ room. steady-added room (a .label .word)) (read .before .before .loop-test .taken) w (ap (λ x. x .word) (read .read-label .ensures)) (rw (c .before .before .before .before .before .before .sum .ensures) at (c .before .before .before .before .take-sum .ensures)) (c .enum-told .given .1))
 
 add-i : tie.Need-add-i Inv-loop μ-loop
 add-i c = omega arith
@@ -66,19 +60,21 @@ loop-less c = omega arith
 
 loop-again : tie.Need-loop-again Inv-loop μ-loop
 loop-again c =
-    let a = c .before .before .before .before .before .before .before .before .before .before .before .before .before .before .before .before .before .args in
-    walk-holds (a .most) (a .to) (λ room. added room (a .label .word)) (λ room w. steady-added room (a .label .word) w) (c .before .before .before .before .before .before .before .before .before .before .before .loop .inv)
-    (c .before .before .before .before .before .before .before .before .before .before .before .before .end-before .ensures) (c .before .before .before .before .before .before .before .before .before .before .loop-test .taken) (c .before .before .before .before .before .before .before .before .read-label .result .word) (ap (λ x. x .word) (c .before .before .before .before .before .before .before .before .read-label .ensures))
-    (rw (c .before .before .before .before .before .before .before .sum .ensures) at (c .before .before .before .before .before .take-sum .ensures)) (c .before .step .given .0 .0) (c .before .step .given .1)
+    let read = c .before .before .before .before .before .before .before .before in
+    let looped = read .before .before .before in
+    let a = looped .before .before .before .before .before .before .args in
+    let w = read .read-label .result .word in
+    walk-holds (looped .loop .inv) (λ room. steady-added room (a .label .word)) (read .before .before .loop-test .taken) w (ap (λ x. x .word) (read .read-label .ensures)) (rw (c .before .before .before .before .before .before .before .sum .ensures) at (c .before .before .before .before .before .take-sum .ensures))
+    (c .before .step .given .0 .0) (c .before .step .given .1)
 
 same-length-2 : tie.Need-same-length-2 Inv-loop μ-loop
-same-length-2 c = going-length (c .before .loop .inv) .0
+same-length-2 c = walk-length (c .before .loop .inv) .0
 
 returns-2 : tie.Need-returns-2 Inv-loop μ-loop
 returns-2 c =
-    let a = c .before .before .before .before .before .before .before .args in
-    let p = walk-end (added (roomAt (a .at) (a .most) (length (a .words .now))) (a .label .word)) (c .before .loop .inv) (omega (arith, c .before .before .end-before .ensures)) (c .loop-test .left) in
-    record { answer = p .0; words = p .1 }
+    let looped = c .before in
+    let a = looped .before .before .before .before .before .before .args in
+    walked (λ room. added room (a .label .word)) (a .target) (a .by) (looped .before .before .before .reach .ensures) (looped .before .end-before .ensures) (walk-end (looped .loop .inv) (c .loop-test .left))
 
 pub add-row-spec : {M : Type 1} → statement M
 add-row-spec =

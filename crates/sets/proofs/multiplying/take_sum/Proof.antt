@@ -1,8 +1,7 @@
 -- `sets::multiplying::take_sum` meets its contract. Assumes nothing.
-use mathlib.Core.Path.{refl}
+use mathlib.Core.Path.{refl, sym}
 use borrow.Author.Needs.{needs}
-use Rattle.sets.specs.Building.{stopped}
-use Rattle.sets.proofs.Steps.{going-start, going-stop}
+use Rattle.sets.proofs.Laid.{laid-self}
 use Rattle.sets.proofs.multiplying.take_sum.Statement.{statement}
 use Rattle.sets.proofs.multiplying.take_sum.Tie as tie
 
@@ -18,8 +17,7 @@ enter-requires c κs = search needs
 returns : tie.Need-returns
 returns c =
     let a = c .before .before .before .args in
-    let p = going-stop (going-start (a .at) (a .words .now) (a .len) stopped (c .before .before .before .pre)) (λ s. refl) in
-    rw (c .enum-told .given .1) (record { answer = p .0; words = p .1 })
+    rw (c .enum-told .given .1) (record { answer = refl; words = sym (laid-self (a .target .at) (a .target .len) (a .words .now)) })
 
 same-length : tie.Need-same-length
 same-length c = search needs

@@ -19,7 +19,7 @@ same-length c = search needs
 
 returns : tie.Need-returns
 returns c =
-    both-large (c .before .before .before .before .before .before .before .args .at) (c .before .before .before .before .before .before .before .args .most) (c .before .before .before .before .before .before .before .args .from) (c .before .before .before .before .before .before .before .args .to) (c .before .before .before .before .before .before .before .args .by-from) (c .before .before .before .before .before .before .before .args .by-to) (c .before .before .before .before .before .before .before .args .work .now) _ (rw (c .enum-told .given .1) at (c .before .before .before .before .union .ensures))
+    both-large (c .before .before .before .before .before .before .before .args .at) (c .before .before .before .before .before .before .before .args .most) (c .before .before .before .before .before .before .before .args .part .from) (c .before .before .before .before .before .before .before .args .part .to) (c .before .before .before .before .before .before .before .args .by .from) (c .before .before .before .before .before .before .before .args .by .to) (c .before .before .before .before .before .before .before .args .work .now) _ (rw (c .enum-told .given .1) at (c .before .before .before .before .union .ensures))
 
 add-product-requires : tie.Need-add-product-requires
 add-product-requires c κs = search needs
@@ -29,7 +29,7 @@ same-length-2 c = search needs
 
 returns-2 : tie.Need-returns-2
 returns-2 c =
-    both-last (c .before .before .before .before .before .before .before .before .before .before .before .before .args .at) (c .before .before .before .before .before .before .before .before .before .before .before .before .args .most) (c .before .before .before .before .before .before .before .before .before .before .before .before .args .from) (c .before .before .before .before .before .before .before .before .before .before .before .before .args .to) (c .before .before .before .before .before .before .before .before .before .before .before .before .args .by-from) (c .before .before .before .before .before .before .before .before .before .before .before .before .args .by-to) (c .before .before .before .before .before .before .before .before .before .before .before .before .args .work .now) _ (c .before .before .before .before .before .first .given .0 .0) _ _ (rw (c .before .before .before .before .before .first .given .1) at (c .before .before .before .before .before .before .before .before .before .union .ensures)) (c .before .before .add-product .ensures)
+    both-last (c .before .before .before .before .before .before .before .before .before .before .before .before .args .at) (c .before .before .before .before .before .before .before .before .before .before .before .before .args .most) (c .before .before .before .before .before .before .before .before .before .before .before .before .args .part .from) (c .before .before .before .before .before .before .before .before .before .before .before .before .args .part .to) (c .before .before .before .before .before .before .before .before .before .before .before .before .args .by .from) (c .before .before .before .before .before .before .before .before .before .before .before .before .args .by .to) (c .before .before .before .before .before .before .before .before .before .before .before .before .args .work .now) _ (c .before .before .before .before .before .first .given .0 .0) _ _ (rw (c .before .before .before .before .before .first .given .1) at (c .before .before .before .before .before .before .before .before .before .union .ensures)) (c .before .before .add-product .ensures)
 
 pub both-spec : {M : Type 1} → statement M
 both-spec =

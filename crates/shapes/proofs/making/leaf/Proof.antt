@@ -1,6 +1,6 @@
 -- `shapes::making::leaf` meets its contract: what an insertion answers.
 -- Assumes nothing.
-use Prim.Native.Nat.{zero-le}
+use native.Mathlib.Omega.{arith}
 use Rattle.sets.specs.Building.{done}
 use Rattle.sets.proofs.Steps.{followed-stops, followed-stays, followed-ends}
 use borrow.Author.Needs.{needs}
@@ -23,22 +23,19 @@ same-length : tie.Need-same-length
 same-length c = search needs
 
 returns : tie.Need-returns
-returns c =
-    followed-stops (c .before .before .before .before .before .before .before .args .at) 0 (c .before .before .before .before .before .before .before .args .most) (c .before .before .before .before .before .before .before .args .label .word) (c .before .before .before .before .before .before .before .args .work .now) _ zero-le (c .before .before .before .before .insert .result) done (c .before .before .before .before .insert .ensures) (c .enum-told .given .1)
+returns c = followed-stops (c .before .before .before .before .insert .ensures) done (c .enum-told .given .1)
 
 same-length-2 : tie.Need-same-length-2
 same-length-2 c = search needs
 
 returns-2 : tie.Need-returns-2
-returns-2 c =
-    followed-stays (c .before .before .before .before .before .before .before .args .at) 0 (c .before .before .before .before .before .before .before .args .most) (c .before .before .before .before .before .before .before .args .label .word) (c .before .before .before .before .before .before .before .args .work .now) _ zero-le (c .before .before .before .before .insert .result) done (c .before .before .before .before .insert .ensures) (c .enum-told2 .given .1)
+returns-2 c = followed-stays (c .before .before .before .before .insert .ensures) 0 (omega arith) done (c .enum-told2 .given .1)
 
 same-length-3 : tie.Need-same-length-3
 same-length-3 c = search needs
 
 returns-3 : tie.Need-returns-3
-returns-3 c =
-    followed-ends (c .before .before .before .before .before .before .before .args .at) 0 (c .before .before .before .before .before .before .before .args .most) (c .before .before .before .before .before .before .before .args .label .word) (c .before .before .before .before .before .before .before .args .work .now) _ zero-le (c .before .before .before .before .insert .result) (c .before .before .before .before .insert .ensures) (c .enum-told3 .given .1)
+returns-3 c = followed-ends (c .before .before .before .before .insert .ensures) 0 (omega arith) (c .enum-told3 .given .1)
 
 pub leaf-spec : {M : Type 1} → statement M
 leaf-spec =
