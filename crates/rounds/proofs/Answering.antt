@@ -13,7 +13,8 @@ use Rattle.meaning.specs.Rounds.{allowed}
 use Rattle.meaning.specs.Answers.{admits, cut}
 use Rattle.labels.proofs.Meant.{Packs}
 use Rattle.sets.proofs.Meant.{AllPack}
-use Rattle.sets.proofs.Ways.{number-zero, same-test, member-number}
+use Rattle.ways.proofs.Refinement.{same-test, member-number}
+use Rattle.labels.proofs.Sizes.{number-zero}
 use Rattle.rounds.specs.Cutting.{allows, cutWords}
 use Rattle.rounds.proofs.Shaped.{listed-packs}
 

@@ -4,7 +4,7 @@ use mathlib.Core.Bool.{Bool, true, false, _||_}
 use mathlib.Core.List.{List, [], _∷_}
 use Prim.Native.Nat.{ℕ}
 use lib.Dec.{eqb}
-use Rattle.sets.specs.Building.{listedIn}
+use Rattle.ways.specs.Imaging.{listedIn}
 
 -- whether an order allows a word: `all` allows every one, a list what it lists
 unfoldable pub allows : Bool → List ℕ → ℕ → Bool

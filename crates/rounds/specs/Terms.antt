@@ -8,7 +8,7 @@ use lib.ListN.{length, getD}
 use Rattle.meaning.specs.Labels.{number, single}
 use Rattle.table.specs.declared.Term.{Term}
 use Rattle.table.specs.declared.Term.the-variants.{Delta, Tau, Act, Ref, Sum, Cond, Choice, IfElse, Seq, Merge, LMerge, Sync, Wrap}
-use Rattle.sets.specs.declared.Way.the-variants.{Copy}
+use Rattle.ways.specs.declared.Way.the-variants.{Copy}
 use Rattle.sets.specs.Parts.{partBefore}
 use Rattle.sets.specs.Building.{Building, done, stopped, next, multiplied}
 use Rattle.sets.specs.declared.Part.{Part}

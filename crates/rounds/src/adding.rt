@@ -1,10 +1,10 @@
 // What the new labels of two sets add to a set.
 use sets::Built;
-use sets::Way;
 use shapes::Giving;
 use shapes::Growth;
 use shapes::growing::add_new;
 use shapes::operators::through;
+use ways::Way;
 ghost use lib.ListN.{length};
 ghost use Rattle.sets.specs.Parts.{roomAt};
 ghost use Rattle.sets.specs.Building.{Grown};

@@ -4,7 +4,7 @@ ghost use mathlib.Core.Bool.{_||_};
 ghost use Prim.Native.Nat.{_≤_};
 ghost use lib.Dec.{eqb};
 ghost use lib.ListN.{length};
-ghost use Rattle.sets.specs.Building.{listedIn};
+ghost use Rattle.ways.specs.Imaging.{listedIn};
 ghost use Rattle.shapes.specs.Putting.{put};
 ghost use Rattle.rounds.specs.Cutting.{allows, cutWords};
 

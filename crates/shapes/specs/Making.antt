@@ -2,8 +2,9 @@
 -- Assumes nothing.
 use mathlib.Core.List.{List}
 use Prim.Native.Nat.{ℕ}
-use Rattle.sets.specs.declared.Way.{Way}
-use Rattle.sets.specs.Building.{Building, next, each, enter, imaged, multiplied}
+use Rattle.ways.specs.declared.Way.{Way}
+use Rattle.sets.specs.Building.{Building, next, each, enter, multiplied}
+use Rattle.ways.specs.Imaging.{imaged}
 use Rattle.sets.specs.Joining.{united}
 
 abbrev pub leafBuilt : ℕ → ℕ → List ℕ → Building

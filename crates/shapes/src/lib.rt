@@ -8,7 +8,7 @@ pub mod sameness;
 pub mod starts;
 
 use sets::Part;
-use sets::Way;
+use ways::Way;
 
 // A set as it was in the round before and as it is in this one.
 pub struct Growth {
