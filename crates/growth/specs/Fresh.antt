@@ -4,7 +4,8 @@ use mathlib.Core.Bool.{true, false}
 use mathlib.Core.List.{List, [], _∷_}
 use Prim.Native.Nat.{ℕ}
 use lib.Dec.{eqb}
-use Rattle.sets.specs.Building.{Building, imaged, row}
+use Rattle.sets.specs.Building.{Building, row}
+use Rattle.ways.specs.Imaging.{imaged}
 use Rattle.places.specs.declared.Growth.{Growth}
 use Rattle.sets.specs.Parts.{wordsOf}
 use Rattle.growth.specs.declared.Giving.{Giving}

@@ -6,9 +6,10 @@ use lib.ListN.{length, take}
 use Rattle.table.specs.declared.Operator.{Operator}
 use Rattle.table.specs.declared.Operator.the-variants as O
 use Rattle.table.specs.Decoded.{wordsAt}
-use Rattle.sets.specs.declared.Way.{Way}
-use Rattle.sets.specs.declared.Way.the-variants.{Block, Hide, Rename, Comm, Allow}
-use Rattle.sets.specs.Building.{Building, each, imaged}
+use Rattle.ways.specs.declared.Way.{Way}
+use Rattle.ways.specs.declared.Way.the-variants.{Block, Hide, Rename, Comm, Allow}
+use Rattle.sets.specs.Building.{Building, each}
+use Rattle.ways.specs.Imaging.{imaged}
 use Rattle.growth.specs.Exchanging.{exchangeList}
 
 -- The way of an operator, and its list as the way takes it: of rules, the first eight.

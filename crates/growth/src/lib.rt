@@ -4,7 +4,7 @@ pub mod growing;
 pub mod operators;
 
 use sets::Part;
-use sets::Way;
+use ways::Way;
 
 // What labels give: what a way makes of each, or the sum of each with each label of a part.
 pub enum Giving {

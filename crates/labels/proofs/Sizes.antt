@@ -1,6 +1,7 @@
 -- The size of a word's bag, by a division: 32 is 1 modulo 31, so that a number and the sum of its digits leave the same remainder.
 -- Assumes nothing.
 use mathlib.Core.Path.{_≡_, refl, _∙_}
+use mathlib.Core.Logic.{_↔_}
 use mathlib.Core.List.{[], _∷_}
 use Prim.Native.Nat.{ℕ, _+_, _-_, _*_, _/_, _^_, _≤_, _<_}
 use native.Mathlib.Decide.{decLt, decLe}
@@ -25,10 +26,12 @@ unfolding number size
 number-digits [] = (0, refl)
 number-digits (x ∷ a) = let p = number-digits a in (size a + 32 * p .0, omega (arith, p .1))
 
-number-zero : (a : Label) → size a ≡ 0 → number a ≡ 0
+pub number-zero : (a : Label) → (size a ≡ 0) ↔ (number a ≡ 0)
 unfolding number size
-number-zero [] h = refl
-number-zero (x ∷ a) h = let e = number-zero a (omega arith) in omega arith
+number-zero [] = (λ h. refl, λ h. refl)
+number-zero (x ∷ a) =
+    let ih = number-zero a in
+    (λ h. let e = ih .0 (omega arith) in omega arith, λ h. let e = ih .1 (omega arith) in omega arith)
 
 -- The size of a word, by the word alone.
 pub size-word : (w : ℕ) → w < 2 ^ 64 → sizeOf w ≡ w - 31 * ((w - 1) / 31)
@@ -39,5 +42,5 @@ size-word w h =
     let e = number-bag w h in
     elim (decLt 0 s) [
       | yes l ↦ folded-all s ∙ omega (arith, p .1)
-      | no l ↦ let z = number-zero (bag w) (omega arith) in folded-all s ∙ omega arith
+      | no l ↦ let z = number-zero (bag w) .0 (omega arith) in folded-all s ∙ omega arith
     ]

@@ -10,7 +10,7 @@ use native.Mathlib.Omega.{arith}
 use lib.Seq.{drop-cons}
 use borrow.Author.Tests.{eq-eqb, ne-eqb, le-leb, lt-leb}
 use lib.ListN.{length, getD, drop, set, drop-of-length-le, length-drop}
-use Rattle.sets.specs.Building.{listedIn}
+use Rattle.ways.specs.Imaging.{listedIn}
 use Rattle.places.specs.Cutting.{allows, cutWords, cutInto, put}
 use Rattle.places.proofs.Filling.{Filling, filling-start, filling-step, filling-end, left-first}
 

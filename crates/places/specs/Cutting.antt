@@ -5,7 +5,7 @@ use mathlib.Core.List.{List, [], _∷_, _++_}
 use Prim.Native.Nat.{ℕ}
 use lib.Dec.{leb, eqb}
 use lib.ListN.{length, drop}
-use Rattle.sets.specs.Building.{listedIn}
+use Rattle.ways.specs.Imaging.{listedIn}
 
 -- whether an order allows a word: `all` allows every one, a list what it lists
 unfoldable pub allows : Bool → List ℕ → ℕ → Bool

@@ -1,7 +1,7 @@
 // The root's set, cut to the order.
 ghost use mathlib.Core.Path.{_≡_};
 ghost use lib.ListN.{length};
-ghost use Rattle.sets.specs.Building.{listedIn};
+ghost use Rattle.ways.specs.Imaging.{listedIn};
 ghost use Rattle.places.specs.Cutting.{allows, cutInto, put};
 
 // Whether a word is in a list.

@@ -6,11 +6,11 @@ use libc::STDOUT_FILENO;
 use sets::Built;
 use sets::Part;
 use sets::Target;
-use sets::Way;
-use sets::imaging::add_image;
 use sets::inserting::insert;
 use sets::joining::union;
 use sets::multiplying::add_product;
+use ways::Way;
+use ways::imaging::add_image;
 
 fn count(answer: Built) -> usize {
     match answer {

@@ -3,13 +3,10 @@ pub mod Laid
 pub mod Halving
 pub mod Insertion
 pub mod Steps
-pub mod Closure
 pub mod Walking
-pub mod Listing
 pub mod Sorting
 pub mod Parts
 pub mod Uniting
 pub mod Meant
-pub mod Ways
-pub mod Communication
+pub mod Outcomes
 pub mod Uniqueness

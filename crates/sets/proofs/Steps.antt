@@ -4,7 +4,7 @@
 use mathlib.Core.Path.{_≡_, refl, sym, ap, ap₂, _∙_}
 use mathlib.Core.Bool.{Bool, true, false}
 use mathlib.Core.List.{List, [], _∷_}
-use Prim.Native.Nat.{ℕ, zero, suc, _+_, _-_, _≤_, _<_, max}
+use Prim.Native.Nat.{ℕ, suc, _+_, _-_, _≤_, _<_, max}
 use native.Mathlib.Omega.{arith}
 use borrow.Author.Tests.{ltb-true}
 use lib.Dec.{ltb}
@@ -17,10 +17,9 @@ use Rattle.sets.specs.declared.Built.{Built}
 use Rattle.sets.specs.declared.Built.the-variants.{TooLarge, Holds}
 use Rattle.sets.specs.declared.Offer.{Offer}
 use Rattle.sets.specs.declared.Offer.the-variants.{Nothing, TooLong, Next}
-use Rattle.sets.specs.declared.Way.{Way}
 use Rattle.sets.specs.Parts.{setAt, laid, roomAt, reachOf}
 use Rattle.sets.specs.Inserting.{present, putIn, pickInserted, inserted, Entered}
-use Rattle.sets.specs.Building.{Building, done, stopped, pickBuilt, answerOf, goesOn, next, each, followed, enter, taken, summed, Exchange, exchangesIn, exchangeOf, eachRule, closed, offerOf, depthOf, imaged, added, row, Grown}
+use Rattle.sets.specs.Building.{Building, done, stopped, pickBuilt, answerOf, goesOn, next, each, followed, enter, taken, summed, added, row, Grown}
 use Rattle.sets.proofs.Laid.{Fits, length-setAt, laid-self, length-laid, setAt-laid, laid-laid}
 
 -- The length of a set under each step.
@@ -40,7 +39,7 @@ unfoldable pub Steady : ℕ → (List ℕ → Building) → Type 0
 Steady room f = (s : List ℕ) → (length s ≤ length (f s .set)) × (length (f s .set) ≤ max (length s) room)
 
 module _ (room : ℕ) where
-  steady-done : Steady room done
+  pub steady-done : Steady room done
   unfolding Steady
   steady-done s = omega arith
 
@@ -57,7 +56,7 @@ module _ (room : ℕ) where
   steady-each step [] p = steady-done
   steady-each step (w ∷ ws) p = steady-next (step w) (each step ws) (p w) (steady-each step ws p)
 
-  steady-followed : (w : ℕ) (more : List ℕ → Building) → Steady room more → Steady room (λ s. followed (inserted room w s) w more s)
+  pub steady-followed : (w : ℕ) (more : List ℕ → Building) → Steady room more → Steady room (λ s. followed (inserted room w s) w more s)
   unfolding Steady
   steady-followed w more p s = go (inserted room w s) refl
     where
@@ -72,23 +71,8 @@ module _ (room : ℕ) where
   steady-taken step TooLong p = λ s. omega arith
   steady-taken step (Next a) p = p (code a)
 
-  pub steady-eachRule : (step : ℕ → List ℕ → Building) (rs : List Exchange) (w : ℕ) → ((v : ℕ) → Steady room (step v)) → Steady room (eachRule step rs w)
-  unfolding eachRule
-  steady-eachRule step [] w p = steady-done
-  steady-eachRule step (r ∷ rs) w p =
-      steady-next (taken step (exchangeOf (r .left) (r .right) w)) (eachRule step rs w) (steady-taken step (exchangeOf (r .left) (r .right) w) p)
-      (steady-eachRule step rs w p)
-
   pub steady-enter : (w : ℕ) → Steady room (enter room w)
   steady-enter w = steady-followed w done steady-done
-
-  pub steady-closed : (rs : List Exchange) (depth w : ℕ) → Steady room (closed room rs depth w)
-  unfolding closed
-  steady-closed rs zero w = steady-enter w
-  steady-closed rs (suc depth) w = steady-followed w (eachRule (closed room rs depth) rs w) (steady-eachRule (closed room rs depth) rs w (steady-closed rs depth))
-
-  pub steady-imaged : (way : Way) (list : List ℕ) (w : ℕ) → Steady room (imaged room way list w)
-  steady-imaged way list w = steady-taken (closed room (exchangesIn list) (depthOf way)) (offerOf way list w) (steady-closed (exchangesIn list) (depthOf way))
 
   pub steady-added : (a w : ℕ) → Steady room (added room a w)
   steady-added a w = steady-taken (enter room) (summed (sumOf a w)) steady-enter

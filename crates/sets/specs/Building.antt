@@ -1,26 +1,20 @@
 -- Sets built label by label, until one finds no room.
 -- Assumes nothing.
 use mathlib.Core.Path.{_≡_}
-use mathlib.Core.Bool.{Bool, true, false, _||_}
+use mathlib.Core.Bool.{Bool, true, false}
 use mathlib.Core.List.{List, [], _∷_}
-use Prim.Native.Nat.{ℕ, zero, suc, _-_}
-use lib.Dec.{eqb}
-use lib.ListN.{length, getD}
-use Rattle.meaning.specs.Labels.{number, labelOf, inside, clear, without, renamed}
+use Prim.Native.Nat.{ℕ}
+use lib.ListN.{length}
 use Rattle.labels.specs.declared.Sum.{Sum}
 use Rattle.labels.specs.declared.Sum.the-variants.{Over, Of}
-use Rattle.labels.specs.Packing.{held, code, packed}
-use Rattle.labels.specs.Bags.{bag, sumOf}
-use Rattle.labels.specs.Pairs.{pairsIn}
-use Rattle.names.specs.Names.{targets}
+use Rattle.labels.specs.Packing.{code}
+use Rattle.labels.specs.Bags.{sumOf}
 use Rattle.sets.specs.declared.Inserted.{Inserted}
 use Rattle.sets.specs.declared.Inserted.the-variants.{Full, Present, Added}
 use Rattle.sets.specs.declared.Built.{Built}
 use Rattle.sets.specs.declared.Built.the-variants.{TooLarge, Holds}
 use Rattle.sets.specs.declared.Offer.{Offer}
 use Rattle.sets.specs.declared.Offer.the-variants.{Nothing, TooLong, Next}
-use Rattle.sets.specs.declared.Way.{Way}
-use Rattle.sets.specs.declared.Way.the-variants.{Copy, Block, Hide, Rename, Comm, Allow}
 use Rattle.sets.specs.declared.Target.{Target}
 use Rattle.sets.specs.Parts.{setAt, laid, roomAt}
 use Rattle.sets.specs.Inserting.{putIn, inserted}
@@ -73,70 +67,6 @@ taken step (Next a) s = step (code a) s
 abbrev pub summed : Sum → Offer
 summed Over = TooLong
 summed (Of a) = Next a
-
--- A rule of comm: two labels, its left side and that of the one action on its right. A list of rules holds them in pairs.
-pub record Exchange : Type 0 where
-  pub left : ℕ
-  pub right : ℕ
-
-unfoldable pub exchangesIn : List ℕ → List Exchange
-exchangesIn [] = []
-exchangesIn (left ∷ []) = []
-exchangesIn (left ∷ right ∷ ls) = record { left = left; right = right } ∷ exchangesIn ls
-
--- What a rule makes of a label: if its left side lies inside the label, the label with that part replaced. Each rule in turn.
-abbrev pub pickOffer : Bool → Offer → Offer
-pickOffer true o = o
-pickOffer false o = Nothing
-
-abbrev pub exchangeOf : ℕ → ℕ → ℕ → Offer
-exchangeOf left right w = pickOffer (inside (bag left) (bag w)) (summed (sumOf (w - left) right))
-
-unfoldable pub eachRule : (ℕ → List ℕ → Building) → List Exchange → ℕ → List ℕ → Building
-eachRule step [] w s = done s
-eachRule step (r ∷ rs) w s = next (taken step (exchangeOf (r .left) (r .right) w) s) (eachRule step rs w)
-
--- A label with all that follows from it by at most so many applications, one after the other. From a label that was there
--- already nothing is followed again. Which labels are in when the room runs out depends on the order of the walk, so the walk
--- is what is written here. Where the room does not run out, the set holds the labels before and all that follow by rules, and no
--- others: `comm-outcome` in proofs/Communication.antt.
-unfoldable pub closed : ℕ → List Exchange → ℕ → ℕ → List ℕ → Building
-closed room rs zero w s = enter room w s
-closed room rs (suc depth) w s = followed (inserted room w s) w (eachRule (closed room rs depth) rs w) s
-
--- What each way makes of a label, by the words of its list; and how many applications of rules are followed from there. An
--- application leaves fewer actions than there were, so 31 are enough for a label.
-unfoldable pub listedIn : ℕ → List ℕ → Bool
-listedIn w [] = false
-listedIn w (v ∷ vs) = eqb w v || listedIn w vs
-
-abbrev pub offerOf : Way → List ℕ → ℕ → Offer
-offerOf Copy list w = Next (packed w)
-offerOf Block list w = pickOffer (clear list (bag w)) (Next (packed w))
-offerOf Hide list w = Next (packed (number (without list (bag w))))
-offerOf Rename list w = Next (packed (number (renamed 12 (λ n. getD (targets (pairsIn list)) n 0) (labelOf 12 w))))
-offerOf Comm list w = Next (packed w)
-offerOf Allow list w = pickOffer (eqb w 0 || listedIn w (held list)) (Next (packed w))
-
--- the map that a renaming goes by
-abbrev pub MapFor : Way → (list map : List ℕ) → Type 0
-MapFor Rename list map = map ≡ targets (pairsIn list)
-MapFor Copy list map = Unit {0}
-MapFor Block list map = Unit {0}
-MapFor Hide list map = Unit {0}
-MapFor Comm list map = Unit {0}
-MapFor Allow list map = Unit {0}
-
-abbrev pub depthOf : Way → ℕ
-depthOf Copy = 0
-depthOf Block = 0
-depthOf Hide = 0
-depthOf Rename = 0
-depthOf Comm = 31
-depthOf Allow = 0
-
-abbrev pub imaged : ℕ → Way → List ℕ → ℕ → List ℕ → Building
-imaged room way list w = taken (closed room (exchangesIn (held list)) (depthOf way)) (offerOf way list w)
 
 -- The product of two lists: each label of the first added to each of the second.
 abbrev pub added : ℕ → ℕ → ℕ → List ℕ → Building

@@ -4,13 +4,10 @@
 use labels::Label;
 
 pub mod comparing;
-mod following;
-pub mod imaging;
 pub mod inserting;
 pub mod joining;
 pub mod multiplying;
 pub mod placing;
-mod rules;
 
 // How many labels a set may have.
 pub const MOST_LABELS: usize = 1024;
@@ -47,14 +44,4 @@ pub enum Offer {
 pub enum Built {
     TooLarge,
     Holds(usize),
-}
-
-// What is made of the labels of a part: they are copied, or go through one of the five operators with its list.
-pub enum Way {
-    Copy,
-    Block,
-    Hide,
-    Rename,
-    Comm,
-    Allow,
 }

@@ -8,12 +8,14 @@ use native.Mathlib.Omega.{arith}
 use lib.ListN.{length, take}
 use Rattle.sets.specs.declared.Built.{Built}
 use Rattle.sets.specs.declared.Built.the-variants.{TooLarge, Holds}
-use Rattle.sets.specs.declared.Way.{Way}
-use Rattle.sets.specs.declared.Way.the-variants.{Copy}
+use Rattle.ways.specs.declared.Way.{Way}
+use Rattle.ways.specs.declared.Way.the-variants.{Copy}
 use Rattle.sets.specs.Parts.{setAt, laid, part, roomAt}
-use Rattle.sets.specs.Building.{Building, answerOf, next, imaged, multiplied, Grown}
+use Rattle.sets.specs.Building.{Building, answerOf, next, multiplied, Grown}
+use Rattle.ways.specs.Imaging.{imaged}
 use Rattle.sets.proofs.Laid.{length-setAt, take-laid}
-use Rattle.sets.proofs.Steps.{Steady, steady-each, steady-next, steady-imaged, Going, going-last, grown-as, next-holds, next-large, built-holds}
+use Rattle.sets.proofs.Steps.{Steady, steady-each, steady-next, Going, going-last, grown-as, next-holds, next-large, built-holds}
+use Rattle.ways.proofs.Images.{steady-imaged}
 use Rattle.sets.specs.declared.Part.{Part}
 use Rattle.places.specs.declared.Growth.{Growth}
 use Rattle.growth.specs.Fresh.{fresh}

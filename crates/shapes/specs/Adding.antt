@@ -3,7 +3,7 @@
 use mathlib.Core.Bool.{Bool, true, false}
 use mathlib.Core.List.{List, []}
 use Prim.Native.Nat.{ℕ}
-use Rattle.sets.specs.declared.Way.the-variants.{Copy}
+use Rattle.ways.specs.declared.Way.the-variants.{Copy}
 use Rattle.sets.specs.Building.{Building, next, multiplied}
 use Rattle.growth.specs.Ways.{throughBuilt}
 use Rattle.shapes.specs.Making.{eitherBuilt, bothBuilt}

@@ -4,7 +4,7 @@ use growth::growing::add_new;
 use growth::operators::through;
 use places::Growth;
 use sets::Built;
-use sets::Way;
+use ways::Way;
 ghost use lib.ListN.{length};
 ghost use Rattle.sets.specs.Parts.{wordsOf, roomAt};
 ghost use Rattle.sets.specs.Building.{Grown};

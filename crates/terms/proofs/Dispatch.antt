@@ -21,7 +21,7 @@ use Rattle.table.proofs.Stored.{body-of}
 use Rattle.labels.proofs.Words.{number-empty}
 use Rattle.labels.proofs.Meant.{Packs, single-number}
 use Rattle.sets.specs.declared.Built.{Built}
-use Rattle.sets.specs.declared.Way.{Way}
+use Rattle.ways.specs.declared.Way.{Way}
 use Rattle.sets.specs.Parts.{roomAt}
 use Rattle.sets.specs.Building.{next, Grown}
 use Rattle.shapes.specs.Making.{leafBuilt}

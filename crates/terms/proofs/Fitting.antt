@@ -8,11 +8,13 @@ use native.Mathlib.Omega.{arith}
 use lib.Dec.{leb}
 use lib.ListN.{length}
 use borrow.Author.Tests.{leb-true}
-use Rattle.sets.specs.declared.Way.{Way}
-use Rattle.sets.specs.declared.Way.the-variants.{Copy}
-use Rattle.sets.specs.Building.{Building, goesOn, next, imaged, row, multiplied}
+use Rattle.ways.specs.declared.Way.{Way}
+use Rattle.ways.specs.declared.Way.the-variants.{Copy}
+use Rattle.sets.specs.Building.{Building, goesOn, next, row, multiplied}
+use Rattle.ways.specs.Imaging.{imaged}
 use Rattle.sets.specs.Joining.{joined, ascent, fitting, united}
-use Rattle.sets.proofs.Steps.{Steady, steady-each, steady-enter, steady-imaged, steady-row}
+use Rattle.sets.proofs.Steps.{Steady, steady-each, steady-enter, steady-row}
+use Rattle.ways.proofs.Images.{steady-imaged}
 use Rattle.shapes.specs.Making.{leafBuilt, eitherBuilt, jointBuilt, bothBuilt}
 use Rattle.growth.specs.Ways.{throughBuilt}
 use Rattle.places.specs.Laying.{fitted, copyBuilt}

@@ -25,9 +25,9 @@ use Rattle.meaning.proofs.Outcomes.{SameFor, made-same}
 use Rattle.meaning.proofs.Growth.{round-grows, round-length, at-body}
 use Rattle.labels.proofs.Meant.{packs-small}
 use Rattle.sets.specs.declared.Built.{Built}
-use Rattle.sets.specs.declared.Way.the-variants.{Copy}
+use Rattle.ways.specs.declared.Way.the-variants.{Copy}
 use Rattle.sets.specs.Building.{Building, next, Grown, multiplied}
-use Rattle.sets.proofs.Communication.{rule-legal}
+use Rattle.comm.proofs.Communication.{rule-legal}
 use Rattle.sets.proofs.Meant.{AllPack}
 use Rattle.growth.specs.Fresh.{fresh}
 use Rattle.growth.specs.Ways.{throughBuilt}

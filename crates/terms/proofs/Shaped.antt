@@ -19,13 +19,14 @@ use Rattle.meaning.proofs.Sorted.{Within}
 use Rattle.meaning.proofs.Members.{in-append}
 use Rattle.labels.proofs.Stored.{pairWords, labelWords, ruleLabels}
 use Rattle.labels.proofs.Meant.{Packs}
-use Rattle.sets.specs.declared.Way.{Way}
-use Rattle.sets.specs.declared.Way.the-variants.{Copy, Block, Hide, Rename, Comm, Allow}
+use Rattle.ways.specs.declared.Way.{Way}
+use Rattle.ways.specs.declared.Way.the-variants.{Copy, Block, Hide, Rename, Comm, Allow}
 use Rattle.sets.specs.Building.{Building, done, stopped, goesOn, next, enter, multiplied}
 use Rattle.sets.specs.Joining.{united}
 use Rattle.sets.proofs.Meant.{AllPack, ascending-same, TooMuch, too-much-more, Outcome, enter-outcome}
-use Rattle.sets.proofs.Ways.{Result, Anything, way-outcome, product-outcome, union-outcome, copy-offers, block-offers, hide-offers, rename-offers, allow-offers}
-use Rattle.sets.proofs.Communication.{Closed, closed-moves, comm-outcome}
+use Rattle.sets.proofs.Outcomes.{Result, Anything, product-outcome, union-outcome}
+use Rattle.ways.proofs.Refinement.{way-outcome, copy-offers, block-offers, hide-offers, rename-offers, allow-offers}
+use Rattle.comm.proofs.Communication.{Closed, closed-moves, comm-outcome}
 use Rattle.shapes.specs.Making.{leafBuilt, eitherBuilt, jointBuilt, bothBuilt}
 use Rattle.growth.specs.Ways.{throughBuilt}
 use Rattle.places.specs.Laying.{fitted, copyBuilt}

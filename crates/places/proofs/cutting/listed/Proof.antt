@@ -5,7 +5,7 @@ use Prim.Native.Nat.{_-_, _≤_}
 use native.Mathlib.Omega.{arith}
 use lib.ListN.{length, drop}
 use Rattle.places.proofs.Cuts.{listed-here, listed-on, listed-out}
-use Rattle.sets.specs.Building.{listedIn}
+use Rattle.ways.specs.Imaging.{listedIn}
 use Rattle.places.proofs.cutting.listed.Statement.{statement}
 use Rattle.places.proofs.cutting.listed.Tie as tie
 

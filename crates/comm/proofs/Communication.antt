@@ -1,0 +1,329 @@
+-- The comm closure on the numbers of labels: each label with all that follows from it. A label that is there already is not
+-- followed again, and still nothing is missed: every label that is put in is followed by all rules.
+-- Assumes nothing.
+use mathlib.Core.Path.{_≡_, refl, sym, ap, subst, _∙_}
+use mathlib.Core.Logic.{_⊎_, inl, inr}
+use mathlib.Core.Bool.{Bool, true, false}
+use mathlib.Core.List.{List, [], _∷_, _++_, map}
+use Prim.Native.Nat.{ℕ, zero, suc, _+_, _≤_, _<_}
+use native.Mathlib.Nat.{le-refl}
+use native.Mathlib.Omega.{arith}
+use borrow.Author.Tests.{le-ltb}
+use lib.Dec.{T, ltb}
+use lib.ListN.{length, length-map}
+use Rattle.meaning.specs.Labels.{Label, size, number, single, minus, inside}
+use Rattle.meaning.specs.Sets.{_∈_, ascending, spread}
+use Rattle.meaning.specs.Descriptions.{Rule}
+use Rattle.meaning.specs.Legal.{Each, LegalRule}
+use Rattle.meaning.specs.Rounds.{replaced, applied, communicated}
+use Rattle.meaning.proofs.Bags.{length-minus, length-several, size-minus, size-several}
+use Rattle.meaning.proofs.Digits.{number-injective}
+use Rattle.meaning.proofs.Sorted.{Within}
+use Rattle.meaning.proofs.Members.{in-append, in-ascending, in-spread, in-spread→, in-map, in-map→}
+use Rattle.meaning.proofs.Operators.{in-applied, in-applied→, length-replaced, fewer-left}
+use Rattle.labels.specs.Packing.{packed}
+use Rattle.labels.proofs.Stored.{ruleLabels}
+use Rattle.labels.proofs.Meant.{Packs, packs-small, inside-number, difference-number, sum-number}
+use Rattle.sets.specs.declared.Inserted.{Inserted}
+use Rattle.sets.specs.declared.Inserted.the-variants.{Full, Present, Added}
+use Rattle.sets.specs.declared.Offer.the-variants.{Next}
+use Rattle.sets.specs.Inserting.{present, putIn, pickInserted, inserted}
+use Rattle.sets.specs.Building.{Building, done, goesOn, next, each, followed, taken}
+use Rattle.comm.specs.Following.{eachRule, closed}
+use Rattle.comm.specs.Rules.{Exchange, exchangesIn, pickOffer, exchangeOf}
+use Rattle.sets.specs.Joining.{insertNumber}
+use Rattle.sets.proofs.Sorting.{insert-present, insert-absent}
+use Rattle.sets.proofs.Steps.{length-putIn}
+use Rattle.sets.proofs.Meant.{AllPack, insert-number, numbers-rising, ascending-same, TooMuch, too-much-more, Outcome, each-outcome}
+use borrow.Author.Tests.{ltb-false}
+
+-- Rules are read as they are stored.
+abbrev exchange : ℕ → Rule → Exchange
+exchange names r = record { left = number (r .left); right = number (single names (r .right)) }
+
+rules-read : (names : ℕ) (rs : List Rule) → exchangesIn (ruleLabels names rs) ≡ map (exchange names) rs
+unfolding exchangesIn ruleLabels
+rules-read names [] = refl
+rules-read names (r ∷ rs) = ap (λ (l : List Exchange). exchange names r ∷ l) (rules-read names rs)
+
+-- What follows from a label by applications, one after the other.
+data Follows (names : ℕ) (rs : List Rule) : Label → Label → Type 0 where
+  here : {a : Label} → Follows names rs a a
+  then : {a b : Label} (r : Rule) → r ∈ rs → T (inside (r .left) a) → Follows names rs (replaced names r a) b → Follows names rs a b
+
+pub rule-legal : (names : ℕ) (rs : List Rule) → Each (LegalRule names) rs → (r : Rule) → r ∈ rs → LegalRule names r
+rule-legal names (q ∷ rs) h r (inl e) = rw e (h .0)
+rule-legal names (q ∷ rs) h r (inr m) = rule-legal names rs (h .1) r m
+
+module _ (names : ℕ) (few : names ≤ 12) (rs : List Rule) (legal : Each (LegalRule names) rs) (room : ℕ) where
+  abbrev pub numbers : List Label → List ℕ
+  numbers M = map number (ascending M)
+
+  follows-in : (a b : Label) → Follows names rs a b → (k : ℕ) → size a ≤ k → b ∈ communicated k names rs a
+  unfolding communicated
+  follows-in a b here zero h = inl refl
+  follows-in a b here (suc k) h = inl refl
+  follows-in a b (then r m t f) zero h = absurd (let l = fewer-left names r a (rule-legal names rs legal r m .1) t in omega arith)
+  follows-in a b (then r m t f) (suc k) h =
+      inr (in-spread (communicated k names rs) (applied names rs a) (replaced names r a) b (in-applied names rs a r m t)
+      (follows-in (replaced names r a) b f k (let l = fewer-left names r a (rule-legal names rs legal r m .1) t in omega arith)))
+
+  -- All that the rules make of a label is in a list; a list that is closed under the rules holds all that follows.
+  abbrev pub All : Label → List Label → Type 0
+  All a N = (r : Rule) → r ∈ rs → T (inside (r .left) a) → replaced names r a ∈ N
+
+  abbrev pub Closed : List Label → Type 0
+  Closed N = (a : Label) → a ∈ N → All a N
+
+  communicated-in : (k : ℕ) (N : List Label) → Closed N → (a b : Label) → a ∈ N → b ∈ communicated k names rs a → b ∈ N
+  unfolding communicated
+  communicated-in zero N c a b m (inl e) = subst (λ (x : Label). x ∈ N) (sym e) m
+  communicated-in zero N c a b m (inr k) = absurd k
+  communicated-in (suc k) N c a b m (inl e) = subst (λ (x : Label). x ∈ N) (sym e) m
+  communicated-in (suc k) N c a b m (inr q) =
+      let x = in-spread→ (communicated k names rs) (applied names rs a) b q in
+      let y = in-applied→ names rs a (x .source) (x .there) in
+      communicated-in k N c (x .source) b (subst (λ (z : Label). z ∈ N) (sym (y .gives)) (c a m (y .rule) (y .listed) (y .fits))) (x .gives)
+
+  -- What one rule offers.
+  replaced-packs : (r : Rule) → r ∈ rs → (a : Label) → Packs names a → T (inside (r .left) a) → Packs names (replaced names r a)
+  replaced-packs r m a p t = record {
+    wide = length-replaced names r a (p .wide);
+    few = let l = fewer-left names r a (rule-legal names rs legal r m .1) t in let k = p .few in omega arith;
+  }
+
+  left-packs : (r : Rule) → r ∈ rs → Packs names (r .left)
+  left-packs r m = let l = rule-legal names rs legal r m in record { wide = l .0 .0; few = l .0 .2 }
+
+  exchange-offers : (r : Rule) → r ∈ rs → (a : Label) → Packs names a → (t : Bool) → inside (r .left) a ≡ t
+      → exchangeOf (number (r .left)) (number (single names (r .right))) (number a) ≡ pickOffer t (Next (packed (number (replaced names r a))))
+  exchange-offers r m a p false e = rw (inside-number names few (r .left) a (left-packs r m) p, e)
+  exchange-offers r m a p true e =
+      let t : T (inside (r .left) a) = rw e tt in
+      let q = replaced-packs r m a p t in
+      let rest : Packs names (minus a (r .left)) =
+      record { wide = length-minus a (r .left) ∙ p .wide; few = let s = size-minus a (r .left) t in let k = p .few in omega arith } in
+      let one : Packs names (single names (r .right)) =
+      record { wide = length-several names (r .right) 1; few = let s = size-several names (r .right) 1 in omega arith } in
+      rw (
+        inside-number names few (r .left) a (left-packs r m) p,
+        e,
+        difference-number a (r .left) t,
+        sum-number (minus a (r .left)) (single names (r .right)) few rest one,
+        le-ltb 31 (size (replaced names r a)) (q .few),
+      )
+
+  -- What was walked: a list that holds the old one and, besides, only what may be put in, each of these with all that the rules
+  -- make of it; or a list of such labels passes a limit.
+  record Walked (M : List Label) (May : Label → Type 0) (Must : List Label → Type 0) (N : List Label) (b : Building) : Type 0 where
+    built : b ≡ done (numbers N)
+    packs : AllPack names N
+    more : Within M N
+    only : (c : Label) → c ∈ N → (c ∈ M) ⊎ May c
+    closed′ : (c : Label) → c ∈ N → (c ∈ M) ⊎ All c N
+    must : Must N
+
+  record Refused (M : List Label) (May : Label → Type 0) (b : Building) : Type 0 where
+    part : List Label
+    stops : b .whole ≡ false
+    much : TooMuch room part
+    only : (c : Label) → c ∈ part → (c ∈ M) ⊎ May c
+
+  abbrev Walk : List Label → (Label → Type 0) → (List Label → Type 0) → Building → Type 0
+  Walk M May Must b = ((N : List Label) × Walked M May Must N b) ⊎ Refused M May b
+
+  -- nothing put in; one walk after another
+  stays : (M : List Label) (May : Label → Type 0) (Must : List Label → Type 0) → AllPack names M → Must M → Walk M May Must (done (numbers M))
+  stays M May Must p m = inl (M, record { built = refl; packs = p; more = λ c k. k; only = λ c k. inl k; closed′ = λ c k. inl k; must = m })
+
+  walked-on : {M N : List Label} {May Other : Label → Type 0} {Must Last Both : List Label → Type 0} {b c : Building} → ((x : Label) → Other x → May x)
+      → Walked M Other Must N b → ((K : List Label) → Within N K → Must N → Last K → Both K) → Walk N May Last c → Walk M May Both c
+  walked-on {M} {N} {May} inner x join (inl (K, y)) = inl (
+    K,
+    record {
+      built = y .built;
+      packs = y .packs;
+      more = λ e m. y .more e (x .more e m);
+      only = λ e m. elim (y .only e m) [ inl k ↦ elim (x .only e k) [ inl l ↦ inl l | inr l ↦ inr (inner e l) ] | inr k ↦ inr k ];
+      closed′ = λ e m. elim (y .closed′ e m) [
+        | inl k ↦ elim (x .closed′ e k) [ inl l ↦ inl l | inr l ↦ inr (λ r n t. y .more (replaced names r e) (l r n t)) ]
+        | inr k ↦ inr k
+      ];
+      must = join K (y .more) (x .must) (y .must);
+    },
+  )
+  walked-on {M} {N} {May} inner x join (inr y) = inr (record {
+    part = y .part;
+    stops = y .stops;
+    much = y .much;
+    only = λ e m. elim (y .only e m) [ inl k ↦ elim (x .only e k) [ inl l ↦ inl l | inr l ↦ inr (inner e l) ] | inr k ↦ inr k ];
+  })
+
+  next-walk : {M : List Label} {May Other : Label → Type 0} {Must Last Both : List Label → Type 0} {b : Building} (rest : List ℕ → Building)
+      → ((x : Label) → Other x → May x) → ((N K : List Label) → Within N K → Must N → Last K → Both K) → Walk M Other Must b
+      → ((N : List Label) → AllPack names N → Walk N May Last (rest (numbers N))) → Walk M May Both (next b rest)
+  next-walk rest inner join (inl (N, x)) more = walked-on inner x (join N) (rw (x .built) (more N (x .packs)))
+  next-walk {b = b} rest inner join (inr x) more = inr (record {
+    part = x .part;
+    stops = ap (λ (t : Bool). goesOn t b rest .whole) (x .stops) ∙ x .stops;
+    much = x .much;
+    only = λ e m. elim (x .only e m) [ inl k ↦ inl k | inr k ↦ inr (inner e k) ];
+  })
+
+  -- The rules one by one, where what each gives is walked.
+  abbrev MustAll : Label → List Rule → List Label → Type 0
+  MustAll a rules N = (r : Rule) → r ∈ rules → T (inside (r .left) a) → replaced names r a ∈ N
+
+  module _ (step : ℕ → List ℕ → Building) (depth : ℕ)
+      (deep : (a : Label) (M : List Label) → Packs names a → AllPack names M → size a ≤ depth → Walk M (Follows names rs a) (λ N. a ∈ N) (step (number a) (numbers M))) where
+    rule-walk : (r : Rule) → r ∈ rs → (a : Label) → Packs names a → size a ≤ suc depth → (t : Bool) → inside (r .left) a ≡ t → (M : List Label) → AllPack names M
+        → Walk M (Follows names rs a) (λ N. T (inside (r .left) a) → replaced names r a ∈ N) (taken step (pickOffer t (Next (packed (number (replaced names r a))))) (numbers M))
+    rule-walk r m a p h false e M q = stays M (Follows names rs a) (λ N. T (inside (r .left) a) → replaced names r a ∈ N) q (λ t. absurd (subst T e t))
+    rule-walk r m a p h true e M q =
+        let t : T (inside (r .left) a) = rw e tt in
+        let l = fewer-left names r a (rule-legal names rs legal r m .1) t in
+        widen t (deep (replaced names r a) M (replaced-packs r m a p t) q (omega arith))
+      where
+        widen : T (inside (r .left) a) → {b : Building} → Walk M (Follows names rs (replaced names r a)) (λ N. replaced names r a ∈ N) b
+            → Walk M (Follows names rs a) (λ N. T (inside (r .left) a) → replaced names r a ∈ N) b
+        widen t (inl (N, x)) = inl (
+          N,
+          record {
+            built = x .built;
+            packs = x .packs;
+            more = x .more;
+            only = λ c k. elim (x .only c k) [ inl l ↦ inl l | inr l ↦ inr (then r m t l) ];
+            closed′ = x .closed′;
+            must = λ u. x .must;
+          },
+        )
+        widen t (inr x) = inr (record {
+          part = x .part;
+          stops = x .stops;
+          much = x .much;
+          only = λ c k. elim (x .only c k) [ inl l ↦ inl l | inr l ↦ inr (then r m t l) ];
+        })
+
+    rules-walk : (rules : List Rule) → ((r : Rule) → r ∈ rules → r ∈ rs) → (a : Label) → Packs names a → size a ≤ suc depth → (M : List Label) → AllPack names M
+        → Walk M (Follows names rs a) (MustAll a rules) (eachRule step (map (exchange names) rules) (number a) (numbers M))
+    unfolding eachRule
+    rules-walk [] w a p h M q = stays M (Follows names rs a) (MustAll a []) q (λ r m. absurd m)
+    rules-walk (r ∷ rules) w a p h M q =
+        next-walk {Must = λ N. T (inside (r .left) a) → replaced names r a ∈ N} {Last = MustAll a rules} {Both = MustAll a (r ∷ rules)} {b = taken step (exchangeOf (number (r .left)) (number (single names (r .right))) (number a)) (numbers M)} (eachRule step (map (exchange names) rules) (number a)) (λ x f. f)
+        (λ N K k here′ last s m t. elim m [ inl e ↦ subst (λ (z : Rule). replaced names z a ∈ K) (sym e) (k (replaced names r a) (here′ (subst (λ (z : Rule). T (inside (z .left) a)) e t))) | inr n ↦ last s n t ])
+        (rw (exchange-offers r (w r (inl refl)) a p (inside (r .left) a) refl) (rule-walk r (w r (inl refl)) a p h (inside (r .left) a) refl M q))
+        (λ N j. rules-walk rules (λ s m. w s (inr m)) a p h N j)
+
+  -- What an insertion finds.
+  data Finds (a : Label) (M : List Label) (o : Inserted) : Type 0 where
+    there : o ≡ Present → a ∈ M → Finds a M o
+    added : o ≡ Added → putIn (numbers M) (number a) ≡ numbers (a ∷ M) → Finds a M o
+    full : o ≡ Full → room < length (ascending (a ∷ M)) → Finds a M o
+
+  in-numbers : (a : Label) (M : List Label) → Packs names a → AllPack names M → number a ∈ numbers M → a ∈ M
+  in-numbers a M p q m =
+      let x = in-map→ number (ascending M) (number a) m in
+      let k = in-ascending M (x .source) .0 (x .there) in
+      subst (λ (b : Label). b ∈ M)
+      (sym (number-injective a (x .source) (packs-small p) (packs-small (q (x .source) k)) (p .wide ∙ sym (q (x .source) k .wide)) (x .becomes))) k
+
+  module _ (a : Label) (M : List Label) (p : Packs names a) (q : AllPack names M) where
+    both : AllPack names (a ∷ M)
+    both c (inl e) = subst (Packs names) (sym e) p
+    both c (inr m) = q c m
+
+    in-order : insertNumber (number a) (numbers M) ≡ numbers (a ∷ M)
+    unfolding ascending
+    in-order = insert-number names a (ascending M) p (λ c m. q c (in-ascending M c .0 m))
+
+    finds-there : present (numbers M) (number a) ≡ true → a ∈ M
+    finds-there e =
+        in-numbers a M p q
+        (subst (λ (l : List ℕ). number a ∈ l) (sym in-order ∙ insert-present (numbers M) (number a) (numbers-rising names M q) e)
+        (in-map number (ascending (a ∷ M)) a (in-ascending (a ∷ M) a .1 (inl refl))))
+
+    finds-new : present (numbers M) (number a) ≡ false → putIn (numbers M) (number a) ≡ numbers (a ∷ M)
+    finds-new e = sym (insert-absent (numbers M) (number a) (numbers-rising names M q) e) ∙ in-order
+
+    finds : (t u : Bool) → present (numbers M) (number a) ≡ t → ltb (length (numbers M)) room ≡ u → Finds a M (pickInserted t u)
+    finds true u e f = there refl (finds-there e)
+    finds false true e f = added refl (finds-new e)
+    finds false false e f =
+        full refl (let k = ltb-false (length (numbers M)) room f in let l = ap length (finds-new e) in let n = length-putIn (numbers M) (number a) in
+        rw (← length-map (ascending (a ∷ M)) number) (omega arith))
+
+    found : Finds a M (inserted room (number a) (numbers M))
+    unfolding inserted
+    found = finds (present (numbers M) (number a)) (ltb (length (numbers M)) room) refl refl
+
+    -- a label put in, and followed by the rules
+    after-found : (o : Inserted) → Finds a M o → (more : List ℕ → Building) → Walk (a ∷ M) (Follows names rs a) (MustAll a rs) (more (numbers (a ∷ M)))
+        → Walk M (Follows names rs a) (λ N. a ∈ N) (followed o (number a) more (numbers M))
+    after-found o (there e m) more w = rw e (stays M (Follows names rs a) (λ N. a ∈ N) q m)
+    after-found o (full e h) more w =
+        rw e (inr (record { part = a ∷ M; stops = refl; much = inl h; only = λ c. elim [ inl k ↦ inr (subst (Follows names rs a) (sym k) here) | inr k ↦ inl k ] }))
+    after-found o (added e f) more w = rw (e, f) (put w)
+      where
+        put : {b : Building} → Walk (a ∷ M) (Follows names rs a) (MustAll a rs) b → Walk M (Follows names rs a) (λ N. a ∈ N) b
+        put (inl (N, x)) = inl (
+          N,
+          record {
+            built = x .built;
+            packs = x .packs;
+            more = λ c m. x .more c (inr m);
+            only = λ c m. elim (x .only c m) [ inl k ↦ elim k [ inl l ↦ inr (subst (Follows names rs a) (sym l) here) | inr l ↦ inl l ] | inr k ↦ inr k ];
+            closed′ = λ c m. elim (x .closed′ c m) [ inl k ↦ elim k [ inl l ↦ inr (subst (λ (z : Label). All z N) (sym l) (x .must)) | inr l ↦ inl l ] | inr k ↦ inr k ];
+            must = x .more a (inl refl);
+          },
+        )
+        put (inr x) = inr (record {
+          part = x .part;
+          stops = x .stops;
+          much = x .much;
+          only = λ c m. elim (x .only c m) [ inl k ↦ elim k [ inl l ↦ inr (subst (Follows names rs a) (sym l) here) | inr l ↦ inl l ] | inr k ↦ inr k ];
+        })
+
+  closed-walk : (depth : ℕ) (a : Label) (M : List Label) → Packs names a → AllPack names M → size a ≤ depth
+      → Walk M (Follows names rs a) (λ N. a ∈ N) (closed room (map (exchange names) rs) depth (number a) (numbers M))
+  unfolding closed
+  closed-walk zero a M p q h =
+      after-found a M p q (inserted room (number a) (numbers M)) (found a M p q) done
+      (stays (a ∷ M) (Follows names rs a) (MustAll a rs) (both a M p q) (λ r m t. absurd (let l = fewer-left names r a (rule-legal names rs legal r m .1) t in omega arith)))
+  closed-walk (suc depth) a M p q h =
+      after-found a M p q (inserted room (number a) (numbers M)) (found a M p q) (eachRule (closed room (map (exchange names) rs) depth) (map (exchange names) rs) (number a))
+      (rules-walk (closed room (map (exchange names) rs) depth) depth (closed-walk depth) rs (λ r m. m) a p h (a ∷ M) (both a M p q))
+
+  -- The closure of a label beside a closed list.
+  pub closed-moves : (M N : List Label) → Within M N → Within N M → Closed M → Closed N
+  closed-moves M N w v c a m r n t = w (replaced names r a) (c a (v a m) r n t)
+
+  comm-good : (a : Label) (M : List Label) → Packs names a → AllPack names M → Closed M
+      → Outcome names room Closed closed-moves (communicated (size a) names rs a ++ M) (closed room (map (exchange names) rs) 31 (number a) (numbers M))
+  comm-good a M p q c = ends (closed-walk 31 a M p q (p .few))
+    where
+      inner : (x : Label) → (x ∈ M) ⊎ Follows names rs a x → x ∈ (communicated (size a) names rs a ++ M)
+      inner x (inl m) = in-append x (communicated (size a) names rs a) M .1 (inr m)
+      inner x (inr f) = in-append x (communicated (size a) names rs a) M .1 (inl (follows-in a x f (size a) (le-refl (size a))))
+
+      ends : Walk M (Follows names rs a) (λ N. a ∈ N) (closed room (map (exchange names) rs) 31 (number a) (numbers M))
+          → Outcome names room Closed closed-moves (communicated (size a) names rs a ++ M) (closed room (map (exchange names) rs) 31 (number a) (numbers M))
+      ends (inr x) = inr (x .stops, too-much-more room (x .part) (communicated (size a) names rs a ++ M) (λ e m. inner e (x .only e m)) (x .much))
+      ends (inl (N, x)) =
+          let k : Closed N = λ e m. elim (x .closed′ e m) [ inl l ↦ (λ r n t. x .more (replaced names r e) (c e l r n t)) | inr l ↦ l ] in
+          let out : Within (communicated (size a) names rs a ++ M) N =
+          λ e m. elim (in-append e (communicated (size a) names rs a) M .0 m) [ inl l ↦ communicated-in (size a) N k a e (x .must) l | inr l ↦ x .more e l ] in
+          let back : Within N (communicated (size a) names rs a ++ M) = λ e m. inner e (x .only e m) in
+          inl (record {
+            built = x .built ∙ ap (λ (s : List Label). done (map number s)) (ascending-same N (communicated (size a) names rs a ++ M) back out);
+            packs = λ e m. x .packs e (out e m);
+            kept = closed-moves N (communicated (size a) names rs a ++ M) back out k;
+          })
+
+  -- The labels of a list through comm.
+  pub comm-outcome : (l M : List Label) → AllPack names l → AllPack names M → Closed M
+      → Outcome names room Closed closed-moves (spread (λ a. communicated (size a) names rs a) l ++ M)
+      (each (closed room (exchangesIn (ruleLabels names rs)) 31) (map number l) (numbers M))
+  comm-outcome l M p q c =
+      subst (λ (xs : List Exchange). Outcome names room Closed closed-moves (spread (λ a. communicated (size a) names rs a) l ++ M)
+      (each (λ w. closed room xs 31 w) (map number l) (numbers M))) (sym (rules-read names rs))
+      (each-outcome names room Closed closed-moves (λ w. closed room (map (exchange names) rs) 31 w) (λ a. communicated (size a) names rs a) comm-good l M p q c)

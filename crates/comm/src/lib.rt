@@ -1,0 +1,3 @@
+// Communication: what rules make of labels, and a set with all that follows from its labels by rules.
+pub mod following;
+mod rules;

@@ -1,0 +1,3 @@
+-- The laws of the ways.
+pub mod Images
+pub mod Refinement

@@ -1,0 +1,89 @@
+-- What each way without rules makes of the numbers of labels: the numbers of what the operators make of the labels.
+-- Assumes nothing.
+use mathlib.Core.Path.{_≡_, refl, sym, _∙_}
+use mathlib.Core.Logic.{inl, inr, _↔_}
+use mathlib.Core.Bool.{Bool, true, false, _||_}
+use mathlib.Core.List.{List, [], _∷_, _++_, map}
+use Prim.Native.Nat.{ℕ, _+_, _≤_, _<_}
+use native.Mathlib.Omega.{arith}
+use native.Mathlib.Decide.{decLt}
+use borrow.Author.Tests.{eq-eqb, ne-eqb}
+use lib.Dec.{eqb}
+use Rattle.meaning.specs.Labels.{Label, size, number, isTau, clear, without, renamed}
+use Rattle.meaning.specs.Sets.{member, ascending, spread, kept, keep, turn}
+use Rattle.meaning.specs.Descriptions.{Pair}
+use Rattle.meaning.specs.Rounds.{target, allowed}
+use Rattle.meaning.specs.Legal.{Each, LegalPair}
+use Rattle.meaning.proofs.Bags.{size-without, size-renamed, length-without, length-renamed}
+use Rattle.labels.specs.Packing.{packed}
+use Rattle.labels.proofs.Sizes.{number-zero}
+use Rattle.sets.proofs.Outcomes.{Offered, none, one, Anything, Result, taken-outcome}
+use Rattle.labels.proofs.Stored.{labelWords, pairWords}
+use Rattle.labels.proofs.Meant.{Packs}
+use Rattle.names.proofs.Refinement.{clear-number, without-number, renamed-number, pairs-read}
+use Rattle.sets.specs.declared.Offer.{Offer}
+use Rattle.sets.specs.declared.Offer.the-variants.{Nothing, TooLong, Next}
+use Rattle.ways.specs.declared.Way.{Way}
+use Rattle.ways.specs.declared.Way.the-variants.{Copy, Block, Hide, Rename, Allow}
+use Rattle.sets.specs.Building.{each, enter, taken}
+use Rattle.ways.specs.Imaging.{listedIn, offerOf, depthOf, imaged}
+use Rattle.comm.specs.Following.{closed}
+use Rattle.comm.specs.Rules.{pickOffer, Exchange, exchangesIn}
+use Rattle.sets.proofs.Meant.{AllPack, compare-number, each-outcome}
+
+-- A way that follows no rules.
+taken-alone : (room : ℕ) (rs : List Exchange) (o : Offer) (s : List ℕ) → taken (enter room) o s ≡ taken (closed room rs 0) o s
+unfolding closed
+taken-alone room rs Nothing s = refl
+taken-alone room rs TooLong s = refl
+taken-alone room rs (Next a) s = refl
+
+pub way-outcome : (names room : ℕ) (way : Way) (list : List ℕ) (gives : Label → List Label) → depthOf way ≡ 0
+    → ((a : Label) → Packs names a → Offered names (offerOf way list (number a)) (gives a))
+    → (l M : List Label) → AllPack names l → AllPack names M
+    → Result names room (spread gives l ++ M) (each (imaged room way list) (map number l) (map number (ascending M)))
+way-outcome names room way list gives d good l M p q =
+    each-outcome names room Anything (λ K L w v i. tt) (imaged room way list) gives
+    (λ a N r s i. rw d (rw (sym (taken-alone room (exchangesIn list) (offerOf way list (number a)) (map number (ascending N))))
+    (taken-outcome names room (good a r) N s))) l M p q tt
+
+-- Each way.
+pub copy-offers : {names : ℕ} (list : List ℕ) (a : Label) → Packs names a → Offered names (offerOf Copy list (number a)) (a ∷ [])
+copy-offers list a p = one a p
+
+kept-offers : {names : ℕ} (t : Bool) (a : Label) → Packs names a → Offered names (pickOffer t (Next (packed (number a)))) (kept t a)
+kept-offers true a p = one a p
+kept-offers false a p = none
+
+pub block-offers : (names : ℕ) → names ≤ 12 → (ns : List ℕ) (a : Label) → Packs names a → Offered names (offerOf Block ns (number a)) (keep (clear ns) a)
+block-offers names few ns a p = rw (clear-number names few ns a p) (kept-offers (clear ns a) a p)
+
+pub hide-offers : (names : ℕ) → names ≤ 12 → (ns : List ℕ) (a : Label) → Packs names a → Offered names (offerOf Hide ns (number a)) (turn (without ns) a)
+hide-offers names few ns a p =
+    rw (without-number names few ns a p)
+    (one (without ns a) (record { wide = length-without ns a ∙ p .wide; few = let h = size-without ns a in let k = p .few in omega arith }))
+
+pub rename-offers : (names : ℕ) → names ≤ 12 → (ps : List Pair) → Each (LegalPair names) ps → Each (λ p. p .left < 32) ps → (a : Label) → Packs names a
+    → Offered names (offerOf Rename (pairWords ps) (number a)) (turn (renamed names (target ps)) a)
+rename-offers names few ps legal left a p =
+    rw (pairs-read ps left, renamed-number names ps a few legal p)
+    (one (renamed names (target ps) a) (record { wide = length-renamed names (target ps) a 0; few = let h = size-renamed names (target ps) a 0 in let k = p .few in omega arith }))
+
+-- Allow: listed, or tau.
+pub same-test : (m n : ℕ) → (m ≡ 0) ↔ (n ≡ 0) → eqb m 0 ≡ eqb n 0
+same-test m n h = elim (decLt 0 m) [
+  | yes l ↦
+      let z : n ≡ 0 → ⊥ = λ e. let k = h .1 e in omega arith in
+      ne-eqb m 0 (λ e. omega arith) ∙ sym (ne-eqb n 0 z)
+  | no l ↦ let e : m ≡ 0 = omega arith in eq-eqb m 0 e ∙ sym (eq-eqb n 0 (h .0 e))
+]
+
+pub member-number : (names : ℕ) (a : Label) (ls : List Label) → Packs names a → AllPack names ls → listedIn (number a) (map number ls) ≡ member a ls
+unfolding listedIn member
+member-number names a [] p q = refl
+member-number names a (b ∷ ls) p q = rw (compare-number names a b p (q b (inl refl)), member-number names a ls p (λ c m. q c (inr m)))
+
+pub allow-offers : (names : ℕ) (ls : List Label) → AllPack names ls → (a : Label) → Packs names a → Offered names (offerOf Allow (labelWords ls) (number a)) (keep (allowed ls) a)
+unfolding allowed isTau
+allow-offers names ls q a p =
+    rw (member-number names a ls p q, sym (same-test (size a) (number a) (number-zero a))) (kept-offers (eqb (size a) 0 || member a ls) a p)

@@ -1,0 +1,54 @@
+-- What each way makes of a label, and what goes into a set of it.
+-- Assumes nothing.
+use mathlib.Core.Path.{_≡_}
+use mathlib.Core.Bool.{Bool, false, _||_}
+use mathlib.Core.List.{List, [], _∷_}
+use Prim.Native.Nat.{ℕ}
+use lib.Dec.{eqb}
+use lib.ListN.{getD}
+use Rattle.meaning.specs.Labels.{number, labelOf, clear, without, renamed}
+use Rattle.labels.specs.Packing.{held, packed}
+use Rattle.labels.specs.Bags.{bag}
+use Rattle.labels.specs.Pairs.{pairsIn}
+use Rattle.names.specs.Names.{targets}
+use Rattle.sets.specs.declared.Offer.{Offer}
+use Rattle.sets.specs.declared.Offer.the-variants.{Next}
+use Rattle.sets.specs.Building.{Building, taken}
+use Rattle.comm.specs.Rules.{exchangesIn, pickOffer}
+use Rattle.comm.specs.Following.{closed}
+use Rattle.ways.specs.declared.Way.{Way}
+use Rattle.ways.specs.declared.Way.the-variants.{Copy, Block, Hide, Rename, Comm, Allow}
+
+-- What each way makes of a label, by the words of its list; and how many applications of rules are followed from there. An
+-- application leaves fewer actions than there were, so 31 are enough for a label.
+unfoldable pub listedIn : ℕ → List ℕ → Bool
+listedIn w [] = false
+listedIn w (v ∷ vs) = eqb w v || listedIn w vs
+
+abbrev pub offerOf : Way → List ℕ → ℕ → Offer
+offerOf Copy list w = Next (packed w)
+offerOf Block list w = pickOffer (clear list (bag w)) (Next (packed w))
+offerOf Hide list w = Next (packed (number (without list (bag w))))
+offerOf Rename list w = Next (packed (number (renamed 12 (λ n. getD (targets (pairsIn list)) n 0) (labelOf 12 w))))
+offerOf Comm list w = Next (packed w)
+offerOf Allow list w = pickOffer (eqb w 0 || listedIn w (held list)) (Next (packed w))
+
+-- the map that a renaming goes by
+abbrev pub MapFor : Way → (list map : List ℕ) → Type 0
+MapFor Rename list map = map ≡ targets (pairsIn list)
+MapFor Copy list map = Unit {0}
+MapFor Block list map = Unit {0}
+MapFor Hide list map = Unit {0}
+MapFor Comm list map = Unit {0}
+MapFor Allow list map = Unit {0}
+
+abbrev pub depthOf : Way → ℕ
+depthOf Copy = 0
+depthOf Block = 0
+depthOf Hide = 0
+depthOf Rename = 0
+depthOf Comm = 31
+depthOf Allow = 0
+
+abbrev pub imaged : ℕ → Way → List ℕ → ℕ → List ℕ → Building
+imaged room way list w = taken (closed room (exchangesIn (held list)) (depthOf way)) (offerOf way list w)

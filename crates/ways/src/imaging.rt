@@ -1,0 +1,138 @@
+// The labels of a part, copied or through an operator.
+use crate::Way;
+use comm::following::MOST_APPLICATIONS;
+use comm::following::close;
+use labels::Label;
+use labels::packing::labels_in;
+use labels::packing::read_label;
+use labels::packing::same;
+use labels::packing::tau;
+use names::clear;
+use names::hide;
+use names::rename;
+use names::renaming;
+use sets::Built;
+use sets::Offer;
+use sets::Part;
+use sets::Target;
+use sets::inserting::enter;
+use sets::placing::end_before;
+use sets::placing::reach;
+ghost use mathlib.Core.Path.{_≡_};
+ghost use mathlib.Core.Bool.{_||_};
+ghost use Prim.Native.Nat.{_-_, _≤_};
+ghost use lib.Dec.{eqb};
+ghost use lib.ListN.{length};
+ghost use Rattle.labels.specs.Packing.{held, code};
+ghost use Rattle.sets.specs.Parts.{wordsOf};
+ghost use Rattle.sets.specs.Building.{GrownAt, each, taken};
+ghost use Rattle.ways.specs.Imaging.{imaged, listedIn, MapFor, offerOf, depthOf};
+ghost use Rattle.comm.specs.Following.{closed};
+ghost use Rattle.comm.specs.Rules.{exchangesIn};
+
+// Whether a label is in a list of labels, or is tau.
+fn allowed(list: &[u64], label: Label) -> bool
+    ensures { λ r. ⌜ r ≡ eqb (code label) 0 || listedIn (code label) (held (now (list .entry))) ⌝ }
+{
+    if same(label, tau()) {
+        return true;
+    }
+    let mut i = 0;
+    while i < labels_in(list) {
+        if same(label, read_label(list, i)) {
+            return true;
+        }
+        i += 1;
+    }
+    false
+}
+
+// The map of a renaming, made of the list once for the part; the other ways have none.
+fn map_for(way: Way, list: &[u64]) -> [u64; 12]
+    ensures { λ r. ⌜ MapFor way (now (list .entry)) r ⌝ }
+{
+    match way {
+        Way::Rename => renaming(list),
+        _ => [0u64; 12],
+    }
+}
+
+// What a way makes of a label.
+fn made(way: Way, list: &[u64], map: [u64; 12], label: Label) -> Offer
+    requires { ⌜ MapFor way (now list) map ⌝ }
+    ensures { λ r. ⌜ r ≡ offerOf way (now (list .entry)) (code label) ⌝ }
+{
+    match way {
+        Way::Copy => Offer::Next(label),
+        Way::Block => {
+            if clear(label, list) {
+                Offer::Next(label)
+            } else {
+                Offer::Nothing
+            }
+        }
+        Way::Hide => Offer::Next(hide(label, list)),
+        Way::Rename => Offer::Next(rename(label, map)),
+        Way::Comm => Offer::Next(label),
+        Way::Allow => {
+            if allowed(list, label) {
+                Offer::Next(label)
+            } else {
+                Offer::Nothing
+            }
+        }
+    }
+}
+
+// How many applications of rules are followed on a way.
+fn depth(way: Way) -> usize
+    ensures { λ r. ⌜ r ≡ depthOf way ⌝ }
+{
+    match way {
+        Way::Comm => MOST_APPLICATIONS,
+        _ => 0,
+    }
+}
+
+// What is offered goes into a set, with what follows from it. Where no rules are followed the recursion is passed by.
+fn take(words: &mut [u64], target: Target, rules: &[u64], offer: Offer, depth: usize) -> Built
+    requires { ⌜ target .len ≤ length (held (now words)) - target .at ⌝ }
+    ensures { λ r. ⌜ GrownAt target (λ room. taken (closed room (exchangesIn (held (now (rules .entry)))) depth) offer)
+        (held (now (words .entry))) (held (now (words .exit))) r ⌝ }
+{
+    match offer {
+        Offer::Nothing => Built::Holds(target.len),
+        Offer::TooLong => Built::TooLarge,
+        Offer::Next(label) => {
+            if depth == 0 {
+                enter(words, target, label)
+            } else {
+                close(words, target, rules, label, depth)
+            }
+        }
+    }
+}
+
+// What the labels of a part that stands before a set give goes into the set.
+pub fn add_image(words: &mut [u64], part: Part, way: Way, list: &[u64], target: Target) -> Built
+    ensures { λ r. ⌜ GrownAt target (λ room. each (imaged room way (now (list .entry))) (wordsOf (target .at) part (held (now (words .entry)))))
+        (held (now (words .entry))) (held (now (words .exit))) r ⌝ }
+{
+    let at = target.at;
+    let most = target.most;
+    let mut len = reach(words, at, target.len);
+    let end = end_before(words, part.to, at);
+    let map = map_for(way, list);
+    let mut i = part.from;
+    while i < end {
+        let label = read_label(words, i);
+        let offer = made(way, list, map, label);
+        let step = take(words, Target { at, len, most }, list, offer, depth(way));
+        let Built::Holds(n) = step else {
+            return Built::TooLarge;
+        };
+        len = n;
+        i += 1;
+    }
+    Built::Holds(len)
+}
