@@ -5,7 +5,7 @@ use marks::numbers::write_number;
 use table::NAMES;
 ghost use mathlib.Core.Path.{_≡_};
 ghost use mathlib.Core.List.{map};
-ghost use Prim.Native.Nat.{_+_, _≤_};
+ghost use Prim.Native.Nat.{_≤_};
 ghost use lib.Dec.{leb};
 ghost use lib.ListN.{length};
 ghost use Rattle.meaning.specs.Bytes.{ascii};
@@ -39,17 +39,6 @@ pub(crate) fn write_head(
     let first = bytes::copy(said, text);
     let second = first + write_count_line(&mut text[first..], key, n);
     second + write_count_line(&mut text[second..], next_key, m)
-}
-
-// Two numbers of at most twenty digits, two line ends, and at most 38 bytes of words.
-const LONGEST_HEAD: usize = 80;
-
-pub(crate) fn head_length(said: &[u8], key: &[u8], n: usize, next_key: &[u8], m: usize) -> usize
-    requires { ⌜ length (now said) + length (now key) + length (now «next_key») ≤ 38 ⌝ }
-    ensures { λ r. ⌜ r ≡ length (headText (now (said .entry)) (now (key .entry)) n (now («next_key» .entry)) m) ⌝ }
-{
-    let mut scratch = [0u8; LONGEST_HEAD];
-    write_head(&mut scratch, said, key, n, next_key, m)
 }
 
 fn write_label_line(text: &mut [u8], names: [u64; NAMES], label: u64) -> usize
