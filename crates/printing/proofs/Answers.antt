@@ -10,7 +10,8 @@ use borrow.Author.Tests.{le-leb, lt-leb}
 use lib.Dec.{leb}
 use lib.ListN.{length, length-append, length-map}
 use Rattle.meaning.specs.Bytes.{Text, ascii}
-use Rattle.grammar.specs.Printed.{decimal, line, answerText}
+use Rattle.grammar.specs.Marks.{decimal}
+use Rattle.grammar.specs.Printed.{line, answerText}
 use Rattle.marks.specs.Packed.{wordsOf, countsOf}
 use Rattle.printing.specs.Steps.{answerHead}
 use Rattle.printing.proofs.Line.{length-head}

@@ -3,7 +3,8 @@
 use mathlib.Core.List.{[], _∷_, _++_}
 use Prim.Native.Nat.{ℕ}
 use Rattle.meaning.specs.Bytes.{Text, ascii}
-use Rattle.grammar.specs.Printed.{decimal, line}
+use Rattle.grammar.specs.Marks.{decimal}
+use Rattle.grammar.specs.Printed.{line}
 
 -- What an answer and a refusal begin with: what was said, and a line for each of two numbers.
 abbrev pub headText : Text → Text → ℕ → Text → ℕ → Text

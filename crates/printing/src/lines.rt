@@ -9,7 +9,8 @@ ghost use Prim.Native.Nat.{_≤_};
 ghost use lib.Dec.{leb};
 ghost use lib.ListN.{length};
 ghost use Rattle.meaning.specs.Bytes.{ascii};
-ghost use Rattle.grammar.specs.Printed.{decimal, line, labelText, labelLines};
+ghost use Rattle.grammar.specs.Marks.{decimal};
+ghost use Rattle.grammar.specs.Printed.{line, printedLabel, labelLines};
 ghost use Rattle.grammar.specs.Areas.{Written};
 ghost use Rattle.marks.specs.Packed.{wordsOf, countsOf};
 ghost use Rattle.printing.specs.Steps.{headText};
@@ -42,8 +43,8 @@ pub(crate) fn write_head(
 }
 
 fn write_label_line(text: &mut [u8], names: [u64; NAMES], label: u64) -> usize
-    requires { ⌜ length (line (ascii "label=") (labelText (wordsOf names) (countsOf label))) ≤ length (now text) ⌝ }
-    ensures { λ r. ⌜ Written (line (ascii "label=") (labelText (wordsOf names) (countsOf label))) (now (text .entry)) (now (text .exit)) r ⌝ }
+    requires { ⌜ length (line (ascii "label=") (printedLabel (wordsOf names) (countsOf label))) ≤ length (now text) ⌝ }
+    ensures { λ r. ⌜ Written (line (ascii "label=") (printedLabel (wordsOf names) (countsOf label))) (now (text .entry)) (now (text .exit)) r ⌝ }
 {
     let at = bytes::copy(b"label=", text);
     let end = at + write_label(&mut text[at..], names, label);
