@@ -18,7 +18,8 @@ use Rattle.meaning.proofs.Tests.{and-left, and-right, and-both}
 use Rattle.grammar.specs.Forms.{countLine, nameLine}
 use Rattle.grammar.specs.Faults.{worse, unless, inRange, operandsFit, termSaid, termFault}
 use Rattle.grammar.specs.Reading.{takeNumber, nameCount, equationCount, termCount, isFree, takeName, takeTerm, takeBody, takeOrder, Walk, reached, halted, Reading, read, overlong, badLine, allRead, Whole, wholeText, readText}
-use Rattle.grammar.specs.Writing.{numberText, termText, orderText, written, LegalWords}
+use Rattle.grammar.specs.Marks.{decimal}
+use Rattle.grammar.specs.Writing.{termText, orderText, written, LegalWords}
 use Rattle.grammar.proofs.Findings.{fine-tests}
 use Rattle.grammar.proofs.Onwards.{fails}
 use Rattle.grammar.proofs.Writes.{inline?}
@@ -29,15 +30,15 @@ use Rattle.grammar.proofs.Sections.{Takes, takes, takes-if, Reaches, wa
 use Rattle.grammar.proofs.LegalLines.{NewWord, NewBody, NewTerm, legal-words, legal-bodies, legal-terms}
 
 -- The lines.
-writes-count : (key : Text) → T (inline? key) → WritesLine (countLine key) itself faultless itself (λ n. key ++ numberText n) Small
+writes-count : (key : Text) → T (inline? key) → WritesLine (countLine key) itself faultless itself (λ n. key ++ decimal n) Small
 unfolding countLine
 writes-count key tested = line-after key tested (line-ended writes-number itself itself faultless itself (λ n. refl) (λ n. Iff·rfl))
 
-takes-number : (key : Text) → T (inline? key) → (test : ℕ → Bool) (f : Fault) → Takes (takeNumber key test f) itself (λ n. key ++ numberText n) (λ n. Small n × T (test n))
+takes-number : (key : Text) → T (inline? key) → (test : ℕ → Bool) (f : Fault) → Takes (takeNumber key test f) itself (λ n. key ++ decimal n) (λ n. Small n × T (test n))
 unfolding takeNumber
 takes-number key tested test f = takes-if (writes-count key tested) test f itself
 
-takes-body : (terms : ℕ) (bodies : List ℕ) → Takes (takeBody terms bodies) (λ b. bodies ++ (b ∷ [])) (λ b. ascii "equation=" ++ numberText b) (NewBody terms bodies)
+takes-body : (terms : ℕ) (bodies : List ℕ) → Takes (takeBody terms bodies) (λ b. bodies ++ (b ∷ [])) (λ b. ascii "equation=" ++ decimal b) (NewBody terms bodies)
 unfolding takeBody
 takes-body terms bodies = takes-if (writes-count (ascii "equation=") tt) (λ b. ltb b terms) range (λ b. bodies ++ (b ∷ []))
 

@@ -2,10 +2,11 @@
 -- Assumes nothing.
 use mathlib.Core.Path.{_≡_, refl, sym, ap, ap₂, subst, _∙_}
 use mathlib.Core.Logic.{_⊎_, inl, inr, _↔_}
-use mathlib.Core.Bool.{true, false, not}
+use mathlib.Core.Bool.{not}
 use mathlib.Core.List.{List, [], _∷_, _++_}
 use Prim.Native.Nat.{ℕ, zero, suc, _+_, _*_, _-_, _/_, _%_, _≤_, _<_, zero-le, suc-le-suc}
 use native.Mathlib.Omega.{arith}
+use native.Mathlib.Decide.{decLt}
 use lib.Dec.{T, leb, ltb, eqb, eqb→eq, eqb-refl, leb→le, le→leb, ltb→lt, lt→ltb, lit<, nltb→le, not-T, T-not}
 use lib.ListN.{length, getD}
 use Rattle.meaning.specs.Bytes.{Text}
@@ -16,7 +17,9 @@ use Rattle.meaning.proofs.Tests.{and-left, and-right, and-both, or-cases, or-le
 use Rattle.grammar.specs.Text.{past, sameText, isDigit, isLower, secondDigit, number, wordOn, word}
 use Rattle.grammar.specs.Forms.{lf}
 use Rattle.grammar.specs.Faults.{Found, fine, nameNumber, nameFault}
-use Rattle.grammar.specs.Writing.{numberText, nameText, inName, NameForm, Distinct, LegalWords}
+use Rattle.grammar.specs.Marks.{digits, decimal}
+use Rattle.grammar.specs.Writing.{nameText, inName, NameForm, Distinct, LegalWords}
+use Rattle.grammar.proofs.Decimal.{decimal-digit, decimal-two}
 use Rattle.grammar.proofs.Findings.{IsFine, fine-unless}
 use Rattle.grammar.proofs.Onwards.{passes, fails, same→, same-refl, When, when-past, when-stuck, when-branch, onward→, onward←}
 use Rattle.grammar.proofs.Writes.{neither, Stops, Inline, Writes, writes-as}
@@ -50,27 +53,15 @@ eqb-not m n h e = T-not (eqb m n) h (subst (λ k. T (eqb m k)) e (eqb-refl m))
 abbrev digitOf : ℕ → ℕ
 digitOf n = 48 + n
 
-one-digit : (n : ℕ) → n < 10 → numberText n ≡ digitOf n ∷ []
-unfolding numberText
-one-digit n h = rw (passes (ltb n 10) (lt→ltb n 10 h), numberText)
-
-two-digits : (m n : ℕ) → 1 ≤ m → n < 10 → numberText (10 * m + n) ≡ digitOf m ∷ digitOf n ∷ []
-unfolding numberText
-two-digits m n h k =
-    let big : ltb (10 * m + n) 10 ≡ false = fails (ltb (10 * m + n) 10) (not-T (ltb (10 * m + n) 10) (λ t. let l = ltb→lt (10 * m + n) 10 t in omega arith)) in
-    let p : (10 * m + n) / 10 ≡ m = omega arith in
-    let q : (10 * m + n) % 10 ≡ n = omega arith in
-    rw (big, numberText) (rw (p, q))
-
 abbrev pub Small : ℕ → Type 0
 Small n = n < 100
 
 -- the number of one digit
-digit-sound : (b : ℕ) (r : Text) → 48 ≤ b → b ≤ 57 → (_≡_ {A = Text} (b ∷ r) (numberText (b - 48) ++ r)) × Small (b - 48)
-digit-sound b r h k = let e : b ≡ digitOf (b - 48) = omega arith in (rw (one-digit (b - 48) (omega arith)) (ap {B = Text} (λ c. c ∷ r) e), omega arith)
+digit-sound : (b : ℕ) (r : Text) → 48 ≤ b → b ≤ 57 → (_≡_ {A = Text} (b ∷ r) (decimal (b - 48) ++ r)) × Small (b - 48)
+digit-sound b r h k = let e : b ≡ digitOf (b - 48) = omega arith in (rw (decimal-digit (b - 48) (omega arith)) (ap {B = Text} (λ c. c ∷ r) e), omega arith)
 
 second-sound : (b : ℕ) (s : Text) → 48 ≤ b → b ≤ 57 → (b ≡ 48 → ⊥)
-    → When (secondDigit (b - 48) s) (λ n r. Unit {0} → (_≡_ {A = Text} (b ∷ s) (numberText n ++ r)) × Small n)
+    → When (secondDigit (b - 48) s) (λ n r. Unit {0} → (_≡_ {A = Text} (b ∷ s) (decimal n ++ r)) × Small n)
 unfolding secondDigit
 second-sound b [] h k e = when-past (λ _. digit-sound b [] h k)
 second-sound b (c ∷ s) h k e =
@@ -78,16 +69,16 @@ second-sound b (c ∷ s) h k e =
     (λ d. let i = digit→ c d in
     let p : b ≡ digitOf (b - 48) = omega arith in
     let q : c ≡ digitOf (c - 48) = omega arith in
-    when-past (λ _. (rw (two-digits (b - 48) (c - 48) (omega arith) (omega arith)) (ap₂ {C = Text} (λ x y. x ∷ y ∷ s) p q), omega arith)))
+    when-past (λ _. (rw (decimal-two (b - 48) (c - 48) (omega arith) (omega arith) (omega arith)) (ap₂ {C = Text} (λ x y. x ∷ y ∷ s) p q), omega arith)))
     (λ _. when-past (λ _. digit-sound b (c ∷ s) h k))
 
-number-sound : (s : Text) → When (number s) (λ n r. Unit {0} → (s ≡ numberText n ++ r) × Small n)
+number-sound : (s : Text) → When (number s) (λ n r. Unit {0} → (s ≡ decimal n ++ r) × Small n)
 unfolding number
 number-sound [] = when-stuck
 number-sound (b ∷ s) =
     when-branch (isDigit b)
     (λ d. when-branch (eqb b 48)
-    (λ e. when-past (λ _. (rw (one-digit 0 (lit< tt)) (ap {B = Text} (λ c. c ∷ s) (eqb→eq b 48 e)), lit< tt)))
+    (λ e. when-past (λ _. (rw (decimal-digit 0 (lit< tt)) (ap {B = Text} (λ c. c ∷ s) (eqb→eq b 48 e)), lit< tt)))
     (λ e. second-sound b s (digit→ b d .0) (digit→ b d .1) (eqb-not b 48 e)))
     (λ _. when-stuck)
 
@@ -103,39 +94,40 @@ unfolding secondDigit
 no-second n [] h = refl
 no-second n (b ∷ r) h = rw (fails (isDigit b) (neither (isLower b) (isDigit b) h .1), secondDigit)
 
-number-reads : (n : ℕ) → Small n → (r : Text) → Stops inName r → number (numberText n ++ r) ≡ past n r
-unfolding number numberText isDigit secondDigit
+number-reads : (n : ℕ) → Small n → (r : Text) → Stops inName r → number (decimal n ++ r) ≡ past n r
+unfolding number digits isDigit secondDigit
 number-reads zero h r k = refl
 number-reads (suc m) h r k =
     let n = suc m in
     elim (decided-by (ltb n 10)) [
-      | inl t ↦ rw (one-digit n (ltb→lt n 10 t)) (first-digit n r (omega arith) (ltb→lt n 10 t) ∙ no-second n r k)
+      | inl t ↦ rw (decimal-digit n (ltb→lt n 10 t)) (first-digit n r (omega arith) (ltb→lt n 10 t) ∙ no-second n r k)
       | inr f ↦ let big : 10 ≤ n = nltb→le n 10 (not-T (ltb n 10) f) in
           let e : n ≡ 10 * (n / 10) + n % 10 = omega arith in
           let last : digitOf (n % 10) - 48 ≡ n % 10 = omega arith in
           let digit = digit← (digitOf (n % 10)) (omega arith) (omega arith) in
           let second : secondDigit (n / 10) (digitOf (n % 10) ∷ r) ≡ past (10 * (n / 10) + n % 10) r =
           rw (passes (isDigit (digitOf (n % 10))) digit, secondDigit) (ap (λ l. past (10 * (n / 10) + l) r) last) in
-          subst (λ x. number (numberText x ++ r) ≡ past x r) (sym e)
-          (rw (two-digits (n / 10) (n % 10) (omega arith) (omega arith)) (first-digit (n / 10) (digitOf (n % 10) ∷ r) (omega arith) (omega arith) ∙ second))
+          subst (λ x. number (decimal x ++ r) ≡ past x r) (sym e)
+          (rw (decimal-two (n / 10) (n % 10) (omega arith) (omega arith) (omega arith)) (first-digit (n / 10) (digitOf (n % 10) ∷ r) (omega arith) (omega arith) ∙ second))
     ]
 
 digit-inline : (n : ℕ) → T (not (eqb (digitOf n) lf))
 digit-inline n = not-eqb (digitOf n) lf (λ e. absurd (omega arith))
 
-number-inline : (n : ℕ) → Inline (numberText n)
-unfolding numberText
-number-inline n =
-    elim (ltb n 10) as (λ t. Inline (elim t as (λ _. Text) [ true ↦ digitOf n ∷ [] | false ↦ digitOf (n / 10) ∷ digitOf (n % 10) ∷ [] ])) [
-      | true ↦ (digit-inline n, tt)
-      | false ↦ (digit-inline (n / 10), (digit-inline (n % 10), tt))
+number-inline : (n : ℕ) → Small n → Inline (decimal n)
+number-inline n h =
+    elim (decLt n 10) [
+      | yes d ↦ rw (decimal-digit n d) (digit-inline n, tt)
+      | no d ↦ let e : n ≡ 10 * (n / 10) + n % 10 = omega arith in
+          subst (λ x. Inline (decimal x)) (sym e)
+          (rw (decimal-two (n / 10) (n % 10) (omega arith) (omega arith) (omega arith)) (digit-inline (n / 10), (digit-inline (n % 10), tt)))
     ]
 
-pub writes-number : Writes number itself faultless numberText Small inName
+pub writes-number : Writes number itself faultless decimal Small inName
 writes-number = record {
   sound = number-sound;
   complete = λ n h. record { value = n; faultless = tt; said = refl; reads = number-reads n h };
-  inline = λ n h. number-inline n;
+  inline = number-inline;
 }
 
 -- Words.

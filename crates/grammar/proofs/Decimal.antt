@@ -2,7 +2,7 @@
 -- Assumes nothing.
 use mathlib.Core.Path.{_≡_, sym, ap, _∙_}
 use mathlib.Core.List.{[], _∷_, _++_}
-use Prim.Native.Nat.{ℕ, zero, suc, _+_, _/_, _%_, _^_, _≤_, _<_, zero-le}
+use Prim.Native.Nat.{ℕ, zero, suc, _+_, _*_, _/_, _%_, _^_, _≤_, _<_, zero-le}
 use native.Mathlib.Nat.{pow-suc, div-lt-iff-lt-mul}
 use native.Mathlib.Omega.{arith}
 use native.Mathlib.Decide.{decLt}
@@ -10,7 +10,7 @@ use borrow.Author.Tests.{lt-ltb, le-ltb}
 use lib.Dec.{lit<}
 use lib.ListN.{length, length-append}
 use Rattle.meaning.specs.Bytes.{Text}
-use Rattle.grammar.specs.Printed.{digits, decimal}
+use Rattle.grammar.specs.Marks.{digits, decimal}
 
 -- The two cases of the definition.
 one-digit : (k n : ℕ) → n < 10 → digits (suc k) n ≡ (48 + n) ∷ []
@@ -61,3 +61,10 @@ length-small n h =
       | yes d ↦ rw (one-digit 19 n d) (omega arith)
       | no d ↦ rw (last-digit 19 n (omega arith), one-digit 18 (n / 10) (omega arith)) (omega arith)
     ]
+
+-- The two digits of a number below 100.
+pub decimal-two : (m n : ℕ) → 1 ≤ m → m < 10 → n < 10 → decimal (10 * m + n) ≡ (48 + m) ∷ (48 + n) ∷ []
+decimal-two m n h l k =
+    let tens : (10 * m + n) / 10 ≡ m = omega arith in
+    let ones : (10 * m + n) % 10 ≡ n = omega arith in
+    last-digit 19 (10 * m + n) (omega arith) ∙ rw (tens, ones, one-digit 18 m l)

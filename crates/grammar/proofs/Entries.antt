@@ -8,16 +8,32 @@ use Prim.Native.Nat.{ℕ, zero, suc, _+_, _≤_, _<_}
 use native.Mathlib.Nat.{zero-add}
 use native.Mathlib.Omega.{arith}
 use lib.Dec.{T, eqb, eqb·suc-suc, eqb·suc-zero, eqb→eq, eqb-refl, not-T}
-use lib.ListN.{length, length-replicate}
-use lib.Seq.{ext-getD}
+use lib.ListN.{length, drop, length-replicate}
+use lib.Seq.{ext-getD, drop-cons}
+use Rattle.meaning.specs.Bytes.{Text}
 use Rattle.meaning.specs.Labels.{Label, count, size, empty, several, plus}
 use Rattle.meaning.specs.Sets.{Above, Rising}
 use Rattle.meaning.specs.Legal.{Each, LegalLabel}
 use Rattle.meaning.proofs.Tests.{decided-by}
 use Rattle.meaning.proofs.Bags.{count-plus, length-plus, length-several, size-plus, size-empty}
-use Rattle.grammar.specs.Writing.{Entry, entriesFrom}
+use Rattle.grammar.specs.Forms.{dot}
+use Rattle.grammar.specs.Marks.{joined, partText, partTexts, labelText}
+use Rattle.grammar.specs.Writing.{nameText}
+use Rattle.grammar.proofs.Marks.{partTexts-some}
 use Rattle.grammar.proofs.Onwards.{passes, fails}
 use Rattle.grammar.proofs.Writes.{each-weaken}
+
+-- A label's entries: the names that occur, from name n on, with their counts.
+pub record Entry : Type 0 where
+  pub name : ℕ
+  pub times : ℕ
+
+unfoldable pub entriesFrom : ℕ → Label → List Entry
+entriesFrom n [] = []
+entriesFrom n (x ∷ a) = elim (eqb x 0) [ true ↦ entriesFrom (suc n) a | false ↦ record { name = n; times = x } ∷ entriesFrom (suc n) a ]
+
+abbrev pub entryText : List Text → Entry → Text
+entryText words e = partText (nameText words (e .name)) (e .times)
 
 -- Entries added up, and how many actions they hold.
 unfoldable pub added : ℕ → List Entry → Label
@@ -98,6 +114,19 @@ size-added names (e ∷ es) h =
 entries-some : (n x : ℕ) (a : Label) → entriesFrom n (suc x ∷ a) ≡ record { name = n; times = suc x } ∷ entriesFrom (suc n) a
 unfolding entriesFrom
 entries-some n x a = rw (eqb·suc-zero x, entriesFrom)
+
+-- A label's parts are the texts of its entries.
+parts-entries : (words : List Text) (a : Label) (n : ℕ) → n + length a ≤ length words → partTexts (drop n words) a ≡ map (entryText words) (entriesFrom n a)
+unfolding partTexts entriesFrom
+parts-entries words [] n h = refl
+parts-entries words (zero ∷ a) n h = rw (drop-cons words n [] (omega arith)) (parts-entries words a (suc n) (omega arith))
+parts-entries words (suc x ∷ a) n h =
+    let word = nameText words n in
+    rw (drop-cons words n [] (omega arith), entries-some n x a, partTexts-some word (drop (suc n) words) (suc x) a (λ e. absurd (omega arith)))
+    (ap {B = List Text} (λ ts. partText (nameText words n) (suc x) ∷ ts) (parts-entries words a (suc n) (omega arith)))
+
+pub label-entries : (words : List Text) (a : Label) → length a ≡ length words → labelText words a ≡ joined dot (map (entryText words) (entriesFrom 0 a))
+label-entries words a h = ap (joined dot) (parts-entries words a 0 (omega arith))
 
 held-entries : (n x : ℕ) (a : Label) (i : ℕ) → held (entriesFrom n (x ∷ a)) i ≡ occurs (record { name = n; times = x }) i + held (entriesFrom (suc n) a) i
 unfolding entriesFrom held

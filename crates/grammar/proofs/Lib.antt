@@ -1,6 +1,7 @@
 -- The computed cases, then the theorems; each file after those that it cites.
-pub mod Cases
+pub mod Marks
 pub mod Texts
+pub mod Cases
 pub mod Writings
 pub mod Decimal
 pub mod Areas

@@ -20,12 +20,13 @@ use Rattle.meaning.proofs.Bags.{size-plus, size-empty}
 use Rattle.grammar.specs.Text.{past, sameText, isDigit, isLower, literal, number, word, wordOn, separatedOn, separated}
 use Rattle.grammar.specs.Forms.{Part, Parts, comma, dot, colon, greater, part, label, wordList, pair, rule, labelList}
 use Rattle.grammar.specs.Faults.{worse, unless, worst, above, rising, nameNumber, nameFault, labelSaid, actions, partFault, labelFault, wordsFault, pairFault, pairsFault, ruleFault, rulesFault, labelsFault, pairSaid, ruleSaid, numberSaid}
-use Rattle.grammar.specs.Writing.{numberText, nameText, joined, Entry, entriesFrom, entryText, labelText, pairText, ruleText, listText, labelsText, inName, LegalWords}
+use Rattle.grammar.specs.Marks.{decimal, joined, labelText}
+use Rattle.grammar.specs.Writing.{nameText, pairText, ruleText, listText, labelsText, inName, LegalWords}
 use Rattle.grammar.proofs.Findings.{IsFine, fine-worse, fine-unless}
 use Rattle.grammar.proofs.Onwards.{same→, differs, when-past, when-weaken, when-branch}
 use Rattle.grammar.proofs.Writes.{each-weaken, inline-tested, Reads, Writes, writes-as, writes-narrow, writes-pair, writes-several}
 use Rattle.grammar.proofs.Atoms.{known-says, itself, faultless, Small, writes-number, writes-name}
-use Rattle.grammar.proofs.Entries.{added, total, size-known, LegalEntry, LegalEntries, added-legal, entries-legal}
+use Rattle.grammar.proofs.Entries.{Entry, entriesFrom, entryText, label-entries, added, total, size-known, LegalEntry, LegalEntries, added-legal, entries-legal}
 
 -- Lists in order and within their maximum.
 rising-says : (ns : List ℕ) → T (rising ns) ↔ Rising ns
@@ -68,7 +69,7 @@ fine-most says key xs m n most e =
     )
 
 -- A part: a name and a count that is not 0.
-writes-count : Writes number itself (λ t. unless (leb 1 t) amount) numberText (λ t. Small t × (1 ≤ t)) inName
+writes-count : Writes number itself (λ t. unless (leb 1 t) amount) decimal (λ t. Small t × (1 ≤ t)) inName
 writes-count =
     writes-narrow writes-number (λ t. unless (leb 1 t) amount) (λ t. 1 ≤ t) (λ t. Small t × (1 ≤ t)) (λ t _. fine-least 1 t) (λ t. Iff·rfl)
 
@@ -109,8 +110,17 @@ module _ (words : List Text) (legal : LegalWords words) where
   pub writes-label : Writes label (labelSaid words) (labelFault words) (labelText words) (LegalLabel (length words)) inLabel
   writes-label =
       writes-as writes-entries (labelSaid words) (labelFault words) (labelText words) (LegalLabel (length words))
-      (λ ps f. (f, λ l. let h = added-legal (length words) (map (partSaid words) ps) l in rw (label-added ps) (ap (λ es. joined dot (map (entryText words) es)) (sym (h .1)), h .0)))
-      (λ a l. let h = entries-legal (length words) a l in (entriesFrom 0 a, h .0, refl, λ ps f e. (f, label-added ps ∙ ap (added (length words)) e ∙ h .1)))
+      (λ ps f. (
+        f,
+        λ l.
+            let es = map (partSaid words) ps in
+            let h = added-legal (length words) es l in
+            let same = ap (λ es. joined dot (map (entryText words) es)) (sym (h .1)) ∙ sym (label-entries words (added (length words) es) (h .0 .0)) in
+            rw (label-added ps) (same, h .0),
+      ))
+      (λ a l.
+      let h = entries-legal (length words) a l in
+      (entriesFrom 0 a, h .0, sym (label-entries words a (l .0)), λ ps f e. (f, label-added ps ∙ ap (added (length words)) e ∙ h .1)))
 
   -- The left side of a rule has at least two actions.
   size-said : (ps : Parts) → IsFine (worst (partFault words) ps) → size (labelSaid words ps) ≡ actions ps

@@ -17,7 +17,8 @@ use Rattle.grammar.specs.Text.{Past, past, stuck, onward, sameText, ende
 use Rattle.grammar.specs.Forms as F
 use Rattle.grammar.specs.Forms.{space, Listed, Line, plain, acts, wraps, OrderLine, part, Kind, kinds, labelList, alone, ofName, ofOne, ofTwo, ofList, farther, ofKind, termLine, orderLine}
 use Rattle.grammar.specs.Faults.{Found, termSaid, wordsOfFault, operatorSaid, listFault, orderSaid, orderFault}
-use Rattle.grammar.specs.Writing.{numberText, nameText, labelsText, after, two, withList, termText, orderText, LegalWords}
+use Rattle.grammar.specs.Marks.{decimal}
+use Rattle.grammar.specs.Writing.{nameText, labelsText, after, two, withList, termText, orderText, LegalWords}
 use Rattle.grammar.proofs.Findings.{IsFine}
 use Rattle.grammar.proofs.Onwards.{same→, differs, When, when-past, when-stuck, when-weaken, when-branch, onward→, onward←, ended→, ended←, literal→, literal←}
 use Rattle.grammar.proofs.Writes.{Inline, inline?, inline-tested, inline-append, Writes}
@@ -104,7 +105,7 @@ module _ (words : List Text) (legal : LegalWords words) where
   follows-name =
       line-after (space ∷ []) tt (line-ended (writes-name words legal) acts (termSaid words) (wordsOfFault words) act (λ w. refl) (λ w. Iff·rfl))
 
-  follows-one : (make : ℕ → Term) → Follows (ofOne make) make (λ t. after (numberText t)) Small
+  follows-one : (make : ℕ → Term) → Follows (ofOne make) make (λ t. after (decimal t)) Small
   unfolding ofOne wordsOfFault
   follows-one make =
       line-after (space ∷ []) tt (line-ended writes-number (λ t. plain (make t)) (termSaid words) (wordsOfFault words) make (λ t. refl) (λ t. Iff·rfl))

@@ -15,7 +15,7 @@ use Rattle.meaning.proofs.Tests.{and-left, and-right}
 use Rattle.grammar.specs.Text.{Past, past, onward, byte, starts, separatedOn, separated}
 use Rattle.grammar.specs.Forms.{lf}
 use Rattle.grammar.specs.Faults.{Found, fine, worse, worst}
-use Rattle.grammar.specs.Writing.{followed, joined}
+use Rattle.grammar.specs.Marks.{followed, joined}
 use Rattle.grammar.proofs.Findings.{IsFine, fine-worse}
 use Rattle.grammar.proofs.Onwards.{passes, fails, When, when-past, when-stuck, when-weaken, when-branch, onward→, onward←, literal→, literal←}
 

@@ -8,6 +8,8 @@ pub mod Forms
 pub mod Faults
 -- The whole text: the lines in their fixed order, the first bad one deciding
 pub mod Reading
+-- Numbers and labels as they are written
+pub mod Marks
 -- The other way: the text of a description
 pub mod Writing
 -- The text of an answer or a refusal

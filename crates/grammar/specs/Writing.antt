@@ -2,10 +2,10 @@
 -- the reading.
 -- Assumes nothing.
 use mathlib.Core.Path.{_≡_}
-use mathlib.Core.Bool.{Bool, true, false, _||_}
+use mathlib.Core.Bool.{Bool, _||_}
 use mathlib.Core.List.{List, [], _∷_, _++_, map}
-use Prim.Native.Nat.{ℕ, suc, _+_, _/_, _%_, _≤_}
-use lib.Dec.{T, ltb, eqb}
+use Prim.Native.Nat.{ℕ, _≤_}
+use lib.Dec.{T}
 use lib.ListN.{length, getD}
 use Rattle.meaning.specs.Bytes.{Text, ascii}
 use Rattle.meaning.specs.Labels.{Label}
@@ -13,38 +13,12 @@ use Rattle.meaning.specs.Sets.{_∈_}
 use Rattle.meaning.specs.Descriptions.{Pair, Rule, Operator, block, hide, rename, comm, allow, Term, act, tau, delta, ref, sum, cond, choice, ifelse, seq, merge, lmerge, sync, wrap, Order, all, only, Description, names, termCount, equations}
 use Rattle.meaning.specs.Legal.{Each}
 use Rattle.grammar.specs.Text.{isDigit, isLower}
-use Rattle.grammar.specs.Forms.{lf, space, comma, dot, colon, greater}
+use Rattle.grammar.specs.Forms.{lf, space, comma, greater}
+use Rattle.grammar.specs.Marks.{decimal, joined, labelText}
 
--- A number below 100, and a name by its word.
-unfoldable pub numberText : ℕ → Text
-numberText n = elim (ltb n 10) [ true ↦ (48 + n) ∷ [] | false ↦ (48 + n / 10) ∷ (48 + n % 10) ∷ [] ]
-
+-- A name by its word.
 abbrev pub nameText : List Text → ℕ → Text
 nameText words n = getD words n []
-
--- Texts with a sign between them.
-unfoldable pub followed : ℕ → List Text → Text
-followed sign [] = []
-followed sign (t ∷ ts) = sign ∷ (t ++ followed sign ts)
-
-unfoldable pub joined : ℕ → List Text → Text
-joined sign [] = []
-joined sign (t ∷ ts) = t ++ followed sign ts
-
--- A label: the names that occur, from name n on, with their counts.
-pub record Entry : Type 0 where
-  pub name : ℕ
-  pub times : ℕ
-
-unfoldable pub entriesFrom : ℕ → Label → List Entry
-entriesFrom n [] = []
-entriesFrom n (x ∷ a) = elim (eqb x 0) [ true ↦ entriesFrom (suc n) a | false ↦ record { name = n; times = x } ∷ entriesFrom (suc n) a ]
-
-abbrev pub entryText : List Text → Entry → Text
-entryText words e = nameText words (e .name) ++ (colon ∷ numberText (e .times))
-
-abbrev pub labelText : List Text → Label → Text
-labelText words a = joined dot (map (entryText words) (entriesFrom 0 a))
 
 -- LIST, PAIRS, RULES and LABELS
 abbrev pub pairText : List Text → Pair → Text
@@ -65,10 +39,10 @@ abbrev pub after : Text → Text
 after t = space ∷ t
 
 abbrev pub withList : ℕ → Text → Text
-withList t list = after (numberText t) ++ after list
+withList t list = after (decimal t) ++ after list
 
 abbrev pub two : ℕ → ℕ → Text
-two t u = after (numberText t) ++ after (numberText u)
+two t u = after (decimal t) ++ after (decimal u)
 
 abbrev pub operatorText : List Text → Operator → ℕ → Text
 operatorText words (block ns) t = ascii "block" ++ withList t (listText (nameText words) ns)
@@ -81,9 +55,9 @@ abbrev pub termText : List Text → Term → Text
 termText words (act a) = ascii "act" ++ after (nameText words a)
 termText words tau = ascii "tau"
 termText words delta = ascii "delta"
-termText words (ref e) = ascii "ref" ++ after (numberText e)
-termText words (sum t) = ascii "sum" ++ after (numberText t)
-termText words (cond t) = ascii "cond" ++ after (numberText t)
+termText words (ref e) = ascii "ref" ++ after (decimal e)
+termText words (sum t) = ascii "sum" ++ after (decimal t)
+termText words (cond t) = ascii "cond" ++ after (decimal t)
 termText words (choice t u) = ascii "choice" ++ two t u
 termText words (ifelse t u) = ascii "ifelse" ++ two t u
 termText words (seq t u) = ascii "seq" ++ two t u
@@ -106,13 +80,13 @@ eachLine w (x ∷ xs) rest = line (w x) (eachLine w xs rest)
 
 unfoldable pub written : Description → Order → Text
 written d o =
-    line (ascii "names=" ++ numberText (names d))
+    line (ascii "names=" ++ decimal (names d))
     (eachLine (λ w. ascii "name=" ++ w) (d .words)
-    (line (ascii "equations=" ++ numberText (equations d))
-    (line (ascii "terms=" ++ numberText (termCount d))
+    (line (ascii "equations=" ++ decimal (equations d))
+    (line (ascii "terms=" ++ decimal (termCount d))
     (eachLine (λ t. ascii "term=" ++ termText (d .words) t) (d .terms)
-    (eachLine (λ b. ascii "equation=" ++ numberText b) (d .bodies)
-    (line (ascii "root=" ++ numberText (d .root))
+    (eachLine (λ b. ascii "equation=" ++ decimal b) (d .bodies)
+    (line (ascii "root=" ++ decimal (d .root))
     (line (ascii "order=" ++ orderText (d .words) o) [])))))))
 
 -- Legal words: each a lower-case letter, then up to 7 lower-case letters or digits; none of tau, none and all; no word twice.

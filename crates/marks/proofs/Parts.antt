@@ -15,38 +15,31 @@ use lib.Seq.{drop-cons}
 use Rattle.meaning.specs.Bytes.{Text}
 use Rattle.meaning.specs.Labels.{Label, labelOf}
 use Rattle.table.specs.Decoded.{nameOf}
-use Rattle.grammar.specs.Printed.{decimal, joint, partText, partsText}
+use Rattle.grammar.specs.Forms.{dot, colon}
+use Rattle.grammar.specs.Marks.{decimal, joined, followed, partText, partTexts}
 use Rattle.grammar.specs.Areas.{Written}
+use Rattle.grammar.proofs.Marks.{partTexts-zero, partTexts-some}
 use Rattle.marks.specs.Packed.{wordsOf}
 use Rattle.marks.specs.Steps.{nextText}
 use Rattle.marks.proofs.Writing.{Underway, lent, back, step, end, next-room}
 
 pub length-part : (word : Text) (times : ℕ) → length (partText word times) ≡ length word + 1 + length (decimal times)
-length-part word times = rw (length-append (word ++ (58 ∷ [])) (decimal times), length-append word (58 ∷ []))
-
--- The two cases of a name: it does not occur, or its part stands before a joint.
-pub absent : (w : Text) (ws : List Text) (x : ℕ) (a : Label) → x ≡ 0 → partsText (w ∷ ws) (x ∷ a) ≡ partsText ws a
-unfolding partsText
-absent w ws x a e = rw (eq-eqb x 0 e, partsText)
-
-pub occurs : (w : Text) (ws : List Text) (x : ℕ) (a : Label) → (x ≡ 0 → ⊥) → partsText (w ∷ ws) (x ∷ a) ≡ partText w x ++ joint (partsText ws a)
-unfolding partsText
-occurs w ws x a h = rw (ne-eqb x 0 h, partsText)
+length-part word times = omega (arith, length-append word (colon ∷ decimal times))
 
 -- What is to come of a label of which so many bytes are written.
-unfoldable pub onward : ℕ → Text → Text
-onward written s = elim (eqb written 0) [ true ↦ s | false ↦ joint s ]
+unfoldable pub onward : ℕ → List Text → Text
+onward written ts = elim (eqb written 0) [ true ↦ joined dot ts | false ↦ followed dot ts ]
 
-onward-some : (written : ℕ) (s : Text) → (written ≡ 0 → ⊥) → onward written s ≡ joint s
+onward-some : (written : ℕ) (ts : List Text) → (written ≡ 0 → ⊥) → onward written ts ≡ followed dot ts
 unfolding onward
-onward-some written s h = rw (ne-eqb written 0 h, onward)
+onward-some written ts h = rw (ne-eqb written 0 h, onward)
 
-onward-none : (written : ℕ) (s : Text) → written ≡ 0 → onward written s ≡ s
+onward-none : (written : ℕ) (ts : List Text) → written ≡ 0 → onward written ts ≡ joined dot ts
 unfolding onward
-onward-none written s e = rw (eq-eqb written 0 e, onward)
+onward-none written ts e = rw (eq-eqb written 0 e, onward)
 
 pub onward-nil : (written : ℕ) → onward written [] ≡ []
-unfolding onward
+unfolding joined followed
 onward-nil written =
     elim (ℕ-discrete written 0) [ yes e ↦ onward-none written [] e | no d ↦ onward-some written [] d ]
 
@@ -63,25 +56,26 @@ pub next-later : (written : ℕ) (w : Text) (x : ℕ) → (x ≡ 0 → ⊥) → 
 unfolding nextText
 next-later written w x h d = rw (ne-eqb x 0 h, ne-eqb written 0 d, nextText)
 
-joint-part : (w : Text) (x : ℕ) (s : Text) → joint (partText w x ++ s) ≡ 46 ∷ (partText w x ++ s)
-joint-part [] x s = refl
-joint-part (b ∷ w) x s = refl
-
 -- What is to come is the next part and what is to come behind it.
 parts-next : (written : ℕ) (w : Text) (ws : List Text) (x : ℕ) (a : Label) →
-    onward written (partsText (w ∷ ws) (x ∷ a)) ≡ nextText written w x ++ onward (written + length (nextText written w x)) (partsText ws a)
+    onward written (partTexts (w ∷ ws) (x ∷ a)) ≡ nextText written w x ++ onward (written + length (nextText written w x)) (partTexts ws a)
+unfolding joined followed
 parts-next written w ws x a =
+    let part = partText w x in
+    let rest = partTexts ws a in
     elim (ℕ-discrete x 0) [
-      | yes e ↦ rw (absent w ws x a e, next-absent written w x e, add-zero)
+      | yes e ↦ rw (partTexts-zero w ws x a e, next-absent written w x e, add-zero)
       | no h ↦ elim (ℕ-discrete written 0) [
-        | yes e ↦ rw (occurs w ws x a h, next-first written w x h e, onward-none written (partText w x ++ joint (partsText ws a)) e, onward-some (written + length (partText w x)) (partsText ws a) (omega (arith, length-part w x)))
-        | no d ↦ rw (occurs w ws x a h, next-later written w x h d, onward-some written (partText w x ++ joint (partsText ws a)) d, onward-some (written + length (46 ∷ partText w x)) (partsText ws a) (omega arith)) (joint-part w x (joint (partsText ws a)))
+        | yes e ↦ rw (partTexts-some w ws x a h, next-first written w x h e, onward-none written (part ∷ rest) e)
+            (rw (onward-some (written + length part) rest (omega (arith, length-part w x))))
+        | no d ↦ rw (partTexts-some w ws x a h, next-later written w x h d, onward-some written (part ∷ rest) d)
+            (rw (onward-some (written + length (dot ∷ part)) rest (omega arith)))
       ]
     ]
 
 -- The parts of the names from the i-th on, whose counts are the digits of what is left of the label's word.
-abbrev pub partsFrom : List ℕ → ℕ → ℕ → Text
-partsFrom names i rest = partsText (wordsOf (drop i names)) (labelOf (12 - i) rest)
+abbrev pub partsFrom : List ℕ → ℕ → ℕ → List Text
+partsFrom names i rest = partTexts (wordsOf (drop i names)) (labelOf (12 - i) rest)
 
 parts-step : (written : ℕ) (names : List ℕ) (i rest : ℕ) → i < 12 → length names ≡ 12 →
     onward written (partsFrom names i rest)
@@ -95,8 +89,8 @@ parts-step written names i rest h e =
     (parts-next written (nameOf 8 (getD names i 0)) (wordsOf (drop (i + 1) names)) (rest % 32) (labelOf (12 - (i + 1)) (rest / 32)))
 
 -- Where nothing is left of the word, nothing is to come.
-parts-none : (ws : List Text) (n : ℕ) → partsText ws (labelOf n 0) ≡ []
-unfolding labelOf partsText
+parts-none : (ws : List Text) (n : ℕ) → partTexts ws (labelOf n 0) ≡ []
+unfolding labelOf partTexts
 parts-none ws zero = refl
 parts-none [] (suc n) = refl
 parts-none (w ∷ ws) (suc n) = parts-none ws n
@@ -117,8 +111,8 @@ module _ {goal before mid : Text} {k : ℕ} (names : List ℕ) (i rest : ℕ) (u
   parts-early e = end (rw (ap (λ (r : ℕ). onward k (partsFrom names i r)) e ∙ ap (onward k) (parts-none (wordsOf (drop i names)) (12 - i)) ∙ onward-nil k) at u)
 
   pub parts-end : i ≡ 12 → Written goal before mid k
-  unfolding labelOf partsText
+  unfolding labelOf partTexts
   parts-end e = end (rw (ap (λ (n : ℕ). onward k (partsFrom names n rest)) e ∙ onward-nil k) at u)
 
-pub parts-start : (s : Text) → onward 0 s ≡ s
-parts-start s = onward-none 0 s refl
+pub parts-start : (ts : List Text) → onward 0 ts ≡ joined dot ts
+parts-start ts = onward-none 0 ts refl

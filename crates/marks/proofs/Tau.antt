@@ -10,12 +10,15 @@ use lib.ListN.{length, length-append}
 use Rattle.meaning.specs.Bytes.{Text, ascii}
 use Rattle.meaning.specs.Labels.{labelOf}
 use Rattle.table.specs.Decoded.{nameOf}
-use Rattle.grammar.specs.Printed.{joint, orTau, partText, partsText, labelText}
+use Rattle.grammar.specs.Forms.{dot}
+use Rattle.grammar.specs.Marks.{joined, followed, partText, partTexts}
+use Rattle.grammar.specs.Printed.{orTau, printedLabel}
 use Rattle.grammar.specs.Areas.{Written}
 use Rattle.marks.specs.Packed.{wordsOf, countsOf}
 use Rattle.grammar.proofs.Decimal.{length-small}
+use Rattle.grammar.proofs.Marks.{partTexts-zero, partTexts-some}
 use Rattle.marks.proofs.Names.{length-name}
-use Rattle.marks.proofs.Parts.{length-part, absent, occurs}
+use Rattle.marks.proofs.Parts.{length-part}
 
 -- Parts were written, or none and `tau` in their place.
 pub parts-written : (s : Text) {before mid : Text} {k : ℕ} → Written s before mid k → (k ≡ 0 → ⊥) → Written (orTau s) before mid k
@@ -34,27 +37,32 @@ pub tau-length : (s : Text) → length s ≡ 0 → length (orTau s) ≡ 3
 tau-length [] e = refl
 tau-length (b ∷ s) e = absurd (omega arith)
 
--- Each part has at most eight bytes of a name, a colon, two digits, and the point behind it.
-length-joint : (s : Text) → length (joint s) ≤ suc (length s)
-length-joint [] = zero-le
-length-joint (b ∷ s) = le-refl (suc (length (b ∷ s)))
-
-length-parts : (k : ℕ) (names : List ℕ) (w : ℕ) → length (partsText (wordsOf names) (labelOf k w)) ≤ 12 * k
-unfolding partsText labelOf
-length-parts zero names w = zero-le
-length-parts (suc k) [] w = zero-le
-length-parts (suc k) (n ∷ names) w =
-    let rest = partsText (wordsOf names) (labelOf k (w / 32)) in
-    elim (ℕ-discrete (w % 32) 0) [
-      | yes e ↦ rw (absent (nameOf 8 n) (wordsOf names) (w % 32) (labelOf k (w / 32)) e) (omega (arith, length-parts k names (w / 32)))
-      | no d ↦ rw (occurs (nameOf 8 n) (wordsOf names) (w % 32) (labelOf k (w / 32)) d, length-append (partText (nameOf 8 n) (w % 32)) (joint rest), length-part (nameOf 8 n) (w % 32))
-          (omega (arith, length-parts k names (w / 32), length-joint rest, length-name n, length-small (w % 32) (omega arith)))
+-- Each part has at most eight bytes of a name, a colon, two digits, and the point before it.
+length-followed : (k : ℕ) (names : List ℕ) (w : ℕ) → length (followed dot (partTexts (wordsOf names) (labelOf k w))) ≤ 12 * k
+unfolding partTexts labelOf followed
+length-followed zero names w = zero-le
+length-followed (suc k) [] w = zero-le
+length-followed (suc k) (n ∷ names) w =
+    let word = nameOf 8 n in
+    let times = w % 32 in
+    let rest = labelOf k (w / 32) in
+    elim (ℕ-discrete times 0) [
+      | yes e ↦ rw (partTexts-zero word (wordsOf names) times rest e) (omega (arith, length-followed k names (w / 32)))
+      | no d ↦ rw (partTexts-some word (wordsOf names) times rest d, length-append (partText word times) (followed dot (partTexts (wordsOf names) rest)), length-part word times)
+          (omega (arith, length-followed k names (w / 32), length-name n, length-small times (omega arith)))
     ]
+
+length-joined : (sign : ℕ) (ts : List Text) → length (joined sign ts) ≤ length (followed sign ts)
+unfolding joined followed
+length-joined sign [] = zero-le
+length-joined sign (t ∷ ts) = omega arith
 
 length-or-tau : (s : Text) → length s ≤ 144 → length (orTau s) ≤ 144
 length-or-tau [] h = omega arith
 length-or-tau (b ∷ s) h = h
 
-pub length-label : (names : List ℕ) (label : ℕ) → length (labelText (wordsOf names) (countsOf label)) ≤ 144
-unfolding labelText
-length-label names label = length-or-tau (partsText (wordsOf names) (countsOf label)) (length-parts 12 names label)
+pub length-label : (names : List ℕ) (label : ℕ) → length (printedLabel (wordsOf names) (countsOf label)) ≤ 144
+unfolding printedLabel
+length-label names label =
+    let parts = partTexts (wordsOf names) (countsOf label) in
+    length-or-tau (joined dot parts) (omega (arith, length-joined dot parts, length-followed 12 names label))

@@ -6,7 +6,8 @@ ghost use Prim.Native.Nat.{_≤_};
 ghost use lib.Dec.{leb};
 ghost use lib.ListN.{length};
 ghost use Rattle.table.specs.Decoded.{nameOf};
-ghost use Rattle.grammar.specs.Printed.{partText, partsText, labelText};
+ghost use Rattle.grammar.specs.Marks.{partText, labelText};
+ghost use Rattle.grammar.specs.Printed.{printedLabel};
 ghost use Rattle.marks.specs.Steps.{nextText};
 ghost use Rattle.grammar.specs.Areas.{Written, Printed};
 ghost use Rattle.marks.specs.Packed.{wordsOf, countsOf};
@@ -53,8 +54,8 @@ fn write_next(text: &mut [u8], written: usize, name: u64, times: usize) -> usize
 
 // A label's counts are the digits of its number to base 32; past the last that is not 0 nothing is written.
 fn write_parts(text: &mut [u8], names: [u64; NAMES], label: u64) -> usize
-    requires { ⌜ length (partsText (wordsOf names) (countsOf label)) ≤ length (now text) ⌝ }
-    ensures { λ r. ⌜ Written (partsText (wordsOf names) (countsOf label)) (now (text .entry)) (now (text .exit)) r ⌝ }
+    requires { ⌜ length (labelText (wordsOf names) (countsOf label)) ≤ length (now text) ⌝ }
+    ensures { λ r. ⌜ Written (labelText (wordsOf names) (countsOf label)) (now (text .entry)) (now (text .exit)) r ⌝ }
 {
     let mut rest = label;
     let mut at = 0;
@@ -72,8 +73,8 @@ fn write_parts(text: &mut [u8], names: [u64; NAMES], label: u64) -> usize
 }
 
 fn write_fitting_label(text: &mut [u8], names: [u64; NAMES], label: u64) -> usize
-    requires { ⌜ length (labelText (wordsOf names) (countsOf label)) ≤ length (now text) ⌝ }
-    ensures { λ r. ⌜ Written (labelText (wordsOf names) (countsOf label)) (now (text .entry)) (now (text .exit)) r ⌝ }
+    requires { ⌜ length (printedLabel (wordsOf names) (countsOf label)) ≤ length (now text) ⌝ }
+    ensures { λ r. ⌜ Written (printedLabel (wordsOf names) (countsOf label)) (now (text .entry)) (now (text .exit)) r ⌝ }
 {
     let size = write_parts(text, names, label);
     if size == 0 {
@@ -87,7 +88,7 @@ const LONGEST_LABEL: usize = 144;
 
 // The length of a label's text, which is written on a scratch area.
 pub fn label_length(names: [u64; NAMES], label: u64) -> usize
-    ensures { λ r. ⌜ r ≡ length (labelText (wordsOf names) (countsOf label)) ⌝ }
+    ensures { λ r. ⌜ r ≡ length (printedLabel (wordsOf names) (countsOf label)) ⌝ }
 {
     let mut scratch = [0u8; LONGEST_LABEL];
     write_fitting_label(&mut scratch, names, label)
@@ -95,7 +96,7 @@ pub fn label_length(names: [u64; NAMES], label: u64) -> usize
 
 // Where every label fits, none is measured.
 fn label_fits(names: [u64; NAMES], label: u64, room: usize) -> bool
-    ensures { λ r. ⌜ r ≡ leb (length (labelText (wordsOf names) (countsOf label))) room ⌝ }
+    ensures { λ r. ⌜ r ≡ leb (length (printedLabel (wordsOf names) (countsOf label))) room ⌝ }
 {
     if LONGEST_LABEL <= room {
         return true;
@@ -105,7 +106,7 @@ fn label_fits(names: [u64; NAMES], label: u64, room: usize) -> bool
 
 // A label: its length is returned, or 0 where the area is too short for it.
 pub fn write_label(text: &mut [u8], names: [u64; NAMES], label: u64) -> usize
-    ensures { λ r. ⌜ Printed (labelText (wordsOf names) (countsOf label)) (now (text .entry)) (now (text .exit)) r ⌝ }
+    ensures { λ r. ⌜ Printed (printedLabel (wordsOf names) (countsOf label)) (now (text .entry)) (now (text .exit)) r ⌝ }
 {
     if label_fits(names, label, text.len()) {
         return write_fitting_label(text, names, label);

@@ -3,7 +3,7 @@ ghost use mathlib.Core.Path.{_≡_};
 ghost use Prim.Native.Nat.{_≤_};
 ghost use lib.Dec.{leb};
 ghost use lib.ListN.{length};
-ghost use Rattle.grammar.specs.Printed.{decimal};
+ghost use Rattle.grammar.specs.Marks.{decimal};
 ghost use Rattle.grammar.specs.Areas.{Written, Printed};
 
 // The digits before the last are those of a tenth of the number.

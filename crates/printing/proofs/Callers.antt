@@ -14,10 +14,12 @@ use Rattle.meaning.specs.Legal.{Each}
 use Rattle.meaning.proofs.Digits.{Small}
 use Rattle.table.specs.Decoded.{nameOf}
 use Rattle.table.specs.Encoded.{filled, wordOf}
-use Rattle.grammar.specs.Printed.{joint, partText, partsText, labelText, orTau, labelLines, line, answerText}
+use Rattle.grammar.specs.Forms.{dot}
+use Rattle.grammar.specs.Marks.{joined, partText, partTexts}
+use Rattle.grammar.specs.Printed.{printedLabel, orTau, labelLines, line, answerText}
 use Rattle.marks.specs.Packed.{wordsOf, countsOf}
 use Rattle.marks.proofs.Names.{first-byte}
-use Rattle.marks.proofs.Parts.{absent, occurs}
+use Rattle.grammar.proofs.Marks.{partTexts-zero, partTexts-some}
 
 -- The bytes of a word of a description: at most eight, none of them 0.
 abbrev pub Bytes : Text → Type 0
@@ -39,16 +41,16 @@ unpacked (suc k) (b ∷ s) h e =
     ∙ ap₂ {C = Text} _∷_ low (ap (nameOf k) high ∙ unpacked k s (le-of-suc-le-suc h) (e .1))
 
 -- The parts of a label over the names that are there, and over as many more.
-same-part : (w : Text) (x : ℕ) (vs ws : List Text) (a b : Label) → partsText vs a ≡ partsText ws b → partsText (w ∷ vs) (x ∷ a) ≡ partsText (w ∷ ws) (x ∷ b)
+same-part : (w : Text) (x : ℕ) (vs ws : List Text) (a b : Label) → partTexts vs a ≡ partTexts ws b → partTexts (w ∷ vs) (x ∷ a) ≡ partTexts (w ∷ ws) (x ∷ b)
 same-part w x vs ws a b rest =
     elim (ℕ-discrete x 0) [
-      | yes e ↦ absent w vs x a e ∙ rest ∙ sym (absent w ws x b e)
-      | no d ↦ occurs w vs x a d ∙ ap (λ (s : Text). partText w x ++ joint s) rest ∙ sym (occurs w ws x b d)
+      | yes e ↦ partTexts-zero w vs x a e ∙ rest ∙ sym (partTexts-zero w ws x b e)
+      | no d ↦ partTexts-some w vs x a d ∙ ap {B = List Text} (λ ts. partText w x ∷ ts) rest ∙ sym (partTexts-some w ws x b d)
     ]
 
 same-parts : (k : ℕ) (ws : List Text) (a : Label) → length ws ≤ k → Each Bytes ws → Fits ws a →
-    partsText (wordsOf (filled k 0 (map wordOf ws))) (labelOf k (number a)) ≡ partsText ws a
-unfolding partsText labelOf number filled
+    partTexts (wordsOf (filled k 0 (map wordOf ws))) (labelOf k (number a)) ≡ partTexts ws a
+unfolding partTexts labelOf number filled
 same-parts zero [] [] h e f = refl
 same-parts zero [] (x ∷ a) h e f = absurd (omega (arith, f .0))
 same-parts zero (w ∷ ws) a h e f = absurd (omega arith)
@@ -59,16 +61,16 @@ same-parts (suc k) (w ∷ ws) (x ∷ a) h e f =
     let names = wordsOf (filled k 0 (map wordOf ws)) in
     let low : (x + 32 * number a) % 32 ≡ x = omega (arith, f .1 .0) in
     let high : (x + 32 * number a) / 32 ≡ number a = omega (arith, f .1 .0) in
-    ap₂ (λ (n : Text) (b : Label). partsText (n ∷ names) b) (unpacked 8 w (e .0 .0) (e .0 .1)) (ap₂ {C = Label} _∷_ low (ap (labelOf k) high))
+    ap₂ (λ (n : Text) (b : Label). partTexts (n ∷ names) b) (unpacked 8 w (e .0 .0) (e .0 .1)) (ap₂ {C = Label} _∷_ low (ap (labelOf k) high))
     ∙ same-part w x names ws (labelOf k (number a)) a (same-parts k ws a (le-of-suc-le-suc h) (e .1) (suc-inj (f .0), f .1 .1))
 
 module _ (ws : List Text) (few : length ws ≤ 12) (words : Each Bytes ws) where
   same-lines : (labels : List Label) → Each (Fits ws) labels →
       labelLines (wordsOf (filled 12 0 (map wordOf ws))) (map countsOf (map number labels)) ≡ labelLines ws labels
-  unfolding labelLines labelText
+  unfolding labelLines printedLabel
   same-lines [] f = refl
   same-lines (a ∷ labels) f =
-      ap₂ (λ (s t : Text). line (ascii "label=") (orTau s) ++ t) (same-parts 12 ws a few words (f .0)) (same-lines labels (f .1))
+      ap₂ (λ (ts : List Text) (t : Text). line (ascii "label=") (orTau (joined dot ts)) ++ t) (same-parts 12 ws a few words (f .0)) (same-lines labels (f .1))
 
   pub same-answer : (rounds : ℕ) (labels : List Label) → Each (Fits ws) labels →
       answerText (wordsOf (filled 12 0 (map wordOf ws))) rounds (map countsOf (map number labels)) ≡ answerText ws rounds labels

@@ -8,13 +8,13 @@ use native.Mathlib.Omega.{arith}
 use lib.ListN.{length, drop, getD, length-append}
 use lib.Seq.{drop-cons, drop-length}
 use Rattle.meaning.specs.Bytes.{Text, ascii}
-use Rattle.grammar.specs.Printed.{line, labelText, labelLines}
+use Rattle.grammar.specs.Printed.{line, printedLabel, labelLines}
 use Rattle.marks.specs.Packed.{wordsOf, countsOf}
 use Rattle.printing.proofs.Line.{length-line}
 use Rattle.marks.proofs.Tau.{length-label}
 
 abbrev pub labelLine : List ℕ → ℕ → Text
-labelLine names label = line (ascii "label=") (labelText (wordsOf names) (countsOf label))
+labelLine names label = line (ascii "label=") (printedLabel (wordsOf names) (countsOf label))
 
 abbrev pub linesFrom : List ℕ → List ℕ → ℕ → Text
 linesFrom names labels i = labelLines (wordsOf names) (map countsOf (drop i labels))
@@ -30,9 +30,9 @@ unfolding labelLines
 lines-end names labels i e = ap (λ (ls : List ℕ). labelLines (wordsOf names) (map countsOf ls)) (ap (λ (n : ℕ). drop n labels) e ∙ drop-length labels)
 
 pub length-lines : (names labels : List ℕ) (i : ℕ) → i < length labels →
-    length (linesFrom names labels i) ≡ length (labelText (wordsOf names) (countsOf (getD labels i 0))) + 7 + length (linesFrom names labels (i + 1))
+    length (linesFrom names labels i) ≡ length (printedLabel (wordsOf names) (countsOf (getD labels i 0))) + 7 + length (linesFrom names labels (i + 1))
 length-lines names labels i h =
-    let value = labelText (wordsOf names) (countsOf (getD labels i 0)) in
+    let value = printedLabel (wordsOf names) (countsOf (getD labels i 0)) in
     rw (lines-step names labels i h, length-append (line (ascii "label=") value) (linesFrom names labels (i + 1)), length-line (ascii "label=") value) (omega arith)
 
 -- no line is longer than 151 bytes
@@ -40,6 +40,6 @@ pub lines-short : (names labels : List ℕ) → length (labelLines (wordsOf name
 unfolding labelLines
 lines-short names [] = zero-le
 lines-short names (l ∷ labels) =
-    let value = labelText (wordsOf names) (countsOf l) in
+    let value = printedLabel (wordsOf names) (countsOf l) in
     rw (length-append (line (ascii "label=") value) (labelLines (wordsOf names) (map countsOf labels)), length-line (ascii "label=") value)
     (omega (arith, length-label names l, lines-short names labels))

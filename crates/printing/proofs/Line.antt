@@ -6,7 +6,8 @@ use Prim.Native.Nat.{ℕ, _+_, _≤_, _<_}
 use native.Mathlib.Omega.{arith}
 use lib.ListN.{length, set, length-append}
 use Rattle.meaning.specs.Bytes.{Text}
-use Rattle.grammar.specs.Printed.{decimal, line}
+use Rattle.grammar.specs.Marks.{decimal}
+use Rattle.grammar.specs.Printed.{line}
 use Rattle.grammar.specs.Areas.{Written}
 use Rattle.printing.specs.Steps.{headText}
 use Rattle.grammar.proofs.Decimal.{length-decimal}

@@ -1,48 +1,83 @@
 // The text of an answer or a refusal, written into an area that is lent for it.
 //
-// Its length is worked out first, so that a text that does not fit leaves the area as it was; then each line is written
+// Whether it fits is worked out first, so that a text that does not fit leaves the area as it was; then each line is written
 // into the rest of the area behind the lines before it.
 mod lines;
 
-use lines::head_length;
 use lines::label_lines_fit;
 use lines::write_head;
 use lines::write_label_lines;
 use table::NAMES;
+ghost use mathlib.Core.Path.{_≡_};
 ghost use mathlib.Core.List.{map};
+ghost use Prim.Native.Nat.{_≤_};
+ghost use lib.Dec.{leb};
+ghost use lib.ListN.{length};
 ghost use Rattle.grammar.specs.Printed.{answerText, refusedText};
-ghost use Rattle.grammar.specs.Areas.{Printed};
+ghost use Rattle.grammar.specs.Areas.{Written, Printed};
 ghost use Rattle.marks.specs.Packed.{wordsOf, countsOf};
+ghost use Rattle.printing.specs.Steps.{answerHead};
+
+// Two numbers of at most twenty digits, and fewer than forty bytes around them.
+const LONGEST_HEAD: usize = 80;
+
+fn write_answer_head(text: &mut [u8], rounds: usize, count: usize) -> usize
+    requires { ⌜ length (answerHead rounds count) ≤ length (now text) ⌝ }
+    ensures { λ r. ⌜ Written (answerHead rounds count) (now (text .entry)) (now (text .exit)) r ⌝ }
+{
+    write_head(text, b"answer=ok\n", b"rounds=", rounds, b"labels=", count)
+}
+
+fn answer_fits(names: [u64; NAMES], rounds: usize, labels: &[u64], room: usize) -> bool
+    ensures { λ r. ⌜ r ≡ leb (length (answerText (wordsOf names) rounds (map countsOf (now (labels .entry))))) room ⌝ }
+{
+    let mut scratch = [0u8; LONGEST_HEAD];
+    let size = write_answer_head(&mut scratch, rounds, labels.len());
+    if room < size {
+        return false;
+    }
+    let left = room - size;
+    label_lines_fit(names, labels, left)
+}
 
 // The text of an answer: its length is returned, or 0 where the area is too short for it.
 pub fn write_answer(text: &mut [u8], names: [u64; NAMES], rounds: usize, labels: &[u64]) -> usize
     ensures { λ r. ⌜ Printed (answerText (wordsOf names) rounds (map countsOf (now (labels .entry)))) (now (text .entry)) (now (text .exit)) r ⌝ }
 {
-    let said = b"answer=ok\n";
-    let key = b"rounds=";
-    let next_key = b"labels=";
-    let size = head_length(said, key, rounds, next_key, labels.len());
-    if text.len() < size {
-        return 0;
-    }
-    let room = text.len() - size;
-    if label_lines_fit(names, labels, room) {
-        let at = write_head(text, said, key, rounds, next_key, labels.len());
+    if answer_fits(names, rounds, labels, text.len()) {
+        let at = write_answer_head(text, rounds, labels.len());
         return at + write_label_lines(&mut text[at..], names, labels);
     }
     0
+}
+
+fn write_fitting_refusal(text: &mut [u8], reason: usize, line: usize) -> usize
+    requires { ⌜ length (refusedText reason line) ≤ length (now text) ⌝ }
+    ensures { λ r. ⌜ Written (refusedText reason line) (now (text .entry)) (now (text .exit)) r ⌝ }
+{
+    write_head(
+        text,
+        b"answer=refused\n",
+        b"reason=",
+        reason,
+        b"line=",
+        line,
+    )
+}
+
+fn refusal_fits(reason: usize, line: usize, room: usize) -> bool
+    ensures { λ r. ⌜ r ≡ leb (length (refusedText reason line)) room ⌝ }
+{
+    let mut scratch = [0u8; LONGEST_HEAD];
+    write_fitting_refusal(&mut scratch, reason, line) <= room
 }
 
 // The text of a refusal, by its number and its line, in the same way.
 pub fn write_refusal(text: &mut [u8], reason: usize, line: usize) -> usize
     ensures { λ r. ⌜ Printed (refusedText reason line) (now (text .entry)) (now (text .exit)) r ⌝ }
 {
-    let said = b"answer=refused\n";
-    let key = b"reason=";
-    let next_key = b"line=";
-    let whole = head_length(said, key, reason, next_key, line);
-    if text.len() < whole {
-        return 0;
+    if refusal_fits(reason, line, text.len()) {
+        return write_fitting_refusal(text, reason, line);
     }
-    write_head(text, said, key, reason, next_key, line)
+    0
 }

@@ -5,11 +5,12 @@ use marks::numbers::write_number;
 use table::NAMES;
 ghost use mathlib.Core.Path.{_≡_};
 ghost use mathlib.Core.List.{map};
-ghost use Prim.Native.Nat.{_+_, _≤_};
+ghost use Prim.Native.Nat.{_≤_};
 ghost use lib.Dec.{leb};
 ghost use lib.ListN.{length};
 ghost use Rattle.meaning.specs.Bytes.{ascii};
-ghost use Rattle.grammar.specs.Printed.{decimal, line, labelText, labelLines};
+ghost use Rattle.grammar.specs.Marks.{decimal};
+ghost use Rattle.grammar.specs.Printed.{line, printedLabel, labelLines};
 ghost use Rattle.grammar.specs.Areas.{Written};
 ghost use Rattle.marks.specs.Packed.{wordsOf, countsOf};
 ghost use Rattle.printing.specs.Steps.{headText};
@@ -41,20 +42,9 @@ pub(crate) fn write_head(
     second + write_count_line(&mut text[second..], next_key, m)
 }
 
-// Two numbers of at most twenty digits, two line ends, and at most 38 bytes of words.
-const LONGEST_HEAD: usize = 80;
-
-pub(crate) fn head_length(said: &[u8], key: &[u8], n: usize, next_key: &[u8], m: usize) -> usize
-    requires { ⌜ length (now said) + length (now key) + length (now «next_key») ≤ 38 ⌝ }
-    ensures { λ r. ⌜ r ≡ length (headText (now (said .entry)) (now (key .entry)) n (now («next_key» .entry)) m) ⌝ }
-{
-    let mut scratch = [0u8; LONGEST_HEAD];
-    write_head(&mut scratch, said, key, n, next_key, m)
-}
-
 fn write_label_line(text: &mut [u8], names: [u64; NAMES], label: u64) -> usize
-    requires { ⌜ length (line (ascii "label=") (labelText (wordsOf names) (countsOf label))) ≤ length (now text) ⌝ }
-    ensures { λ r. ⌜ Written (line (ascii "label=") (labelText (wordsOf names) (countsOf label))) (now (text .entry)) (now (text .exit)) r ⌝ }
+    requires { ⌜ length (line (ascii "label=") (printedLabel (wordsOf names) (countsOf label))) ≤ length (now text) ⌝ }
+    ensures { λ r. ⌜ Written (line (ascii "label=") (printedLabel (wordsOf names) (countsOf label))) (now (text .entry)) (now (text .exit)) r ⌝ }
 {
     let at = bytes::copy(b"label=", text);
     let end = at + write_label(&mut text[at..], names, label);

@@ -1,30 +1,31 @@
--- `printing::write_refusal` meets its contract: the head is the whole text.
+-- `printing::write_refusal` meets its contract: a text that fits is written whole, and of any other nothing.
 -- Assumes nothing.
-use native.Mathlib.Omega.{arith}
-use Rattle.grammar.specs.Printed.{refusedText}
-use Rattle.grammar.proofs.Areas.{written→printed, short→printed}
 use borrow.Author.Needs.{needs}
+use lib.ListN.{length}
+use Rattle.grammar.specs.Printed.{refusedText}
+use Rattle.grammar.proofs.Areas.{test-fits, fitting→printed, unfitting→printed}
 use Rattle.printing.proofs.write_refusal.Statement.{statement}
 use Rattle.printing.proofs.write_refusal.Tie as tie
 
-head-length-requires : tie.Need-head-length-requires
-head-length-requires c κs = omega arith
+refusal-fits-requires : tie.Need-refusal-fits-requires
+refusal-fits-requires c κs = tt
 
-returns : tie.Need-returns
-unfolding refusedText
-returns c = short→printed (omega (arith, c .if1 .taken, c .before .head-length .ensures))
-
-write-head-requires : tie.Need-write-head-requires
-write-head-requires c κs = search needs
+write-fitting-refusal-requires : tie.Need-write-fitting-refusal-requires
+write-fitting-refusal-requires c κs =
+    let tested = c .before .before in
+    let a = tested .before .before .args in
+    test-fits (length (refusedText (a .reason) (a .line))) (length (a .text .now)) (tested .refusal-fits .ensures) (c .before .if1 .taken)
 
 same-length : tie.Need-same-length
 same-length c = search needs
 
+returns : tie.Need-returns
+returns c =
+    let fits = c .before .before .before .before in
+    fitting→printed (fits .before .refusal-fits .ensures) (fits .if1 .taken) (c .before .before .write-fitting-refusal .ensures)
+
 returns-2 : tie.Need-returns-2
-unfolding refusedText
-returns-2 c =
-    let t = c .before .before .before .before .before .before .before in
-    written→printed (omega (arith, t .if1 .left, t .before .head-length .ensures)) (c .before .before .write-head .ensures)
+returns-2 c = unfitting→printed (c .before .refusal-fits .ensures) (c .if1 .left)
 
 pub write-refusal-spec : {M : Type 1} → statement M
-write-refusal-spec = tie.close (tie.spec head-length-requires returns write-head-requires same-length returns-2)
+write-refusal-spec = tie.close (tie.spec refusal-fits-requires write-fitting-refusal-requires same-length returns returns-2)

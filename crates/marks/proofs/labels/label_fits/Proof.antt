@@ -6,7 +6,7 @@ use native.Mathlib.Omega.{arith}
 use borrow.Author.Tests.{le-leb}
 use lib.Dec.{leb}
 use lib.ListN.{length}
-use Rattle.grammar.specs.Printed.{labelText}
+use Rattle.grammar.specs.Printed.{printedLabel}
 use Rattle.marks.specs.Packed.{wordsOf, countsOf}
 use Rattle.marks.proofs.Tau.{length-label}
 use Rattle.marks.proofs.labels.label_fits.Statement.{statement}
@@ -15,7 +15,7 @@ use Rattle.marks.proofs.labels.label_fits.Tie as tie
 returns : tie.Need-returns
 returns c =
     let a = c .before .args in
-    sym (le-leb (length (labelText (wordsOf (a .names)) (countsOf (a .label)))) (a .room) (omega (arith, length-label (a .names) (a .label))))
+    sym (le-leb (length (printedLabel (wordsOf (a .names)) (countsOf (a .label)))) (a .room) (omega (arith, length-label (a .names) (a .label))))
 
 label-length-requires : tie.Need-label-length-requires
 label-length-requires c κs = tt

@@ -3,7 +3,8 @@
 use mathlib.Core.Path.{refl}
 use native.Mathlib.Omega.{arith}
 use Rattle.meaning.specs.Bytes.{Text}
-use Rattle.grammar.specs.Printed.{partsText, labelText}
+use Rattle.grammar.specs.Marks.{labelText}
+use Rattle.grammar.specs.Printed.{printedLabel}
 use Rattle.marks.specs.Packed.{wordsOf, countsOf}
 use Rattle.marks.proofs.Writing.{copied}
 use Rattle.marks.proofs.Tau.{parts-written, tau-written, parts-within, tau-length}
@@ -12,10 +13,10 @@ use Rattle.marks.proofs.labels.write_fitting_label.Statement.{statement
 use Rattle.marks.proofs.labels.write_fitting_label.Tie as tie
 
 abbrev parts : tie.Start → Text
-parts s = partsText (wordsOf (s .args .names)) (countsOf (s .args .label))
+parts s = labelText (wordsOf (s .args .names)) (countsOf (s .args .label))
 
 write-parts-requires : tie.Need-write-parts-requires
-unfolding labelText
+unfolding printedLabel
 write-parts-requires c κs = omega (arith, parts-within (parts (c .before .before)))
 
 slice-aggregate-copy : tie.Need-slice-aggregate-copy
@@ -26,7 +27,7 @@ abbrev entry : tie.After-write-parts → tie.Start
 entry c = c .before .before .before
 
 copy-requires : tie.Need-copy-requires
-unfolding labelText
+unfolding printedLabel
 copy-requires c κs =
     let s = entry (c .before .before .before .before .before) in
     omega (arith, s .pre, tau-length (parts s) (omega arith))
@@ -35,7 +36,7 @@ same-length : tie.Need-same-length
 same-length c = search needs
 
 returns : tie.Need-returns
-unfolding labelText
+unfolding printedLabel
 returns c =
     let t = c .before .before .before .before .before in
     let p = t .before .before .before in
@@ -46,7 +47,7 @@ same-length-2 : tie.Need-same-length-2
 same-length-2 c = search needs
 
 returns-2 : tie.Need-returns-2
-unfolding labelText
+unfolding printedLabel
 returns-2 c =
     let p = c .before .before .before in
     parts-written (parts (entry p)) (p .write-parts .ensures) (c .if1 .left)

@@ -5,7 +5,7 @@ use mathlib.Core.List.{_∷_}
 use native.Mathlib.Nat.{le-refl}
 use native.Mathlib.Omega.{arith}
 use Rattle.table.specs.Decoded.{nameOf}
-use Rattle.grammar.specs.Printed.{partText}
+use Rattle.grammar.specs.Marks.{partText}
 use Rattle.marks.specs.Steps.{nextText}
 use Rattle.marks.proofs.Writing.{Underway, nothing, start, step-byte, last, room, lent-room, ends-within, same-size}
 use Rattle.marks.proofs.Parts.{next-absent, next-first, next-later}

@@ -1,11 +1,11 @@
 -- `marks::labels::write_part` meets its contract: the name, a colon and the number, one behind the other.
 -- Assumes nothing.
-use mathlib.Core.Path.{sym}
-use mathlib.Core.List.{[], _∷_, append-assoc}
+use mathlib.Core.Path.{refl}
+use mathlib.Core.List.{_∷_}
 use native.Mathlib.Nat.{le-refl}
 use native.Mathlib.Omega.{arith}
 use Rattle.table.specs.Decoded.{nameOf}
-use Rattle.grammar.specs.Printed.{decimal, partText}
+use Rattle.grammar.specs.Marks.{decimal, partText}
 use Rattle.marks.proofs.Writing.{Underway, first, step-byte, last, kept, room, lent-room, ends-within, same-size}
 use Rattle.marks.proofs.Parts.{length-part}
 use Rattle.marks.proofs.labels.write_part.Statement.{statement}
@@ -24,7 +24,7 @@ named : (c : tie.After-slice-known2) →
     Underway (partText (nameOf 8 (a .name)) (a .times)) (58 ∷ decimal (a .times)) (a .text .now) (w .last .0) (w .result)
 named c =
     let a = entry c .args in
-    first (sym (append-assoc (nameOf 8 (a .name)) (58 ∷ []) (decimal (a .times)))) (entry c .pre) (c .before .before .write-name .ensures)
+    first {s = nameOf 8 (a .name)} refl (entry c .pre) (c .before .before .write-name .ensures)
 
 slice-write-text : tie.Need-slice-write-text
 slice-write-text c = omega (arith, room (named c))

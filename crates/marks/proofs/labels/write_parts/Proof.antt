@@ -4,7 +4,7 @@
 use Prim.Native.Nat.{_-_, _≤_}
 use native.Mathlib.Nat.{le-refl}
 use native.Mathlib.Omega.{arith}
-use Rattle.grammar.specs.Printed.{partsText}
+use Rattle.grammar.specs.Marks.{partTexts, labelText}
 use Rattle.marks.specs.Packed.{wordsOf, countsOf}
 use Rattle.marks.proofs.Writing.{Underway, start, kept, room}
 use Rattle.marks.proofs.Parts.{onward, partsFrom, parts-start, parts-room, parts-again, parts-early, parts-end}
@@ -13,13 +13,13 @@ use Rattle.marks.proofs.labels.write_parts.Tie as tie
 
 abbrev Inv-loop : tie.InvT-loop
 Inv-loop text₀ label names rest₀ at₀ i₀ text rest at i =
-    Underway (partsText (wordsOf names) (countsOf label)) (onward at (partsFrom names i rest)) text₀ text at × (i ≤ 12)
+    Underway (labelText (wordsOf names) (countsOf label)) (onward at (partsFrom names i rest)) text₀ text at × (i ≤ 12)
 
 abbrev μ-loop : tie.MeasureT-loop
 μ-loop text₀ label names rest₀ at₀ i₀ text rest at i = 12 - i
 
 loop-holds : tie.Need-loop-holds Inv-loop μ-loop
-loop-holds c = (start (parts-start (partsText (wordsOf (c .before .args .t2)) (countsOf (c .before .args .label)))) (c .before .pre), omega arith)
+loop-holds c = (start (parts-start (partTexts (wordsOf (c .before .args .t2)) (countsOf (c .before .args .label)))) (c .before .pre), omega arith)
 
 same-length : tie.Need-same-length Inv-loop μ-loop
 same-length c = kept (c .before .before .loop .inv .0)

@@ -6,7 +6,7 @@ use native.Mathlib.Omega.{arith}
 use borrow.Author.Tests.{le-leb}
 use lib.Dec.{leb}
 use lib.ListN.{length}
-use Rattle.grammar.specs.Printed.{decimal}
+use Rattle.grammar.specs.Marks.{decimal}
 use Rattle.grammar.proofs.Decimal.{length-decimal}
 use Rattle.marks.proofs.numbers.number_fits.Statement.{statement}
 use Rattle.marks.proofs.numbers.number_fits.Tie as tie

@@ -2,7 +2,7 @@
 -- Assumes nothing.
 use borrow.Author.Needs.{needs}
 use lib.ListN.{length}
-use Rattle.grammar.specs.Printed.{decimal}
+use Rattle.grammar.specs.Marks.{decimal}
 use Rattle.grammar.proofs.Areas.{test-fits, fitting→printed, unfitting→printed}
 use Rattle.marks.proofs.numbers.write_number.Statement.{statement}
 use Rattle.marks.proofs.numbers.write_number.Tie as tie

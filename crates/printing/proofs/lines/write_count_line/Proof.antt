@@ -6,7 +6,8 @@ use native.Mathlib.Nat.{le-refl}
 use native.Mathlib.Omega.{arith}
 use lib.ListN.{length}
 use Rattle.meaning.specs.Bytes.{Text}
-use Rattle.grammar.specs.Printed.{decimal, line}
+use Rattle.grammar.specs.Marks.{decimal}
+use Rattle.grammar.specs.Printed.{line}
 use Rattle.grammar.proofs.Areas.{printed→written}
 use Rattle.marks.proofs.Writing.{Underway, lent, copied, room, next-room}
 use Rattle.printing.proofs.Line.{length-line, keyed, Ended, ended}

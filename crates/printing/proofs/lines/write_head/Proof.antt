@@ -6,7 +6,8 @@ use Prim.Native.Nat.{_+_}
 use native.Mathlib.Nat.{le-refl}
 use native.Mathlib.Omega.{arith}
 use lib.ListN.{length-append}
-use Rattle.grammar.specs.Printed.{decimal, line}
+use Rattle.grammar.specs.Marks.{decimal}
+use Rattle.grammar.specs.Printed.{line}
 use Rattle.printing.specs.Steps.{headText}
 use Rattle.marks.proofs.Writing.{Underway, copied, first, back, step, last, kept, room, next-room, lent-room, ends-within}
 use borrow.Author.Needs.{needs}

@@ -7,7 +7,7 @@ use native.Mathlib.Nat.{le-refl}
 use native.Mathlib.Omega.{arith}
 use lib.ListN.{length}
 use Rattle.meaning.specs.Bytes.{Text, ascii}
-use Rattle.grammar.specs.Printed.{labelText, line}
+use Rattle.grammar.specs.Printed.{printedLabel, line}
 use Rattle.marks.specs.Packed.{wordsOf, countsOf}
 use Rattle.grammar.proofs.Areas.{printed→written}
 use Rattle.marks.proofs.Writing.{Underway, lent, copied, room, next-room}
@@ -16,7 +16,7 @@ use Rattle.printing.proofs.lines.write_label_line.Statement.{statement}
 use Rattle.printing.proofs.lines.write_label_line.Tie as tie
 
 abbrev value : tie.Start → Text
-value s = labelText (wordsOf (s .args .names)) (countsOf (s .args .label))
+value s = printedLabel (wordsOf (s .args .names)) (countsOf (s .args .label))
 
 slice-aggregate-copy : tie.Need-slice-aggregate-copy
 slice-aggregate-copy c = refl
