@@ -18,9 +18,9 @@ use Rattle.meaning.proofs.Bags.{size-without, size-renamed, length-without, len
 use Rattle.labels.specs.Packing.{packed}
 use Rattle.labels.proofs.Sizes.{number-zero}
 use Rattle.sets.proofs.Outcomes.{Offered, none, one, Anything, Result, taken-outcome}
-use Rattle.labels.proofs.Stored.{labelWords, pairWords}
+use Rattle.labels.proofs.Stored.{labelWords, pairWords, pairs-read}
 use Rattle.labels.proofs.Meant.{Packs}
-use Rattle.names.proofs.Refinement.{clear-number, without-number, renamed-number, pairs-read}
+use Rattle.names.proofs.Refinement.{clear-number, without-number, renamed-number}
 use Rattle.sets.specs.declared.Offer.{Offer}
 use Rattle.sets.specs.declared.Offer.the-variants.{Nothing, TooLong, Next}
 use Rattle.ways.specs.declared.Way.{Way}
