@@ -114,8 +114,9 @@ pub renewal-end : (kept j : ℕ) (step : ℕ → List ℕ → Building) {at end 
 unfolding each
 renewal-end kept j step {end = end} {before} {i = i} x h = going-end x (λ s. rw (no-part i end before h, fresh-none (part j kept before)))
 
-module _ (known-to to kept j : ℕ) (step : ℕ → List ℕ → Building) {at end : ℕ} {before now : List ℕ} {goal : Building} {count i : ℕ}
-    (x : Renewal at before kept end step goal now count j i) (known : kept ≡ min (min known-to at) (length before)) (bound : end ≡ min (min to at) (length before)) (l : i < end) where
+module _ (kept j : ℕ) (step : ℕ → List ℕ → Building) {at end : ℕ} {before now : List ℕ} {goal : Building} {count i : ℕ}
+    (x : Renewal at before kept end step goal now count j i) (kept-before : kept ≤ at) (kept-within : kept ≤ length before) (end-before : end ≤ at)
+    (end-within : end ≤ length before) (l : i < end) where
   -- the labels to come, by the words as they are
   to-come : (t : Bool) → standsNext j kept i now ≡ t
       → fresh (part j kept before) (part i end before)
@@ -136,9 +137,9 @@ module _ (known-to to kept j : ℕ) (step : ℕ → List ℕ → Building) {at e
       going-as (λ s. next (step (getD now i 0) s) (each step (fresh (part j kept before) (part (i + 1) end before)))) x (λ s. ap (λ (ws : List ℕ). each step ws s) (to-come false e))
 
 -- A new label gives what it gives: a function adds it as a part of one label.
-module _ (most known-to to kept j : ℕ) (giving : Giving) (list : List ℕ) {at end : ℕ} {before now : List ℕ} {goal : Building} {count i : ℕ}
-    (x : Renewal at before kept end (given (roomAt at most (length before)) at before giving list) goal now count j i) (known : kept ≡ min (min known-to at) (length before))
-    (bound : end ≡ min (min to at) (length before)) (l : i < end) (e : standsNext j kept i now ≡ false) {after : List ℕ} {r : Built}
+module _ (most kept j : ℕ) (giving : Giving) (list : List ℕ) {at end : ℕ} {before now : List ℕ} {goal : Building} {count i : ℕ}
+    (x : Renewal at before kept end (given (roomAt at most (length before)) at before giving list) goal now count j i) (kept-before : kept ≤ at)
+    (kept-within : kept ≤ length before) (end-before : end ≤ at) (end-within : end ≤ length before) (l : i < end) (e : standsNext j kept i now ≡ false) {after : List ℕ} {r : Built}
     (g : Grown (each (given (roomAt at most (length now)) at now giving list) (partBefore at i (i + 1) now)) at count now after r) where
   abbrev step : ℕ → List ℕ → Building
   step = given (roomAt at most (length before)) at before giving list
@@ -157,20 +158,23 @@ module _ (most known-to to kept j : ℕ) (giving : Giving) (list : List ℕ) {at
   pub renewal-holds : (n : ℕ) → r ≡ Holds n → Renewal at before kept end step goal after n j (i + 1)
   renewal-holds n f =
       going-holds most (λ room. given room at before giving list (getD now i 0)) rest (λ room. steady-given room at before giving list (getD now i 0))
-      (renewal-next known-to to kept j step x known bound l e) one-grown n f
+      (renewal-next kept j step x kept-before kept-within end-before end-within l e) one-grown n f
 
   pub renewal-large : r ≡ TooLarge → (TooLarge ≡ answerOf goal) × (after ≡ laid at (goal .set) before)
   renewal-large f =
       going-large most (λ room. given room at before giving list (getD now i 0)) rest (λ room. steady-given room at before giving list (getD now i 0))
-      (renewal-next known-to to kept j step x known bound l e) one-grown f
+      (renewal-next kept j step x kept-before kept-within end-before end-within l e) one-grown f
 
 -- What is built of the new labels, by the parts' own ends.
 module _ (at len : ℕ) (ls : List ℕ) (known-from known-to kept : ℕ) (step : ℕ → List ℕ → Building) (known : kept ≡ min (min known-to at) (length ls)) {after : List ℕ} {r : Built} where
   pub all-new : (ws : List ℕ) → kept ≤ known-from → Grown (each step ws) at len ls after r → Grown (each step (fresh (partBefore at known-from known-to ls) ws)) at len ls after r
   all-new ws h g = rw (part-end at known-from known-to ls, ← known, no-part known-from kept ls h, fresh-all ws) g
 
-  pub some-new : (from to end : ℕ) → end ≡ min (min to at) (length ls)
-      → let goal = each step (fresh (part known-from kept ls) (part from end ls)) (setAt at len ls) in (r ≡ answerOf goal) × (after ≡ laid at (goal .set) ls)
+  pub some-new : (from to end count : ℕ) → end ≡ min (min to at) (length ls) → count ≡ reachOf at len (length ls)
+      → Grown (each step (fresh (part known-from kept ls) (part from end ls))) at count ls after r
       → Grown (each step (fresh (partBefore at known-from known-to ls) (partBefore at from to ls))) at len ls after r
-  some-new from to end e p =
-      rw (part-end at known-from known-to ls, part-end at from to ls, ← known, ← e) (record { answer = p .0; words = p .1 })
+  some-new from to end count e n g =
+      let same : setAt at count ls ≡ setAt at len ls = rw n (setAt-reach at len ls) in
+      let f = each step (fresh (part known-from kept ls) (part from end ls)) in
+      rw (part-end at known-from known-to ls, part-end at from to ls, ← known, ← e)
+      (record { answer = g .answer ∙ ap (λ (s : List ℕ). answerOf (f s)) same; words = g .words ∙ ap (λ (s : List ℕ). laid at (f s .set) ls) same })

@@ -2,10 +2,13 @@
 -- Assumes nothing.
 use mathlib.Core.Bool.{true, false}
 use mathlib.Core.List.{List, [], _∷_}
-use Prim.Native.Nat.{ℕ}
+use Prim.Native.Nat.{ℕ, _-_, _≤_}
 use lib.Dec.{eqb}
+use lib.ListN.{length}
+use Rattle.sets.specs.Parts.{part}
 use Rattle.sets.specs.Building.{Building, row}
 use Rattle.ways.specs.Imaging.{imaged}
+use Rattle.sets.specs.declared.Part.{Part}
 use Rattle.places.specs.declared.Growth.{Growth}
 use Rattle.sets.specs.Parts.{wordsOf}
 use Rattle.growth.specs.declared.Giving.{Giving}
@@ -18,6 +21,18 @@ unfoldable pub fresh : List ℕ → List ℕ → List ℕ
 fresh known [] = []
 fresh [] (w ∷ ws) = w ∷ ws
 fresh (v ∷ known) (w ∷ ws) = elim (eqb v w) [ true ↦ fresh known ws | false ↦ w ∷ fresh (v ∷ known) ws ]
+
+-- the labels of a part that do not stand next in another
+abbrev pub freshIn : (known now : Part) → List ℕ → List ℕ
+freshIn known now ls = fresh (part (known .from) (known .to) ls) (part (now .from) (now .to) ls)
+
+-- two parts that end before a place, and a set there that is no longer than the list
+pub record Ends (known now : Part) (at len : ℕ) (ls : List ℕ) : Type 0 where
+  pub knownBefore : known .to ≤ at
+  pub knownWithin : known .to ≤ length ls
+  pub nowBefore : now .to ≤ at
+  pub nowWithin : now .to ≤ length ls
+  pub set : len ≤ length ls - at
 
 -- the new labels of a set, as far as it stands before a place
 abbrev pub newIn : ℕ → Growth → List ℕ → List ℕ

@@ -17,7 +17,7 @@ ghost use lib.Dec.{ltb, eqb};
 ghost use lib.ListN.{length, getD};
 ghost use Rattle.sets.specs.Parts.{wordsOf, roomAt};
 ghost use Rattle.sets.specs.Building.{Grown, each};
-ghost use Rattle.growth.specs.Fresh.{newIn, given};
+ghost use Rattle.growth.specs.Fresh.{Ends, freshIn, newIn, given};
 
 // What the labels of a part give.
 fn add_part(
@@ -44,30 +44,28 @@ fn stands_next(work: &[u64], next: usize, end: usize, i: usize) -> bool
     next < end && same(read_label(work, next), read_label(work, i))
 }
 
-// What the new labels of a set give.
-pub fn add_new(
+// What each label of a part gives that does not stand next among the known ones. Both parts end before the place.
+fn add_fresh(
     work: &mut [u64],
-    set: Growth,
+    known: Part,
+    part: Part,
     giving: Giving,
     list: &[u64],
     at: usize,
     len: usize,
     most: usize,
 ) -> Built
-    ensures { λ r. ⌜ Grown (each (given (roomAt at most (length (now (work .entry)))) at (now (work .entry)) giving (now (list .entry))) (newIn at set (now (work .entry)))) at len (now (work .entry)) (now (work .exit)) r ⌝ }
+    requires { ⌜ Ends known part at len (now work) ⌝ }
+    ensures { λ r. ⌜ Grown
+        (each (given (roomAt at most (length (now (work .entry)))) at (now (work .entry)) giving (now (list .entry)))
+        (freshIn known part (now (work .entry))))
+        at len (now (work .entry)) (now (work .exit)) r ⌝ }
 {
-    let known = set.known;
-    let part = set.part;
-    let known_end = end_before(work, known.to, at);
-    if known_end <= known.from {
-        return add_part(work, giving, part, list, at, len, most);
-    }
-    let end = end_before(work, part.to, at);
-    let mut count = reach(work, at, len);
+    let mut count = len;
     let mut next = known.from;
     let mut i = part.from;
-    while i < end {
-        if stands_next(work, next, known_end, i) {
+    while i < part.to {
+        if stands_next(work, next, known.to, i) {
             next += 1;
         } else {
             let one = Part { from: i, to: i + 1 };
@@ -80,4 +78,37 @@ pub fn add_new(
         i += 1;
     }
     Built::Holds(count)
+}
+
+// What the new labels of a set give. Where nothing was known all are new.
+pub fn add_new(
+    work: &mut [u64],
+    set: Growth,
+    giving: Giving,
+    list: &[u64],
+    at: usize,
+    len: usize,
+    most: usize,
+) -> Built
+    ensures { λ r. ⌜ Grown
+        (each (given (roomAt at most (length (now (work .entry)))) at (now (work .entry)) giving (now (list .entry)))
+        (newIn at set (now (work .entry))))
+        at len (now (work .entry)) (now (work .exit)) r ⌝ }
+{
+    let known = set.known;
+    let part = set.part;
+    let known_end = end_before(work, known.to, at);
+    if known_end <= known.from {
+        return add_part(work, giving, part, list, at, len, most);
+    }
+    let then = Part {
+        from: known.from,
+        to: known_end,
+    };
+    let now = Part {
+        from: part.from,
+        to: end_before(work, part.to, at),
+    };
+    let count = reach(work, at, len);
+    add_fresh(work, then, now, giving, list, at, count, most)
 }

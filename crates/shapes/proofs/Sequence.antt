@@ -1,6 +1,6 @@
 -- One thing built after another in the same set, from parts that stand before it.
 -- Assumes nothing.
-use mathlib.Core.Path.{_≡_, sym, ap, _∙_}
+use mathlib.Core.Path.{_≡_, refl, sym, ap, _∙_}
 use mathlib.Core.Bool.{Bool, true, false}
 use mathlib.Core.List.{List, []}
 use Prim.Native.Nat.{ℕ, _-_, _≤_}
@@ -11,17 +11,18 @@ use Rattle.sets.specs.declared.Built.the-variants.{TooLarge, Holds}
 use Rattle.ways.specs.declared.Way.{Way}
 use Rattle.ways.specs.declared.Way.the-variants.{Copy}
 use Rattle.sets.specs.Parts.{setAt, laid, part, roomAt}
-use Rattle.sets.specs.Building.{Building, answerOf, next, multiplied, Grown}
+use Rattle.sets.specs.Building.{Building, answerOf, next, each, Grown}
 use Rattle.ways.specs.Imaging.{imaged}
 use Rattle.sets.proofs.Laid.{length-setAt, take-laid}
 use Rattle.sets.proofs.Steps.{Steady, steady-each, steady-next, Going, going-last, grown-as, next-holds, next-large, built-holds}
 use Rattle.ways.proofs.Images.{steady-imaged}
-use Rattle.sets.specs.declared.Part.{Part}
 use Rattle.places.specs.declared.Growth.{Growth}
-use Rattle.growth.specs.Fresh.{fresh}
+use Rattle.growth.specs.declared.Giving.{Giving}
+use Rattle.growth.specs.declared.Giving.the-variants.{Through, Times}
+use Rattle.growth.specs.Fresh.{newIn, given}
 use Rattle.growth.specs.Ways.{throughBuilt}
 use Rattle.shapes.proofs.Makings.{steady-multiplied}
-use Rattle.shapes.specs.Adding.{eitherAdded, jointAdded, addedOf}
+use Rattle.shapes.specs.Adding.{wordsIn, newFrom, givenFrom, eachAdded, eitherAdded, jointAdded, addedOf}
 
 -- The first step is stopped.
 pub first-large : (at len : ℕ) (first rest : List ℕ → Building) (before now : List ℕ) → Grown first at len before now TooLarge
@@ -70,17 +71,17 @@ module _ (at len most : ℕ) (first second : ℕ → List ℕ → List ℕ → B
           omega arith
 
 -- What is added for the new labels of sets, of the words before the place.
-abbrev pub wordsIn : Part → List ℕ → List ℕ
-wordsIn p ls = part (p .from) (p .to) ls
+abbrev pub addBy : Growth → Giving → ℕ → List ℕ → List ℕ → Building
+addBy a g m ls = each (givenFrom m ls g) (newFrom a ls)
 
-abbrev pub newFrom : Growth → List ℕ → List ℕ
-newFrom g ls = fresh (wordsIn (g .known) ls) (wordsIn (g .part) ls)
+given-from : (room at : ℕ) (ls : List ℕ) (g : Giving) → given room at ls g [] ≡ givenFrom room (take at ls) g
+given-from room at ls (Through way) = refl
+given-from room at ls (Times by) = refl
 
-abbrev pub addCopies : Growth → ℕ → List ℕ → List ℕ → Building
-addCopies a m ls = throughBuilt m Copy [] (newFrom a ls)
-
-abbrev pub addSums : Growth → Part → ℕ → List ℕ → List ℕ → Building
-addSums a b m ls = multiplied m (newFrom a ls) (wordsIn b ls)
+-- what a function adds, in these words
+pub added-by : (room at len : ℕ) (a : Growth) (g : Giving) (work : List ℕ) {after : List ℕ} {r : Built}
+    → Grown (each (given room at work g []) (newIn at a work)) at len work after r → Grown (addBy a g room (take at work)) at len work after r
+added-by room at len a g work x = grown-as (λ s. ap (λ (f : ℕ → List ℕ → Building). each f (newFrom a (take at work)) s) (given-from room at work g)) x
 
 abbrev pub addEither : Growth → Growth → ℕ → List ℕ → List ℕ → Building
 addEither a b m ls = eitherAdded m (newFrom a ls) (newFrom b ls)
@@ -94,17 +95,18 @@ addTwo sums a b m ls = addedOf sums m (newFrom a ls) (wordsIn (a .part) ls) (new
 pub steady-way : (a : Growth) (way : Way) (list : List ℕ) (m : ℕ) (ls : List ℕ) → Steady m (throughBuilt m way list (newFrom a ls))
 steady-way a way list m ls = steady-each m (imaged m way list) (newFrom a ls) (steady-imaged m way list)
 
-pub steady-copies : (a : Growth) (m : ℕ) (ls : List ℕ) → Steady m (addCopies a m ls)
-steady-copies a m ls = steady-way a Copy [] m ls
+pub steady-by : (a : Growth) (g : Giving) (m : ℕ) (ls : List ℕ) → Steady m (addBy a g m ls)
+steady-by a (Through way) m ls = steady-way a way [] m ls
+steady-by a (Times by) m ls = steady-multiplied m (newFrom a ls) (wordsIn by ls)
 
-pub steady-sums : (a : Growth) (b : Part) (m : ℕ) (ls : List ℕ) → Steady m (addSums a b m ls)
-steady-sums a b m ls = steady-multiplied m (newFrom a ls) (wordsIn b ls)
+steady-pair : (a b : Growth) (g h : Giving) (m : ℕ) (ls : List ℕ) → Steady m (eachAdded m ls a g b h)
+steady-pair a b g h m ls = steady-next m (addBy a g m ls) (addBy b h m ls) (steady-by a g m ls) (steady-by b h m ls)
 
 pub steady-either : (a b : Growth) (m : ℕ) (ls : List ℕ) → Steady m (addEither a b m ls)
-steady-either a b m ls = steady-next m (addCopies a m ls) (addCopies b m ls) (steady-copies a m ls) (steady-copies b m ls)
+steady-either a b m ls = steady-pair a b (Through Copy) (Through Copy) m ls
 
 pub steady-joint : (a b : Growth) (m : ℕ) (ls : List ℕ) → Steady m (addJoint a b m ls)
-steady-joint a b m ls = steady-next m (addSums a (b .part) m ls) (addSums b (a .part) m ls) (steady-sums a (b .part) m ls) (steady-sums b (a .part) m ls)
+steady-joint a b m ls = steady-pair a b (Times (b .part)) (Times (a .part)) m ls
 
 pub steady-two : (sums : Bool) (a b : Growth) (m : ℕ) (ls : List ℕ) → Steady m (addTwo sums a b m ls)
 steady-two true a b m ls = steady-next m (addEither a b m ls) (addJoint a b m ls) (steady-either a b m ls) (steady-joint a b m ls)

@@ -4,9 +4,31 @@ use mathlib.Core.Bool.{Bool, true, false}
 use mathlib.Core.List.{List, []}
 use Prim.Native.Nat.{ℕ}
 use Rattle.ways.specs.declared.Way.the-variants.{Copy}
-use Rattle.sets.specs.Building.{Building, next, multiplied}
+use Rattle.sets.specs.Parts.{part}
+use Rattle.sets.specs.Building.{Building, next, each, row, multiplied}
+use Rattle.ways.specs.Imaging.{imaged}
+use Rattle.sets.specs.declared.Part.{Part}
+use Rattle.places.specs.declared.Growth.{Growth}
+use Rattle.growth.specs.declared.Giving.{Giving}
+use Rattle.growth.specs.declared.Giving.the-variants.{Through, Times}
+use Rattle.growth.specs.Fresh.{fresh}
 use Rattle.growth.specs.Ways.{throughBuilt}
 use Rattle.shapes.specs.Making.{eitherBuilt, bothBuilt}
+
+-- What is new in a set, and what a label of it gives, of the words before the place where the set is built.
+abbrev pub wordsIn : Part → List ℕ → List ℕ
+wordsIn p ls = part (p .from) (p .to) ls
+
+abbrev pub newFrom : Growth → List ℕ → List ℕ
+newFrom g ls = fresh (wordsIn (g .known) ls) (wordsIn (g .part) ls)
+
+abbrev pub givenFrom : ℕ → List ℕ → Giving → ℕ → List ℕ → Building
+givenFrom room ls (Through way) = imaged room way []
+givenFrom room ls (Times by) = row room (wordsIn by ls)
+
+-- what the new labels of one set give, and then those of another
+abbrev pub eachAdded : ℕ → List ℕ → Growth → Giving → Growth → Giving → List ℕ → Building
+eachAdded room ls a byA b byB s = next (each (givenFrom room ls byA) (newFrom a ls) s) (each (givenFrom room ls byB) (newFrom b ls))
 
 -- What is added to a set for the new labels of two others: those labels; every sum with one of them.
 abbrev pub eitherAdded : ℕ → (newA newB : List ℕ) → List ℕ → Building

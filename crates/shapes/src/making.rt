@@ -9,9 +9,10 @@ use sets::joining::union;
 use sets::multiplying::add_product;
 ghost use lib.ListN.{length};
 ghost use Rattle.labels.specs.Packing.{held, code};
-ghost use Rattle.sets.specs.Parts.{wordsOf, roomAt};
+ghost use Rattle.sets.specs.Parts.{roomAt};
 ghost use Rattle.sets.specs.Building.{Grown};
-ghost use Rattle.shapes.specs.Making.{leafBuilt, bothBuilt};
+ghost use Rattle.sets.specs.Parts.{wordsOf};
+ghost use Rattle.shapes.specs.Making.{leafBuilt};
 ghost use Rattle.shapes.specs.Adding.{wholeOf};
 
 // One label.
@@ -26,24 +27,18 @@ pub fn leaf(work: &mut [u64], label: Label, at: usize, most: usize) -> Built
     }
 }
 
-// Both of two parts, and their product.
-fn both(work: &mut [u64], part: Part, by: Part, at: usize, most: usize) -> Built
-    ensures { λ r. ⌜ Grown (bothBuilt (roomAt at most (length (held (now (work .entry))))) (wordsOf at part (held (now (work .entry)))) (wordsOf at by (held (now (work .entry))))) at 0 (held (now (work .entry))) (held (now (work .exit))) r ⌝ }
+// Two sets in one, with every sum of their labels if those are asked for.
+pub fn whole(work: &mut [u64], a: Part, b: Part, sums: bool, at: usize, most: usize) -> Built
+    ensures { λ r. ⌜ Grown
+        (wholeOf sums (roomAt at most (length (now (work .entry)))) (wordsOf at a (now (work .entry))) (wordsOf at b (now (work .entry))))
+        at 0 (now (work .entry)) (now (work .exit)) r ⌝ }
 {
-    let first = union(work, part, by, at, most);
+    let first = union(work, a, b, at, most);
+    if !sums {
+        return first;
+    }
     let Built::Holds(n) = first else {
         return Built::TooLarge;
     };
-    add_product(work, part, by, Target { at, len: n, most })
-}
-
-// Two sets in one, with every sum of their labels if those are asked for.
-pub fn whole(work: &mut [u64], a: Part, b: Part, sums: bool, at: usize, most: usize) -> Built
-    ensures { λ r. ⌜ Grown (wholeOf sums (roomAt at most (length (now (work .entry)))) (wordsOf at a (now (work .entry))) (wordsOf at b (now (work .entry)))) at 0 (now (work .entry)) (now (work .exit)) r ⌝ }
-{
-    if sums {
-        both(work, a, b, at, most)
-    } else {
-        union(work, a, b, at, most)
-    }
+    add_product(work, a, b, Target { at, len: n, most })
 }

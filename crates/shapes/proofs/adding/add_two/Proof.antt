@@ -1,28 +1,54 @@
--- `shapes::adding::add_two` meets its contract.
+-- `shapes::adding::add_two` meets its contract: the labels, and then the sums.
 -- Assumes nothing.
+use borrow.Author.Tests.{not-true, not-false}
+use lib.ListN.{length, take}
+use Rattle.sets.specs.Parts.{roomAt}
+use Rattle.shapes.proofs.Sequence.{first-large, pair-last, addEither, addJoint, steady-either, steady-joint}
 use borrow.Author.Needs.{needs}
 use Rattle.shapes.proofs.adding.add_two.Statement.{statement}
 use Rattle.shapes.proofs.adding.add_two.Tie as tie
 
-add-both-requires : tie.Need-add-both-requires
-add-both-requires c κs = search needs
-
-add-either-requires : tie.Need-add-either-requires
-add-either-requires c κs = search needs
+add-each-requires : tie.Need-add-each-requires
+add-each-requires c κs = tt
 
 same-length : tie.Need-same-length
 same-length c = search needs
 
 returns : tie.Need-returns
-returns c = rw (c .before .before .before .before .if1 .taken) (c .before .before .add-both .ensures)
+returns c = rw (not-true (c .before .before .before .before .before .before .args .sums) (c .if1 .taken)) (c .before .before .before .add-each .ensures)
+
+enum-known-labels : tie.Need-enum-known-labels
+enum-known-labels c = search needs
+
+enum-told : tie.Need-enum-told
+enum-told c = search needs
 
 same-length-2 : tie.Need-same-length-2
 same-length-2 c = search needs
 
 returns-2 : tie.Need-returns-2
-returns-2 c = rw (c .before .before .before .before .if1 .left) (c .before .before .add-either .ensures)
+returns-2 c =
+    let a = c .before .before .before .before .before .before .before .before .args in
+    let room = roomAt (a .at) (a .most) (length (a .work .now)) in
+    rw (not-false (a .sums) (c .before .before .if1 .left))
+    (first-large (a .at) (a .len) (addEither (a .a) (a .b) room (take (a .at) (a .work .now))) _ (a .work .now) _
+    (rw (c .enum-told .given .1) at (c .before .before .before .before .before .add-each .ensures)))
+
+add-each-requires-2 : tie.Need-add-each-requires-2
+add-each-requires-2 c κs = tt
+
+same-length-3 : tie.Need-same-length-3
+same-length-3 c = search needs
+
+returns-3 : tie.Need-returns-3
+returns-3 c =
+    let a = c .before .before .before .before .before .before .before .before .before .before .before .before .before .before .before .args in
+    rw (not-false (a .sums) (c .before .before .before .before .before .before .before .before .before .if1 .left))
+    (pair-last (a .at) (a .len) (a .most) (addEither (a .a) (a .b)) (addJoint (a .a) (a .b)) (a .work .now) _ (steady-either (a .a) (a .b)) (steady-joint (a .a) (a .b)) _ _ _
+    (rw (c .before .before .before .before .before .before .before .labels .given .1) at (c .before .before .before .before .before .before .before .before .before .before .before .before .add-each .ensures)) (c .before .before .add-each2 .ensures))
 
 pub add-two-spec : {M : Type 1} → statement M
 add-two-spec =
     tie.close
-    (tie.spec add-both-requires add-either-requires same-length returns same-length-2 returns-2)
+    (tie.spec add-each-requires same-length returns enum-known-labels enum-told same-length-2 returns-2 add-each-requires-2 same-length-3
+    returns-3)

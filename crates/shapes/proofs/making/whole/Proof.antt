@@ -1,27 +1,50 @@
--- `shapes::making::whole` meets its contract.
+-- `shapes::making::whole` meets its contract: a union, and the product after it.
 -- Assumes nothing.
+use borrow.Author.Tests.{not-true, not-false}
+use Rattle.shapes.proofs.Makings.{both-large, both-last}
 use borrow.Author.Needs.{needs}
 use Rattle.shapes.proofs.making.whole.Statement.{statement}
 use Rattle.shapes.proofs.making.whole.Tie as tie
 
-both-requires : tie.Need-both-requires
-both-requires c κs = search needs
-
 union-requires : tie.Need-union-requires
-union-requires c κs = search needs
+union-requires c κs = tt
 
 same-length : tie.Need-same-length
 same-length c = search needs
 
 returns : tie.Need-returns
-returns c = rw (c .before .before .before .before .if1 .taken) (c .before .before .both .ensures)
+returns c = rw (not-true (c .before .before .before .before .before .before .args .sums) (c .if1 .taken)) (c .before .before .before .union .ensures)
+
+enum-known-first : tie.Need-enum-known-first
+enum-known-first c = search needs
+
+enum-told : tie.Need-enum-told
+enum-told c = search needs
 
 same-length-2 : tie.Need-same-length-2
 same-length-2 c = search needs
 
 returns-2 : tie.Need-returns-2
-returns-2 c = rw (c .before .before .before .before .if1 .left) (c .before .before .union .ensures)
+returns-2 c =
+    let a = c .before .before .before .before .before .before .before .before .args in
+    rw (not-false (a .sums) (c .before .before .if1 .left))
+    (both-large (a .at) (a .most) (a .a .from) (a .a .to) (a .b .from) (a .b .to) (a .work .now) _ (rw (c .enum-told .given .1) at (c .before .before .before .before .before .union .ensures)))
+
+add-product-requires : tie.Need-add-product-requires
+add-product-requires c κs = tt
+
+same-length-3 : tie.Need-same-length-3
+same-length-3 c = search needs
+
+returns-3 : tie.Need-returns-3
+returns-3 c =
+    let a = c .before .before .before .before .before .before .before .before .before .before .before .before .before .args in
+    rw (not-false (a .sums) (c .before .before .before .before .before .before .before .if1 .left))
+    (both-last (a .at) (a .most) (a .a .from) (a .a .to) (a .b .from) (a .b .to) (a .work .now) _ (c .before .before .before .before .before .first .given .0 .0) _ _
+    (rw (c .before .before .before .before .before .first .given .1) at (c .before .before .before .before .before .before .before .before .before .before .union .ensures)) (c .before .before .add-product .ensures))
 
 pub whole-spec : {M : Type 1} → statement M
 whole-spec =
-    tie.close (tie.spec both-requires union-requires same-length returns same-length-2 returns-2)
+    tie.close
+    (tie.spec union-requires same-length returns enum-known-first enum-told same-length-2 returns-2 add-product-requires same-length-3
+    returns-3)

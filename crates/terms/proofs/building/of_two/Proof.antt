@@ -8,8 +8,8 @@ use Rattle.sets.specs.Parts.{roomAt}
 use Rattle.places.specs.declared.Growth.{Growth}
 use Rattle.places.specs.Starts.{half, partOf, partIn}
 use Rattle.places.specs.Laying.{copyBuilt}
-use Rattle.shapes.specs.Adding.{wholeOf}
-use Rattle.shapes.proofs.Sequence.{first-large, wordsIn, addTwo, steady-two}
+use Rattle.shapes.specs.Adding.{wholeOf, wordsIn}
+use Rattle.shapes.proofs.Sequence.{first-large, addTwo, steady-two}
 use Rattle.terms.proofs.Onto.{whole-last, more-last}
 use borrow.Author.Needs.{needs}
 use Rattle.terms.proofs.building.of_two.Statement.{statement}

@@ -8,7 +8,8 @@ use Rattle.growth.specs.Ways.{throughBuilt, wayFor, wordsFor}
 use Rattle.places.specs.declared.Growth.{Growth}
 use Rattle.places.specs.Starts.{half, partOf, partIn}
 use Rattle.places.specs.Laying.{copyBuilt}
-use Rattle.shapes.proofs.Sequence.{first-large, newFrom, steady-way}
+use Rattle.shapes.proofs.Sequence.{first-large, steady-way}
+use Rattle.shapes.specs.Adding.{newFrom}
 use Rattle.terms.proofs.Onto.{copy-last}
 use borrow.Author.Needs.{needs}
 use Rattle.terms.proofs.building.of_wrap.Statement.{statement}

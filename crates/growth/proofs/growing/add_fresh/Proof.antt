@@ -1,0 +1,95 @@
+-- `growth::growing::add_fresh` meets its contract. The loop's invariant: what the new labels from the i-th on give is to come, beside
+-- the known ones from the next on; the measure is how many labels are left. Assumes nothing.
+use mathlib.Core.Path.{sym, _∙_}
+use mathlib.Core.Logic.{⊎-elim}
+use Prim.Native.Nat.{_-_}
+use native.Mathlib.Omega.{arith}
+use borrow.Author.Needs.{needs}
+use lib.ListN.{length}
+use Rattle.sets.specs.Parts.{setAt, roomAt}
+use Rattle.sets.specs.Building.{each}
+use Rattle.sets.proofs.Steps.{going-length}
+use Rattle.growth.specs.Fresh.{freshIn, given}
+use Rattle.growth.proofs.Renewing.{Renewal, renewal-start, renewal-less, renewal-end, renewal-passes, renewal-holds, renewal-large, stands-below}
+use Rattle.growth.proofs.growing.add_fresh.Statement.{statement}
+use Rattle.growth.proofs.growing.add_fresh.Tie as tie
+
+abbrev Inv-loop : tie.InvT-loop
+Inv-loop work₀ known part giving list at len most count₀ next₀ i₀ work count next i =
+    let step = given (roomAt at most (length work₀)) at work₀ giving list in
+    Renewal at work₀ (known .to) (part .to) step (each step (freshIn known part work₀) (setAt at len work₀)) work count next i
+
+abbrev μ-loop : tie.MeasureT-loop
+μ-loop work₀ known part giving list at len most count₀ next₀ i₀ work count next i = part .to - i
+
+loop-holds : tie.Need-loop-holds Inv-loop μ-loop
+loop-holds c = let a = c .before .before .args in renewal-start (a .at) (a .work .now) (a .len) (a .len) _ (omega (arith, c .before .before .pre .set))
+
+stands-next-requires : tie.Need-stands-next-requires Inv-loop μ-loop
+stands-next-requires c κs = tt
+
+add-next : tie.Need-add-next Inv-loop μ-loop
+add-next c =
+    let a = c .before .before .before .before .before .before .before .before .args in
+    let so-far = c .before .before .before .before .before .loop in
+    omega (arith, c .before .before .before .before .before .before .before .before .pre .knownWithin, stands-below (so-far .next) (a .known .to) (so-far .i) (so-far .work) (sym (c .before .stands-next .ensures) ∙ c .if2 .taken))
+
+add-t19 : tie.Need-add-t19 Inv-loop μ-loop
+add-t19 c = omega (arith, c .before .before .before .before .before .before .before .before .pre .nowWithin, c .before .before .before .if1 .taken)
+
+add-part-requires : tie.Need-add-part-requires Inv-loop μ-loop
+add-part-requires c κs = tt
+
+enum-known-step : tie.Need-enum-known-step Inv-loop μ-loop
+enum-known-step c = search needs
+
+enum-told : tie.Need-enum-told Inv-loop μ-loop
+enum-told c = search needs
+
+same-length : tie.Need-same-length Inv-loop μ-loop
+same-length c = c .before .before .before .before .add-part .kept .0 ∙ going-length (c .before .before .before .before .before .before .before .before .before .before .before .loop .inv) .0
+
+returns : tie.Need-returns Inv-loop μ-loop
+returns c =
+    let a = c .before .before .before .before .before .before .before .before .before .before .before .before .before .before .args in
+    let h = c .before .before .before .before .before .before .before .before .before .before .before .before .before .before .pre in
+    let so-far = c .before .before .before .before .before .before .before .before .before .before .before .loop in
+    let p = renewal-large (a .most) (a .known .to) (so-far .next) (a .giving) (a .list .now) (so-far .inv) (h .knownBefore) (h .knownWithin) (h .nowBefore) (h .nowWithin) (c .before .before .before .before .before .before .before .before .before .if1 .taken)
+    (sym (c .before .before .before .before .before .before .before .stands-next .ensures) ∙ c .before .before .before .before .before .before .if2 .left) (c .before .before .before .before .add-part .ensures) (c .enum-told .given .1) in
+    record { answer = p .0; words = p .1 }
+
+add-i : tie.Need-add-i Inv-loop μ-loop
+add-i c = omega (arith, c .before .before .before .before .before .before .before .before .pre .nowWithin, c .before .before .before .if1 .taken)
+
+loop-less : tie.Need-loop-less Inv-loop μ-loop
+loop-less c = renewal-less (c .before .before .before .if1 .taken)
+
+loop-again : tie.Need-loop-again Inv-loop μ-loop
+loop-again c =
+    let a = c .before .before .before .before .before .before .before .before .args in
+    let h = c .before .before .before .before .before .before .before .before .pre in
+    let so-far = c .before .before .before .before .before .loop in
+    let more = c .before .before .before .if1 .taken in
+    let test = c .before .stands-next .ensures in
+    ⊎-elim
+    (λ w. rw (w .1, w .2, w .3) (renewal-passes (a .known .to) (so-far .next) (given (roomAt (a .at) (a .most) (length (a .work .now))) (a .at) (a .work .now) (a .giving) (a .list .now)) (so-far .inv) (h .knownBefore) (h .knownWithin) (h .nowBefore) (h .nowWithin) more (sym test ∙ w .0 .taken)))
+    (λ w. rw (w .8, w .9, w .10)
+    (renewal-holds (a .most) (a .known .to) (so-far .next) (a .giving) (a .list .now) (so-far .inv) (h .knownBefore) (h .knownWithin) (h .nowBefore) (h .nowWithin) more (sym test ∙ w .0 .left)
+    (w .2 .ensures) (w .6 .given .0 .0) (w .6 .given .1)))
+    (c .if2 .came)
+
+same-length-2 : tie.Need-same-length-2 Inv-loop μ-loop
+same-length-2 c = going-length (c .before .before .loop .inv) .0
+
+returns-2 : tie.Need-returns-2 Inv-loop μ-loop
+returns-2 c =
+    let a = c .before .before .before .before .before .args in
+    let so-far = c .before .before .loop in
+    let p = renewal-end (a .known .to) (so-far .next) (given (roomAt (a .at) (a .most) (length (a .work .now))) (a .at) (a .work .now) (a .giving) (a .list .now)) (so-far .inv) (c .if1 .left) in
+    record { answer = p .0; words = p .1 }
+
+pub add-fresh-spec : {M : Type 1} → statement M
+add-fresh-spec =
+    tie.close
+    (tie.spec Inv-loop μ-loop loop-holds stands-next-requires add-next add-t19 add-part-requires enum-known-step enum-told same-length returns
+    add-i loop-less loop-again same-length-2 returns-2)
