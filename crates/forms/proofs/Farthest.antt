@@ -16,8 +16,7 @@ use Rattle.forms.specs.Terms.{LineRead}
 use Rattle.forms.specs.Kinds.{fartherFrom, fartherStep}
 use Rattle.forms.specs.declared.TermStep.{TermStep}
 use Rattle.forms.specs.declared.TermStep.the-variants as T
-use Rattle.forms.specs.declared.Step.the-variants.{To, Stuck}
-use Rattle.forms.proofs.Steps.{textIn, IsStuck}
+use Rattle.words.proofs.Steps.{textIn, IsStuck}
 
 -- Places joined: the farther one stays.
 module _ (line : Text) where

@@ -21,22 +21,8 @@ use Rattle.forms.specs.Terms.{madeOf, WrapKind, Allow, contents, listed}
 use Rattle.forms.specs.Kinds.{restOf, noKind, fartherFrom, wrapOf, kindPlace, KindFound, KindRead}
 use Rattle.forms.specs.declared.kinds.KindStep.{KindStep}
 use Rattle.forms.specs.declared.kinds.KindStep.the-variants as K
-use Rattle.forms.specs.Places.{Stands, Steps}
-use Rattle.forms.specs.declared.Step.{Step}
-use Rattle.forms.specs.declared.Step.the-variants.{To, Stuck}
-use Rattle.forms.proofs.Steps.{went, stays}
+use Rattle.words.specs.Steps.{Stands}
 use Rattle.forms.proofs.Farthest.{join-stuck, join-more}
-
--- A packed word, byte by byte.
-pub packed-split : (left k : ℕ) → 0 < left → left < 256 ^ k → (m : ℕ) × (left / 256 < 256 ^ m) × (nameOf k left ≡ left % 256 ∷ nameOf m (left / 256))
-unfolding nameOf
-packed-split left zero some h = let j : left < 1 = h in absurd (omega arith)
-packed-split left (suc k) some h = (k, div-lt-iff-lt-mul (lit< tt) .1 (rw (pow-suc 256 k) at h), rw (ne-eqb left 0 (λ z. omega (arith, z)), nameOf))
-
-pub packed-all : {left : ℕ} (k : ℕ) → left ≡ 0 → nameOf k left ≡ []
-unfolding nameOf
-packed-all zero e = refl
-packed-all (suc k) e = rw e
 
 -- every other place is that of allow
 pub wrap-rest : {A : Type 0} (f : WrapKind → A) (k : ℕ) → (((Unit {0} × (k ≡ 12 → ⊥)) × (k ≡ 13 → ⊥)) × (k ≡ 14 → ⊥)) × (k ≡ 15 → ⊥) → f Allow ≡ f (wrapOf k)
@@ -132,10 +118,10 @@ pub sought-none : (line : Text) (at : ℕ) → Sought line at 0 0
 sought-none line at = record { few = omega arith; inside = omega arith; reached = λ h. absurd (not-suc-le-zero h); so-far = refl }
 
 module _ (line : Text) (at far k : ℕ) (s : Sought line at far k) where
-  module _ {r : Step} (h : k < 17) (w : Steps (λ v next. tt) line at r (literal (nameOf 8 (getD packedKinds k 0)) (drop at line))) where
-    pub sought-found : {v next : ℕ} → r ≡ To v next → KindFound line (ofKind kinds (drop at line)) k next far
-    sought-found e =
-        let g = went w e in
+  module _ (h : k < 17) where
+    pub sought-found : {next : ℕ} → Stands line next (past tt (drop next line)) (literal (nameOf 8 (getD packedKinds k 0)) (drop at line))
+        → KindFound line (ofKind kinds (drop at line)) k next far
+    sought-found g =
         record {
           says =
               ap (fartherFrom far line) (kind-past kinds k (drop at line) (rw kind-count h) (g .says ∙ ap (λ t. literal t (drop at line)) (kind-word k h)))
@@ -145,16 +131,16 @@ module _ (line : Text) (at far k : ℕ) (s : Sought line at far k) where
           reached = s .inside;
         }
 
-    pub sought-more : {p q : ℕ} → 1 ≤ at → r ≡ Stuck p → q ≡ max far p → Sought line at q (k + 1)
-    sought-more {p} i e f =
-        let g : Stands line at p (stuck (drop p line)) (literal (nameOf 8 (getD packedKinds k 0)) (drop at line)) = stays w e in
+    pub sought-more : {p q : ℕ} → 1 ≤ at → at ≤ p → Stands line p (stuck (drop p line)) (literal (nameOf 8 (getD packedKinds k 0)) (drop at line)) → q ≡ max far p
+        → Sought line at q (k + 1)
+    sought-more {p} i j g f =
         rw f
         (record {
           few = omega arith;
           inside = omega (arith, s .inside, g .within);
-          reached = λ _. omega (arith, g .after);
+          reached = λ _. omega arith;
           so-far =
-              join-more line far p (s .inside) (g .within) (omega (arith, g .after)) (ofKind (drop (k + 1) kinds) (drop at line))
+              join-more line far p (s .inside) (g .within) (omega arith) (ofKind (drop (k + 1) kinds) (drop at line))
               ∙ ap (fartherFrom far line) (kind-stuck kinds k (drop at line) (rw kind-count h) (g .says ∙ ap (λ t. literal t (drop at line)) (kind-word k h)))
               ∙ s .so-far;
         })

@@ -14,20 +14,18 @@ use Rattle.forms.specs.declared.TermStep.{TermStep}
 use Rattle.forms.specs.Terms.{PlainRead, LineTerm, LineRead}
 use Rattle.grammar.specs.Faults.{wordsOfFault}
 use Rattle.faults.specs.CodedFaults.{foundOf}
-use Rattle.forms.specs.Places.{saidOf, Says}
-use Rattle.forms.specs.Entries.{seen, nameEntry}
-use Rattle.forms.specs.Lists.{over}
+use Rattle.words.specs.Steps.{Stands}
+use Rattle.lists.specs.Entries.{saidOf, seen, nameEntry}
+use Rattle.lists.specs.Lists.{over}
 use Rattle.forms.specs.declared.TermStep.the-variants as T
-use Rattle.forms.specs.declared.labels.Said as C
-use Rattle.forms.specs.declared.labels.SaidStep.{SaidStep}
-use Rattle.forms.specs.declared.labels.SaidStep.the-variants as S
+use Rattle.lists.specs.declared.Said as C
 use Rattle.table.specs.declared.Term.{Term}
 use Rattle.table.specs.declared.Term.the-variants.{Delta, Tau, Act, Ref, Sum, Cond, Choice, IfElse, Seq, Merge, LMerge, Sync, Wrap}
 use Rattle.table.specs.Terms.{IsPlain, bareTerm}
 use Rattle.table.specs.Encoded.{termWords, termFor}
 use Rattle.table.specs.Packed.{either, plainOf}
-use Rattle.forms.proofs.Rests.{rest-cons, literal-other, literal-more}
-use Rattle.forms.proofs.Steps.{regrouped, said-went, said-stays, back-stuck, back-past}
+use Rattle.words.proofs.Rests.{rest-cons, literal-other, literal-more}
+use Rattle.words.proofs.Steps.{onward-assoc, back-stuck, back-past}
 
 pub ended-none : (line : Text) (at : ℕ) → length line ≤ at → past tt [] ≡ ended (drop at line)
 unfolding ended
@@ -56,11 +54,11 @@ alone-with t q = onward (ended q) (λ _ p. past (plain t) p)
 
 pub one-seen : (make : ℕ → D.Term) (s : Text) → onward (operand s) (λ t q. alone-with (make t) q) ≡ ofOne make s
 unfolding ofOne
-one-seen make s = regrouped (literal (space ∷ []) s) (λ _ q. number q) (λ t q. alone-with (make t) q)
+one-seen make s = onward-assoc (literal (space ∷ []) s) (λ _ q. number q) (λ t q. alone-with (make t) q)
 
 pub two-seen : (make : ℕ → ℕ → D.Term) (s : Text) → onward (operand s) (λ t q. ofOne (make t) q) ≡ ofTwo make s
 unfolding ofTwo
-two-seen make s = regrouped (literal (space ∷ []) s) (λ _ q. number q) (λ t q. ofOne (make t) q)
+two-seen make s = onward-assoc (literal (space ∷ []) s) (λ _ q. number q) (λ t q. ofOne (make t) q)
 
 pub plain-become : (line : Text) {due other : Past Line} (r : TermStep) → due ≡ other → PlainRead line due r → PlainRead line other r
 plain-become line r e h = subst (λ d. PlainRead line d r) e h
@@ -103,18 +101,17 @@ module _ (words : List Text) (line : Text) (at : ℕ) where
   unfolding ofName
   act-no-space f = ap (λ d. onward d (λ _ r. onward (word r) (λ w q. onward (ended q) (λ _ p. past (acts w) p)))) (literal-other space [] (drop at line) f)
 
-  module _ (f : starts space (drop at line) ≡ true) {r : SaidStep} (h : Says line (at + 1) r (seen (nameEntry words) word (drop (at + 1) line))) where
+  module _ (f : starts space (drop at line) ≡ true) where
     beyond : {x : Past Line} → x ≡ onward (word (drop (at + 1) line)) (λ w q. onward (ended q) (λ _ p. past (acts w) p)) → x ≡ ofName (drop at line)
     unfolding ofName literal
     beyond e = e ∙ ap (λ d. onward d (λ _ r. onward (word r) (λ w q. onward (ended q) (λ _ p. past (acts w) p)))) (literal-more space [] line at f)
 
-    pub act-no-name : {p : ℕ} → r ≡ S.Stuck p → stuck (drop p line) ≡ ofName (drop at line)
-    act-no-name e =
-        beyond (ap (λ d. onward d (λ w q. onward (ended q) (λ _ p. past (acts w) p))) (back-stuck (nameEntry words) (word (drop (at + 1) line)) (said-stays h e .says)))
+    pub act-no-name : {t : Text} {p : ℕ} → Stands line p (stuck t) (seen (nameEntry words) word (drop (at + 1) line)) → stuck t ≡ ofName (drop at line)
+    act-no-name s = beyond (ap (λ d. onward d (λ w q. onward (ended q) (λ _ p. past (acts w) p))) (back-stuck (nameEntry words) (word (drop (at + 1) line)) (s .says)))
 
-    module _ {e : C.Said} {next : ℕ} (g : r ≡ S.To e next) where
+    module _ (e : C.Said) {next : ℕ} (s : Stands line next (past (saidOf e) (drop next line)) (seen (nameEntry words) word (drop (at + 1) line))) where
       name : (w : Text) × (past w (drop next line) ≡ word (drop (at + 1) line)) × (saidOf e ≡ nameEntry words w)
-      name = back-past (nameEntry words) (word (drop (at + 1) line)) (said-went h g .says)
+      name = back-past (nameEntry words) (word (drop (at + 1) line)) (s .says)
 
       ends : {x : Past (Unit {0})} → x ≡ ended (drop next line) → onward x (λ _ p. past (acts (name .0)) p) ≡ ofName (drop at line)
       ends k = beyond (ap (λ d. onward d (λ _ p. past (acts (name .0)) p)) k ∙ ap (λ d. onward d (λ w q. onward (ended q) (λ _ p. past (acts w) p))) (name .1))

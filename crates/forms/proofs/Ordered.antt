@@ -3,24 +3,23 @@
 use mathlib.Core.Path.{_≡_, refl, sym, ap, subst, _∙_}
 use mathlib.Core.Bool.{Bool, true, false}
 use mathlib.Core.List.{List, []}
-use Prim.Native.Nat.{ℕ, _≤_, _<_}
+use Prim.Native.Nat.{ℕ, _+_, _≤_, _<_}
 use lib.ListN.{length, drop, length-map}
 use Rattle.meaning.specs.Bytes.{Text, ascii}
 use Rattle.table.specs.declared.Order.the-variants.{All, Only}
 use Rattle.grammar.specs.Text.{Past, past, stuck, onward, sameText, literal, ended}
 use Rattle.grammar.specs.Forms.{OrderLine, all, only, Parts, orderLine}
 use Rattle.grammar.specs.Faults.{orderFault, labelSaid}
-use Rattle.forms.specs.Entries.{labelEntry}
-use Rattle.forms.specs.Lists.{wholeList, over, ListRead}
+use Rattle.lists.specs.Entries.{labelEntry}
+use Rattle.lists.specs.Lists.{wholeList, over, ListRead}
 use Rattle.forms.specs.Terms.{Allow}
 use Rattle.forms.specs.Orders.{OrderTaken, OrderDue, onlyThese}
 use Rattle.faults.specs.declared.Found.the-variants.{Fine}
 use Rattle.forms.specs.declared.OrderStep.{OrderStep}
-use Rattle.forms.specs.declared.labels.Said as C
-use Rattle.forms.specs.declared.labels.SaidStep.{SaidStep}
-use Rattle.forms.specs.declared.labels.SaidStep.the-variants as S
-use Rattle.forms.specs.declared.lists.ListKind.the-variants.{Labels}
-use Rattle.forms.proofs.Steps.{said-stays}
+use Rattle.lists.specs.declared.Said as C
+use Rattle.lists.specs.declared.SaidStep.{SaidStep}
+use Rattle.lists.specs.declared.SaidStep.the-variants as S
+use Rattle.lists.specs.declared.ListKind.the-variants.{Labels}
 use Rattle.forms.proofs.Operands.{ended-none, ended-some, over-nothing}
 use Rattle.forms.proofs.Wraps.{wrap-stuck, wrap-went, listed-faults, listed-words}
 
@@ -28,24 +27,24 @@ abbrev after-labels : List Parts → Text → Past OrderLine
 after-labels ls q = onward (ended q) (λ _ p. past (only ls) p)
 
 -- The labels are those of allow.
-module _ (words : List Text) (line : Text) (at : ℕ) {before after : List ℕ} {r : SaidStep}
-    (h : ListRead Labels line at (wholeList words Labels (drop at line)) before after r) where
-  pub labels-stuck : {p : ℕ} → r ≡ S.Stuck p → stuck (drop p line) ≡ onlyThese (drop at line)
-  labels-stuck e = ap (λ d. onward d after-labels) (wrap-stuck Allow words line at h (said-stays (h .read) e))
+module _ (words : List Text) (line : Text) (at : ℕ) (i : at ≤ length line) {before after : List ℕ} {r : SaidStep}
+    (h : ListRead Labels (drop at line) (wholeList words Labels (drop at line)) before after r) where
+  pub labels-stuck : {p : ℕ} → r ≡ S.Stuck p → stuck (drop (at + p) line) ≡ onlyThese (drop at line)
+  labels-stuck e = ap (λ d. onward d after-labels) (wrap-stuck Allow words line at i h e)
 
-  pub labels-on : {e : C.Said} {next : ℕ} → r ≡ S.To e next → next < length line → stuck (drop next line) ≡ onlyThese (drop at line)
-  labels-on {next = next} e k =
-      let l = wrap-went Allow words line at h e in
-      ap (λ d. onward d (λ _ p. past (only (l .0)) p)) (ended-some line next k) ∙ ap (λ d. onward d after-labels) (l .1)
+  pub labels-on : {e : C.Said} {n : ℕ} → r ≡ S.To e n → at + n < length line → stuck (drop (at + n) line) ≡ onlyThese (drop at line)
+  labels-on {n = n} e k =
+      let l = wrap-went Allow words line at i h e in
+      ap (λ d. onward d (λ _ p. past (only (l .0)) p)) (ended-some line (at + n) k) ∙ ap (λ d. onward d after-labels) (l .1)
 
-  pub labels-taken : {e : C.Said} {next : ℕ} → r ≡ S.To e next → length line ≤ next
+  pub labels-taken : {e : C.Said} {n : ℕ} → r ≡ S.To e n → length line ≤ at + n
       → OrderTaken words (onlyThese (drop at line)) before after (Only (record { at = 3072; entries = e .first })) (e .fault)
   unfolding orderFault
-  labels-taken {next = next} e k =
-      let l = wrap-went Allow words line at h e in
+  labels-taken {n = n} e k =
+      let l = wrap-went Allow words line at i h e in
       record {
         line = only (l .0);
-        says = ap (λ d. onward d (λ _ p. past (only (l .0)) p)) (ended-none line next k) ∙ ap (λ d. onward d after-labels) (l .1);
+        says = ap (λ d. onward d (λ _ p. past (only (l .0)) p)) (ended-none line (at + n) k) ∙ ap (λ d. onward d after-labels) (l .1);
         order = ap (λ n. Only (record { at = 3072; entries = n })) (ap (λ s. s .first) (l .2) ∙ length-map (l .0) (labelEntry words) ∙ sym (length-map (l .0) (labelSaid words)));
         faults = ap (λ s. s .found) (l .2) ∙ listed-faults Allow words (l .0);
         stored = λ z. l .3 ∙ ap (λ ws. over ws before) (listed-words Allow words (l .0) z);

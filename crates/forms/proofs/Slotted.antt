@@ -28,7 +28,7 @@ use Rattle.forms.specs.Terms.{LineTerm, LineRead, bareSlot, TermTaken, T
 use Rattle.faults.specs.declared.Found as G
 use Rattle.forms.specs.declared.TermStep.{TermStep}
 use Rattle.forms.specs.declared.TermStep.the-variants as T
-use Rattle.forms.proofs.Parts.{worse-none}
+use Rattle.lists.proofs.Parts.{worse-none}
 
 -- A term in its slot has the kind and the operands of the term that it stands for.
 pub kept : (f : D.Term → Bool) → ((o q : D.Operator) (t : ℕ) → f (D.wrap o t) ≡ f (D.wrap q t)) → (n : ℕ) (t : D.Term) → f (bareTerm (termFor n t)) ≡ f t

@@ -2,69 +2,31 @@
 -- Assumes nothing.
 use mathlib.Core.Path.{_≡_, refl, sym, ap, ap₂, _∙_}
 use mathlib.Core.List.{List, [], map}
-use Prim.Native.Nat.{ℕ, _^_, _≤_, _<_}
+use Prim.Native.Nat.{ℕ, _≤_, _<_}
 use native.Mathlib.Omega.{arith}
-use lib.ListN.{length, drop, length-drop}
+use lib.ListN.{length, drop}
 use Rattle.meaning.specs.Bytes.{Text}
 use Rattle.meaning.specs.Descriptions as D
 use Rattle.meaning.proofs.Alike.{alike}
 use Rattle.table.specs.declared.Term.{Term}
 use Rattle.table.specs.declared.Order.{Order}
 use Rattle.table.specs.Decoded.{nameOf}
-use Rattle.table.specs.Encoded.{wordOf, termWords, termFor, orderWords, orderFor, filled, slotsFrom}
+use Rattle.table.specs.Encoded.{termWords, termFor, orderWords, orderFor, filled, slotsFrom}
 use Rattle.grammar.specs.Text.{Past, past, stuck}
 use Rattle.grammar.specs.Forms.{termLine, orderLine}
 use Rattle.grammar.specs.Faults.{Found, fine, termSaid, termFault, orderSaid, orderFault}
 use Rattle.faults.specs.CodedFaults.{foundOf}
-use Rattle.forms.specs.Lists.{over}
-use Rattle.forms.specs.Places.{Steps, stepOf, placeOf}
+use Rattle.lists.specs.Lists.{over}
 use Rattle.forms.specs.Terms.{TermRead, TermAnswer}
 use Rattle.forms.specs.Orders.{OrderRead, OrderAnswer}
 use Rattle.faults.specs.declared.Found as G
 use Rattle.faults.specs.declared.Found.the-variants.{Fine}
 use Rattle.faults.proofs.Uniqueness.{found-unique}
-use Rattle.forms.specs.declared.Step.{Step}
-use Rattle.forms.specs.declared.Step.the-variants.{To, Stuck}
 use Rattle.forms.specs.declared.TermStep.{TermStep}
 use Rattle.forms.specs.declared.TermStep.the-variants as T
 use Rattle.forms.specs.declared.OrderStep.{OrderStep}
 use Rattle.forms.specs.declared.OrderStep.the-variants as O
-use Rattle.forms.proofs.Looked.{word-name}
-
--- Steps of a line: the place is settled by the text from there on, since it lies in the line; the number by what it says.
-place-unique : (line : Text) (m n : ℕ) → m ≤ length line → n ≤ length line → drop m line ≡ drop n line → m ≡ n
-place-unique line m n h k e = omega (arith, length-drop m line, length-drop n line, ap (λ (t : Text). length t) e)
-
--- (the number is a word)
-pub InWord : Step → Type 0
-InWord (To v next) = v < 2 ^ 64
-InWord (Stuck next) = Unit {0}
-
-apart : {A : Type 0} {a : A} {s t : Text} → past a s ≡ stuck t → ⊥
-apart e = let z : _≡_ {A = ℕ} 0 1 = cc in omega arith
-
-module _ {A : Type 0} (value : ℕ → A) (back : A → ℕ) (returns : (v : ℕ) → v < 2 ^ 64 → back (value v) ≡ v) (line : Text) where
-  same-steps : (r s : Step) → InWord r → InWord s → placeOf r ≤ length line → placeOf s ≤ length line
-      → stepOf (λ v next. value v) line r ≡ stepOf (λ v next. value v) line s → r ≡ s
-  unfolding InWord
-  same-steps (To v m) (To w n) a b h k e =
-      let x : value v ≡ value w = cc in
-      let y : drop m line ≡ drop n line = cc in
-      ap₂ {C = Step} To (sym (returns v a) ∙ ap back x ∙ returns w b) (place-unique line m n h k y)
-  same-steps (To v m) (Stuck n) a b h k e = absurd (apart e)
-  same-steps (Stuck m) (To w n) a b h k e = absurd (apart (sym e))
-  same-steps (Stuck m) (Stuck n) a b h k e =
-      let y : drop m line ≡ drop n line = cc in ap Stuck (place-unique line m n h k y)
-
-  pub steps-unique : (at : ℕ) (due : Past A) (r s : Step) → InWord r → InWord s → Steps (λ v next. value v) line at r due → Steps (λ v next. value v) line at s due → r ≡ s
-  steps-unique at due r s a b p q = same-steps r s a b (p .stands .within) (q .stands .within) (alike (p .stands .says) (q .stands .says))
-
-module _ (line : Text) (at : ℕ) where
-  pub count-unique : (due : Past ℕ) (r s : Step) → InWord r → InWord s → Steps (λ n next. n) line at r due → Steps (λ n next. n) line at s due → r ≡ s
-  count-unique = steps-unique (λ n. n) (λ n. n) (λ v h. refl) line at
-
-  pub name-unique : (due : Past Text) (r s : Step) → InWord r → InWord s → Steps (λ w next. nameOf 8 w) line at r due → Steps (λ w next. nameOf 8 w) line at s due → r ≡ s
-  name-unique = steps-unique (nameOf 8) wordOf (word-name 8) line at
+use Rattle.words.proofs.Uniqueness.{apart}
 
 -- What the reader of a line that may have a list gives: a value with its fault, or the text that it is stuck at.
 pub data Seen (X : Type 0) : Type 0 where
@@ -129,12 +91,12 @@ module _ (names : List ℕ) (line : Text) (before after₁ after₂ : List ℕ) 
   order-meets words after (O.To x f) p = record { line = p .line; says = p .says; made = p .order; found = p .faults; stored = p .stored }
   order-meets words after (O.Stuck n) p = p
 
-  pub order-unique : (r s : OrderStep) → OrderAnswer names line before after₁ r → OrderAnswer names line before after₂ s → length names ≤ 12 → length line ≤ 8192
+  pub order-unique : (r s : OrderStep) → OrderAnswer names line before after₁ r → OrderAnswer names line before after₂ s → length names ≤ 12
       → (orderSeen line r ≡ orderSeen line s) × ((x : Order) → orderSeen line r ≡ took x Fine → after₁ ≡ after₂)
-  order-unique r s p q few short =
+  order-unique r s p q few =
       let ws = map (nameOf 8) names in
       seen-unique (orderLine line) (λ l. orderFor (orderSaid ws l)) (orderFault ws) (λ l. over (orderWords (orderSaid ws l)) before) after₁ after₂
-      (orderSeen line r) (orderSeen line s) (order-meets ws after₁ r (p few short)) (order-meets ws after₂ s (q few short))
+      (orderSeen line r) (orderSeen line s) (order-meets ws after₁ r (p few)) (order-meets ws after₂ s (q few))
 
   term-meets : (words : List Text) (equations : ℕ) (terms : List D.Term) (after : List ℕ) (r : TermStep) → TermRead words equations terms line before after r
       → Meets (termLine line) (λ l. termFor (length terms) (termSaid words l)) (termFault words equations terms) (λ l. over (termWords (termSaid words l)) before) after (termSeen line r)
@@ -144,9 +106,9 @@ module _ (names : List ℕ) (line : Text) (before after₁ after₂ : List ℕ) 
 
   pub term-unique : (equations : ℕ) (slots : List ℕ) (n : ℕ) (r s : TermStep)
       → TermAnswer names equations slots n line before after₁ r → TermAnswer names equations slots n line before after₂ s
-      → (terms : List D.Term) → slots ≡ filled 96 0 (slotsFrom 0 terms) → n ≡ length terms → n < 96 → length names ≤ 12 → length line ≤ 8192
+      → (terms : List D.Term) → slots ≡ filled 96 0 (slotsFrom 0 terms) → n ≡ length terms → n < 96 → length names ≤ 12
       → (termSeen line r ≡ termSeen line s) × ((x : Term) → termSeen line r ≡ took x Fine → after₁ ≡ after₂)
-  term-unique equations slots n r s p q terms e m h few short =
+  term-unique equations slots n r s p q terms e m h few =
       let ws = map (nameOf 8) names in
       seen-unique (termLine line) (λ l. termFor (length terms) (termSaid ws l)) (termFault ws equations terms) (λ l. over (termWords (termSaid ws l)) before) after₁ after₂
-      (termSeen line r) (termSeen line s) (term-meets ws equations terms after₁ r (p terms e m h few short)) (term-meets ws equations terms after₂ s (q terms e m h few short))
+      (termSeen line r) (termSeen line s) (term-meets ws equations terms after₁ r (p terms e m h few)) (term-meets ws equations terms after₂ s (q terms e m h few))

@@ -16,26 +16,24 @@ use Rattle.table.specs.Packed.{either, operatorAt}
 use Rattle.grammar.specs.Text.{Past, past, stuck, onward, sameText, ended, starts, literal, word}
 use Rattle.grammar.specs.Forms.{Line, wraps, Parts, comma, space, pair, rule, label, labelList, ofList}
 use Rattle.grammar.specs.Faults.{fine, wordsOfFault, worst, labelFault, ruleFault, rulesFault, labelsFault, listFault, operatorSaid, nameNumber, pairSaid, ruleSaid, labelSaid}
-use Rattle.forms.specs.Tallies.{Said}
-use Rattle.forms.specs.Places.{Stands, Steps, saidOf}
-use Rattle.forms.specs.Entries.{nameEntry, pairEntry, ruleEntry, labelEntry}
-use Rattle.forms.specs.Lists.{listFaults, listEntry, listWords, listOf, unlessNone, wholeList, over, ListRead}
+use Rattle.lists.specs.Tallies.{Said}
+use Rattle.words.specs.Steps.{Stands}
+use Rattle.lists.specs.Entries.{saidOf, nameEntry, pairEntry, ruleEntry, labelEntry}
+use Rattle.lists.specs.Lists.{listFaults, listEntry, listWords, listOf, unlessNone, wholeList, over, ListRead}
 use Rattle.forms.specs.Terms.{WrapKind, Block, Hide, Rename, Comm, Allow, listKind, ContentsOf, contents, listed, LineTerm}
 use Rattle.forms.specs.Kinds.{wrapOf}
-use Rattle.forms.specs.declared.labels.Said as C
-use Rattle.forms.specs.declared.labels.SaidStep.{SaidStep}
-use Rattle.forms.specs.declared.labels.SaidStep.the-variants as S
-use Rattle.forms.specs.declared.lists.ListKind.{ListKind}
-use Rattle.forms.specs.declared.lists.ListKind.the-variants.{Labels}
-use Rattle.forms.specs.declared.Step.{Step}
-use Rattle.forms.specs.declared.Step.the-variants.{To, Stuck}
-use Rattle.forms.proofs.Rests.{literal-other, literal-more}
-use Rattle.forms.proofs.Steps.{regrouped, went, stays, said-went, said-stays, back-stuck, back-past}
-use Rattle.forms.proofs.Seen.{carried}
-use Rattle.forms.proofs.Gathered.{all-too}
-use Rattle.forms.proofs.Parts.{worse-none}
+use Rattle.lists.specs.declared.Said as C
+use Rattle.lists.specs.declared.SaidStep.{SaidStep}
+use Rattle.lists.specs.declared.SaidStep.the-variants as S
+use Rattle.lists.specs.declared.ListKind.{ListKind}
+use Rattle.lists.specs.declared.ListKind.the-variants.{Labels}
+use Rattle.words.proofs.Rests.{literal-other, literal-more}
+use Rattle.words.proofs.Steps.{onward-assoc, shifted, back-stuck, back-past}
+use Rattle.lists.proofs.Seen.{carried, said-went, said-stays}
+use Rattle.lists.proofs.Gathered.{all-too}
+use Rattle.lists.proofs.Parts.{worse-none}
 use Rattle.forms.proofs.Operands.{ended-none, ended-some, operand}
-use Rattle.forms.proofs.Contents.{names-faults, pairs-faults, rules-faults, labels-faults, names-words, pairs-words, rules-words, labels-words}
+use Rattle.lists.proofs.Contents.{names-faults, pairs-faults, rules-faults, labels-faults, names-words, pairs-words, rules-words, labels-words}
 
 -- the operator of a kind with its list's place
 abbrev wrappedOf : WrapKind → Place → Operator
@@ -110,23 +108,24 @@ listed-operator Rename words n c = rw (same-length (pairEntry words) (pairSaid w
 listed-operator Comm words n c = rw (same-length (ruleEntry words) (ruleSaid words) c)
 listed-operator Allow words n c = rw (same-length (labelEntry words) (labelSaid words) c)
 
-module _ (w : WrapKind) (words : List Text) (line : Text) (from : ℕ) {before after : List ℕ} {r : SaidStep}
-    (h : ListRead (listKind w) line from (wholeList words (listKind w) (drop from line)) before after r) where
+-- The list at a place of the line.
+module _ (w : WrapKind) (words : List Text) (line : Text) (from : ℕ) (i : from ≤ length line) {before after : List ℕ} {r : SaidStep}
+    (h : ListRead (listKind w) (drop from line) (wholeList words (listKind w) (drop from line)) before after r) where
   flat : onward (wholeList words (listKind w) (drop from line)) (λ es p. past (listEntry (listKind w) es) p)
       ≡ onward (contents w (drop from line)) (λ c p. past (listEntry (listKind w) (entries w words c)) p)
   flat =
       ap (λ d. onward d (λ es p. past (listEntry (listKind w) es) p)) (listed-entries w words (drop from line))
       ∙ carried (entries w words) (λ es p. past (listEntry (listKind w) es) p) (contents w (drop from line))
 
-  pub wrap-stuck : {q : ℕ} {t : Text} → Stands line from q (stuck t) (onward (wholeList words (listKind w) (drop from line)) (λ es p. past (listEntry (listKind w) es) p))
-      → stuck t ≡ contents w (drop from line)
-  wrap-stuck s = back-stuck (λ c. listEntry (listKind w) (entries w words c)) (contents w (drop from line)) (s .says ∙ flat)
+  pub wrap-stuck : {p : ℕ} → r ≡ S.Stuck p → stuck (drop (from + p) line) ≡ contents w (drop from line)
+  wrap-stuck e =
+      back-stuck (λ c. listEntry (listKind w) (entries w words c)) (contents w (drop from line)) (shifted stuck i (said-stays (h .read) e) .says ∙ flat)
 
-  pub wrap-went : {e : C.Said} {next : ℕ} → r ≡ S.To e next
-      → (c : ContentsOf w) × (past c (drop next line) ≡ contents w (drop from line)) × (saidOf e ≡ listEntry (listKind w) (entries w words c))
+  pub wrap-went : {e : C.Said} {n : ℕ} → r ≡ S.To e n
+      → (c : ContentsOf w) × (past c (drop (from + n) line) ≡ contents w (drop from line)) × (saidOf e ≡ listEntry (listKind w) (entries w words c))
       × (after ≡ over (listWords (listKind w) (entries w words c)) before)
-  wrap-went e =
-      let s = said-went (h .read) e in
+  wrap-went {e} g =
+      let s = shifted (past (saidOf e)) i (said-went (h .read) g) in
       let b = back-past (λ c. listEntry (listKind w) (entries w words c)) (contents w (drop from line)) (s .says ∙ flat) in
       (b .0, b .1, b .2, h .stored (entries w words (b .0)) _ (ap (λ d. onward d (λ c o. past (entries w words c) o)) (b .1) ∙ sym (listed-entries w words (drop from line))))
 
@@ -143,49 +142,53 @@ module _ (w : WrapKind) where
 
   pub wrap-seen : (s : Text) → onward (operand s) after-operand ≡ ofList (contents w) (listed w) s
   unfolding ofList
-  wrap-seen s = regrouped (literal (space ∷ []) s) (λ _ q. Rattle.grammar.specs.Text.number q) after-operand
+  wrap-seen s = onward-assoc (literal (space ∷ []) s) (λ _ q. Rattle.grammar.specs.Text.number q) after-operand
 
 -- The answers on a line of a kind with a list: by its operand, by the space after it, by its list, and by the end.
 module _ (w : WrapKind) (words : List Text) (line : Text) (at : ℕ) where
   abbrev Due : Past Line
   Due = ofList (contents w) (listed w) (drop at line)
 
-  pub no-operand : {p : ℕ} {r : Step} → Steps (λ n next. n) line at r (operand (drop at line)) → r ≡ Stuck p → stuck (drop p line) ≡ Due
-  no-operand s e = ap (λ d. onward d (after-operand w)) (stays s e .says) ∙ wrap-seen w (drop at line)
+  pub no-operand : {t : Text} {p : ℕ} → Stands line p (stuck t) (operand (drop at line)) → stuck t ≡ Due
+  no-operand s = ap (λ d. onward d (after-operand w)) (s .says) ∙ wrap-seen w (drop at line)
 
-  module _ {t from : ℕ} {r : Step} (s : Steps (λ n next. n) line at r (operand (drop at line))) (e : r ≡ To t from) where
+  module _ {t from : ℕ} (s : Stands line from (past t (drop from line)) (operand (drop at line))) where
     reach : {x : Past Line} → x ≡ after-operand w t (drop from line) → x ≡ Due
-    reach h = h ∙ ap (λ d. onward d (after-operand w)) (went s e .says) ∙ wrap-seen w (drop at line)
+    reach h = h ∙ ap (λ d. onward d (after-operand w)) (s .says) ∙ wrap-seen w (drop at line)
 
     pub no-space : starts space (drop from line) ≡ false → stuck (drop from line) ≡ Due
     no-space f = reach (ap (λ d. onward d (after-space w t)) (literal-other space [] (drop from line) f))
 
-    module _ (f : starts space (drop from line) ≡ true) {kind : ListKind} (j : kind ≡ listKind w) {before after : List ℕ} {l : SaidStep}
-        (h : ListRead kind line (from + 1) (wholeList words kind (drop (from + 1) line)) before after l) where
-      list : ListRead (listKind w) line (from + 1) (wholeList words (listKind w) (drop (from + 1) line)) before after l
+    module _ (f : starts space (drop from line) ≡ true) {kind : ListKind} (j : kind ≡ listKind w) (i : from + 1 ≤ length line) {before after : List ℕ} {l : SaidStep}
+        (h : ListRead kind (drop (from + 1) line) (wholeList words kind (drop (from + 1) line)) before after l) where
+      list : ListRead (listKind w) (drop (from + 1) line) (wholeList words (listKind w) (drop (from + 1) line)) before after l
       list = rw j at h
 
       beyond : {x : Past Line} → x ≡ onward (contents w (drop (from + 1) line)) (after-list w t) → x ≡ Due
       unfolding literal
       beyond e = reach (e ∙ ap (λ d. onward d (after-space w t)) (literal-more space [] line from f))
 
-      pub no-list : {p : ℕ} → l ≡ S.Stuck p → stuck (drop p line) ≡ Due
-      no-list e = beyond (ap (λ d. onward d (after-list w t)) (wrap-stuck w words line (from + 1) list (said-stays (list .read) e)))
+      pub no-list : {p : ℕ} → l ≡ S.Stuck p → stuck (drop (from + 1 + p) line) ≡ Due
+      no-list e = beyond (ap (λ d. onward d (after-list w t)) (wrap-stuck w words line (from + 1) i list e))
 
-      module _ {said : C.Said} {next : ℕ} (g : l ≡ S.To said next) where
-        pub no-end : next < length line → stuck (drop next line) ≡ Due
+      module _ {said : C.Said} {n : ℕ} (g : l ≡ S.To said n) where
+        pub no-end : from + 1 + n < length line → stuck (drop (from + 1 + n) line) ≡ Due
         no-end k =
-            let c = wrap-went w words line (from + 1) list g in
-            beyond (ap (λ d. onward d (λ _ m. past (wraps (listed w (c .0)) t) m)) (ended-some line next k) ∙ ap (λ d. onward d (after-list w t)) (c .1))
+            let c = wrap-went w words line (from + 1) i list g in
+            beyond (ap (λ d. onward d (λ _ m. past (wraps (listed w (c .0)) t) m)) (ended-some line (from + 1 + n) k) ∙ ap (λ d. onward d (after-list w t)) (c .1))
 
-        pub wrap-line : (n : ℕ) {o : Operator} → length line ≤ next → o ≡ wrappedOf w (record { at = 32 * n; entries = said .first }) → LineTerm words n Due before after (Wrap o t) (said .fault)
+        pub wrap-line : (number : ℕ) {o : Operator} → length line ≤ from + 1 + n → o ≡ wrappedOf w (record { at = 32 * number; entries = said .first })
+            → LineTerm words number Due before after (Wrap o t) (said .fault)
         unfolding wordsOfFault
-        wrap-line n k o =
-            let c = wrap-went w words line (from + 1) list g in
+        wrap-line number k o =
+            let c = wrap-went w words line (from + 1) i list g in
             record {
               line = wraps (listed w (c .0)) t;
-              says = beyond (ap (λ d. onward d (λ _ m. past (wraps (listed w (c .0)) t) m)) (ended-none line next k) ∙ ap (λ d. onward d (after-list w t)) (c .1));
-              term = ap (λ p. Wrap p t) (o ∙ ap (λ i. wrappedOf w (record { at = 32 * n; entries = i })) (ap (λ d. d .first) (c .2)) ∙ listed-operator w words n (c .0));
+              says =
+                  beyond (ap (λ d. onward d (λ _ m. past (wraps (listed w (c .0)) t) m)) (ended-none line (from + 1 + n) k) ∙ ap (λ d. onward d (after-list w t)) (c .1));
+              term =
+                  ap (λ p. Wrap p t)
+                  (o ∙ ap (λ i. wrappedOf w (record { at = 32 * number; entries = i })) (ap (λ d. d .first) (c .2)) ∙ listed-operator w words number (c .0));
               faults = ap (λ d. d .found) (c .2) ∙ listed-faults w words (c .0);
               stored = λ z. c .3 ∙ ap (λ ws. over ws before) (listed-words w words (c .0) z);
             }

@@ -12,7 +12,7 @@ use Rattle.grammar.specs.Text.{Past, past, stuck, onward, ended}
 use Rattle.grammar.specs.Forms.{OrderLine, only, labelList, orderLine}
 use Rattle.grammar.specs.Faults.{fine, orderSaid, orderFault}
 use Rattle.faults.specs.CodedFaults.{foundOf}
-use Rattle.forms.specs.Lists.{over}
+use Rattle.lists.specs.Lists.{over}
 use Rattle.faults.specs.declared.Found as G
 use Rattle.forms.specs.declared.OrderStep.{OrderStep}
 use Rattle.forms.specs.declared.OrderStep.the-variants as O
@@ -36,6 +36,6 @@ OrderRead words line before after r = OrderDue words line (orderLine line) befor
 abbrev pub onlyThese : Text → Past OrderLine
 onlyThese s = onward (labelList s) (λ ls q. onward (ended q) (λ _ p. past (only ls) p))
 
--- Every line that is short enough, with few enough names.
+-- Every line, with few enough names.
 abbrev pub OrderAnswer : List ℕ → Text → List ℕ → List ℕ → OrderStep → Type 0
-OrderAnswer names line before after r = length names ≤ 12 → length line ≤ 8192 → OrderRead (map (nameOf 8) names) line before after r
+OrderAnswer names line before after r = length names ≤ 12 → OrderRead (map (nameOf 8) names) line before after r

@@ -12,12 +12,12 @@ use Rattle.grammar.specs.Text.{Past, past, stuck, separated}
 use Rattle.grammar.specs.Forms as F
 use Rattle.grammar.specs.Forms.{Line, plain, Listed, Parts, WordPair, WordRule, comma, wordList, pair, rule, labelList, termLine}
 use Rattle.table.specs.Packed.{plainOf, wordTerm}
-use Rattle.forms.specs.declared.lists.ListKind.{ListKind}
-use Rattle.forms.specs.declared.lists.ListKind.the-variants.{Names, Pairs, Rules, Labels}
+use Rattle.lists.specs.declared.ListKind.{ListKind}
+use Rattle.lists.specs.declared.ListKind.the-variants.{Names, Pairs, Rules, Labels}
 use Rattle.table.specs.Encoded.{termWords, termFor, filled, slotsFrom}
 use Rattle.grammar.specs.Faults.{fine, termSaid, wordsOfFault, termFault}
 use Rattle.faults.specs.CodedFaults.{foundOf}
-use Rattle.forms.specs.Lists.{over}
+use Rattle.lists.specs.Lists.{over}
 use Rattle.faults.specs.declared.Found.the-variants.{Fine}
 use Rattle.forms.specs.declared.TermStep.{TermStep}
 use Rattle.forms.specs.declared.TermStep.the-variants as T
@@ -106,8 +106,8 @@ abbrev pub TermRead : List Text → ℕ → List D.Term → Text → List ℕ �
 TermRead words equations terms line before after (T.To x f) = TermTaken words equations terms (termLine line) before after x f
 TermRead words equations terms line before after (T.Stuck p) = (stuck (drop p line) ≡ termLine line) × (length after ≡ length before)
 
--- Every line that is short enough, at a number in range, with few enough names and the slots of the terms before it.
+-- Every line at a number in range, with few enough names and the slots of the terms before it.
 abbrev pub TermAnswer : List ℕ → ℕ → List ℕ → ℕ → Text → List ℕ → List ℕ → TermStep → Type 0
 TermAnswer names equations slots n line before after r =
-    (terms : List D.Term) → slots ≡ filled 96 0 (slotsFrom 0 terms) → n ≡ length terms → n < 96 → length names ≤ 12 → length line ≤ 8192
+    (terms : List D.Term) → slots ≡ filled 96 0 (slotsFrom 0 terms) → n ≡ length terms → n < 96 → length names ≤ 12
     → TermRead (map (nameOf 8) names) equations terms line before after r

@@ -2,32 +2,11 @@
 ghost use Prim.Native.Nat.{_≤_, max};
 ghost use mathlib.Core.Path.{_≡_};
 ghost use lib.ListN.{length, drop};
-ghost use Rattle.table.specs.Decoded.{nameOf};
-ghost use Rattle.grammar.specs.Text.{literal};
 ghost use Rattle.grammar.specs.Forms.{ofKind, kinds};
-ghost use Rattle.forms.specs.Places.{Steps};
 ghost use Rattle.forms.specs.Kinds.{kindPlace, KindRead};
-use crate::Step;
-use crate::bytes::sign_at;
-use crate::bytes::stuck_at;
-
-// A packed word that must stand there as it is.
-fn read_packed(line: &[u8], at: usize, due: u64) -> Step
-    requires { ⌜ at ≤ length (now line) ⌝ }
-    ensures { λ r. ⌜ Steps (λ v next. tt) (now (line .entry)) at r (literal (nameOf 8 due) (drop at (now (line .entry)))) ⌝ }
-{
-    let mut next = at;
-    let mut left = due;
-    while 0 < left {
-        let b = (left % 256) as u8;
-        if !sign_at(line, next, b) {
-            return Step::Stuck(next);
-        }
-        next += 1;
-        left = left / 256;
-    }
-    Step::To(0, next)
-}
+use words::Step;
+use words::literals::read_packed;
+use words::stuck_at;
 
 // The words of the kinds, packed as names are: the first byte lowest.
 const KINDS: [u64; 17] = [
@@ -72,6 +51,7 @@ pub fn most(a: usize, b: usize) -> usize
     if a <= b { b } else { a }
 }
 
+// The kind whose word stands at a place, which is not the start of the line.
 pub fn find_kind(line: &[u8], at: usize) -> KindStep
     requires { ⌜ (1 ≤ at) × (at ≤ length (now line)) ⌝ }
     ensures { λ r. ⌜ KindRead (now (line .entry)) (ofKind kinds (drop at (now (line .entry)))) r ⌝ }
@@ -81,12 +61,12 @@ pub fn find_kind(line: &[u8], at: usize) -> KindStep
     let mut far = 0;
     let mut k = 0;
     while k < 17 {
-        let word = read_packed(line, at, words[k]);
+        let word = read_packed(&line[at..], words[k]);
         // This is a search and no reading step: a word that reads ends it, and one that does not is passed over.
-        if let Step::To(_, next) = word {
-            return KindStep::To(k, next, far);
+        if let Step::To(_, bytes) = word {
+            return KindStep::To(k, at + bytes, far);
         }
-        far = most(far, stuck_at(word));
+        far = most(far, at + stuck_at(word));
         k += 1;
     }
     KindStep::Stuck(far)

@@ -1,10 +1,6 @@
 // The lines of a description, one at a time: what form each has, what it says and which faults it has.
-mod bytes;
 mod kinds;
-mod labels;
 pub mod lines;
-mod lists;
-pub mod names;
 pub mod orders;
 pub mod terms;
 
@@ -12,22 +8,13 @@ use faults::Found;
 use table::Order;
 use table::Term;
 
-// No line of a description is longer than the whole may be.
-pub const LINE_BYTES: usize = 8192;
-
-// What was read, a number or a packed name, and the place after it.
-pub enum Step {
-    To(u64, usize),
-    Stuck(usize),
-}
-
-// A term with its fault.
+// A term with its fault, or the place where the line is stuck.
 pub enum TermStep {
     To(Term, Found),
     Stuck(usize),
 }
 
-// The order, with the fault of its labels.
+// The order, with the fault of its labels, or the place where the line is stuck.
 pub enum OrderStep {
     To(Order, Found),
     Stuck(usize),

@@ -1,44 +1,50 @@
 // The lines that hold a number or a name after their key.
+ghost use Prim.Native.Nat.{_+_, _<_, _^_};
 ghost use mathlib.Core.Path.{_≡_};
 ghost use lib.ListN.{length};
 ghost use Rattle.table.specs.Decoded.{nameOf};
 ghost use Rattle.grammar.specs.Forms.{countLine, nameLine};
-ghost use Rattle.forms.specs.Places.{Steps};
-ghost use Rattle.forms.specs.Lines.{endedStep};
-use crate::Step;
-use crate::bytes::read_literal;
-use crate::bytes::read_number;
-use crate::bytes::read_word;
+ghost use Rattle.words.specs.Steps.{placeOf, Steps};
+ghost use Rattle.forms.specs.Lines.{endedFrom};
+use words::Step;
+use words::literals::read_literal;
+use words::names::read_word;
+use words::numbers::read_number;
+use words::stuck_at;
 
-// Nothing follows what was read.
-fn at_end(line: &[u8], s: Step) -> Step
-    ensures { λ r. ⌜ r ≡ endedStep (length (now (line .entry))) s ⌝ }
+// What was read from a place of the line on, with nothing after it.
+fn at_end(line: &[u8], at: usize, s: Step) -> Step
+    requires { ⌜ at + placeOf s < 2 ^ 64 ⌝ }
+    ensures { λ r. ⌜ r ≡ endedFrom (length (now (line .entry))) at s ⌝ }
 {
-    let Step::To(_, next) = s else {
-        return s;
+    let Step::To(value, bytes) = s else {
+        return Step::Stuck(at + stuck_at(s));
     };
+    let next = at + bytes;
     if next < line.len() {
         return Step::Stuck(next);
     }
-    s
+    Step::To(value, next)
 }
 
+// A number after this key.
 pub fn read_count(line: &[u8], key: &[u8]) -> Step
-    ensures { λ r. ⌜ Steps (λ n next. n) (now (line .entry)) 0 r (countLine (now (key .entry)) (now (line .entry))) ⌝ }
+    ensures { λ r. ⌜ Steps (λ n. n) (now (line .entry)) r (countLine (now (key .entry)) (now (line .entry))) ⌝ }
 {
-    let start = read_literal(line, 0, key);
+    let start = read_literal(line, key);
     let Step::To(_, at) = start else {
         return start;
     };
-    at_end(line, read_number(line, at))
+    at_end(line, at, read_number(&line[at..]))
 }
 
+// A name after `name=`, packed.
 pub fn read_name_line(line: &[u8]) -> Step
-    ensures { λ r. ⌜ Steps (λ w next. nameOf 8 w) (now (line .entry)) 0 r (nameLine (now (line .entry))) ⌝ }
+    ensures { λ r. ⌜ Steps (λ w. nameOf 8 w) (now (line .entry)) r (nameLine (now (line .entry))) ⌝ }
 {
-    let start = read_literal(line, 0, b"name=");
+    let start = read_literal(line, b"name=");
     let Step::To(_, at) = start else {
         return start;
     };
-    at_end(line, read_word(line, at))
+    at_end(line, at, read_word(&line[at..]))
 }

@@ -6,34 +6,29 @@ ghost use Rattle.table.specs.Decoded.{nameOf};
 ghost use lib.ListN.{length, drop, getD};
 ghost use Rattle.table.specs.Terms.{IsPlain, bareTerm};
 ghost use Rattle.meaning.specs.Legal.{isMultiAction};
-ghost use Rattle.grammar.specs.Text.{past, onward, ended};
-ghost use Rattle.grammar.specs.Forms.{plain, ofName, ofOne, ofTwo, ofList, termLine};
+ghost use Rattle.grammar.specs.Text.{past, onward, ended, byte, number};
+ghost use Rattle.words.specs.Steps.{Steps};
+ghost use Rattle.grammar.specs.Forms.{space, plain, ofName, ofOne, ofTwo, ofList, termLine};
 ghost use Rattle.grammar.specs.Faults.{bothBelow, inRange, worse, unless, operandsFit};
 ghost use Rattle.forms.specs.Terms.{PlainRead, madeOf, LineRead, Storeless, listKind, contents, listed, bareSlot, TermAnswer};
 ghost use Rattle.meaning.specs.Answers.{range, operand};
 ghost use Rattle.meaning.specs.Descriptions.{delta};
 ghost use Rattle.faults.specs.CodedFaults.{foundOf};
 ghost use Rattle.forms.specs.Kinds.{restOf, wrapOf, fartherStep};
-use crate::LINE_BYTES;
-use crate::Step;
 use crate::TermStep;
-use crate::bytes::number_after;
-use crate::bytes::read_literal;
-use crate::bytes::sign_at;
-use crate::bytes::stuck_at;
 use crate::kinds::KindStep;
 use crate::kinds::find_kind;
 use crate::kinds::kind_stuck_at;
 use crate::kinds::most;
-use crate::labels::SaidStep;
-use crate::labels::read_name;
-use crate::labels::said_stuck_at;
-use crate::lists::ListKind;
-use crate::lists::read_whole;
 use faults::Fault;
 use faults::Found;
 use faults::found_unless;
 use faults::worse_of;
+use lists::ListKind;
+use lists::SaidStep;
+use lists::read_name;
+use lists::read_whole;
+use lists::said_stuck_at;
 use table::NAMES;
 use table::Place;
 use table::TERMS;
@@ -41,6 +36,11 @@ use table::Term;
 use table::packing::operator;
 use table::packing::plain;
 use table::packing::unpack;
+use words::Step;
+use words::literals::read_literal;
+use words::literals::sign_at;
+use words::numbers::number_after;
+use words::stuck_at;
 
 // A term with nothing after it.
 fn finish(line: &[u8], at: usize, x: Term) -> TermStep
@@ -53,12 +53,24 @@ fn finish(line: &[u8], at: usize, x: Term) -> TermStep
     TermStep::To(x, Found::Fine)
 }
 
+// A number after a space, at a place of the line; the answer's place is one of the line too.
+fn read_operand(line: &[u8], at: usize) -> Step
+    requires { ⌜ at ≤ length (now line) ⌝ }
+    ensures { λ r. ⌜ Steps (λ n. n) (now (line .entry)) r (onward (byte space (drop at (now (line .entry)))) (λ _ s. number s)) ⌝ }
+{
+    let read = number_after(&line[at..], b' ');
+    let Step::To(n, bytes) = read else {
+        return Step::Stuck(at + stuck_at(read));
+    };
+    Step::To(n, at + bytes)
+}
+
 // The last number of a line, or the only one. From ref on a kind has the same number here, by its word's place, as in the table.
 fn read_last(k: usize, t: usize, line: &[u8], at: usize) -> TermStep
     requires { ⌜ at ≤ length (now line) ⌝ }
     ensures { λ r. ⌜ PlainRead (now (line .entry)) (ofOne (madeOf k t) (drop at (now (line .entry)))) r ⌝ }
 {
-    let last = number_after(line, at, b' ');
+    let last = read_operand(line, at);
     let Step::To(u, next) = last else {
         return TermStep::Stuck(stuck_at(last));
     };
@@ -69,7 +81,7 @@ fn read_two(k: usize, line: &[u8], at: usize) -> TermStep
     requires { ⌜ at ≤ length (now line) ⌝ }
     ensures { λ r. ⌜ PlainRead (now (line .entry)) (ofTwo (madeOf k) (drop at (now (line .entry)))) r ⌝ }
 {
-    let first = number_after(line, at, b' ');
+    let first = read_operand(line, at);
     let Step::To(t, after) = first else {
         return TermStep::Stuck(stuck_at(first));
     };
@@ -83,10 +95,12 @@ fn read_act(line: &[u8], at: usize, names: &[u64], n: usize) -> TermStep
     if !sign_at(line, at, b' ') {
         return TermStep::Stuck(at);
     }
-    let name = read_name(line, at + 1, names);
-    let SaidStep::To(said, next) = name else {
-        return TermStep::Stuck(said_stuck_at(name));
+    let behind = at + 1;
+    let name = read_name(&line[behind..], names);
+    let SaidStep::To(said, bytes) = name else {
+        return TermStep::Stuck(behind + said_stuck_at(name));
     };
+    let next = behind + bytes;
     if next < line.len() {
         return TermStep::Stuck(next);
     }
@@ -115,10 +129,10 @@ fn read_wrap(
     n: usize,
     store: &mut [u64],
 ) -> TermStep
-    requires { ⌜ (at ≤ length (now line)) × (length (now names) ≤ 12) × (length (now line) ≤ 8192) × (n < 96) ⌝ }
+    requires { ⌜ (at ≤ length (now line)) × (length (now names) ≤ 12) × (n < 96) ⌝ }
     ensures { λ r. ⌜ LineRead (map (nameOf 8) (now (names .entry))) n (now (line .entry)) (ofList (contents (wrapOf k)) (listed (wrapOf k)) (drop at (now (line .entry)))) (now (store .entry)) (now (store .exit)) r ⌝ }
 {
-    let operand = number_after(line, at, b' ');
+    let operand = read_operand(line, at);
     let Step::To(t, after) = operand else {
         return TermStep::Stuck(stuck_at(operand));
     };
@@ -126,10 +140,12 @@ fn read_wrap(
         return TermStep::Stuck(after);
     }
     let kind = list_kind(k);
-    let list = read_whole(kind, line, after + 1, names, store);
-    let SaidStep::To(said, next) = list else {
-        return TermStep::Stuck(said_stuck_at(list));
+    let behind = after + 1;
+    let list = read_whole(kind, &line[behind..], names, store);
+    let SaidStep::To(said, taken) = list else {
+        return TermStep::Stuck(behind + said_stuck_at(list));
     };
+    let next = behind + taken;
     if next < line.len() {
         return TermStep::Stuck(next);
     }
@@ -185,7 +201,7 @@ fn read_kind(
     n: usize,
     store: &mut [u64],
 ) -> TermStep
-    requires { ⌜ (at ≤ length (now line)) × (length (now names) ≤ 12) × (length (now line) ≤ 8192) × (n < 96) × (k < 17) ⌝ }
+    requires { ⌜ (at ≤ length (now line)) × (length (now names) ≤ 12) × (n < 96) × (k < 17) ⌝ }
     ensures { λ r. ⌜ LineRead (map (nameOf 8) (now (names .entry))) n (now (line .entry)) (restOf k (drop at (now (line .entry)))) (now (store .entry)) (now (store .exit)) r ⌝ }
 {
     if k < 1 {
@@ -217,10 +233,10 @@ fn farthest(x: TermStep, far: usize) -> TermStep
 }
 
 fn read_line(line: &[u8], names: &[u64], n: usize, store: &mut [u64]) -> TermStep
-    requires { ⌜ (length (now names) ≤ 12) × (length (now line) ≤ 8192) × (n < 96) ⌝ }
+    requires { ⌜ (length (now names) ≤ 12) × (n < 96) ⌝ }
     ensures { λ r. ⌜ LineRead (map (nameOf 8) (now (names .entry))) n (now (line .entry)) (termLine (now (line .entry))) (now (store .entry)) (now (store .exit)) r ⌝ }
 {
-    let key = read_literal(line, 0, b"term=");
+    let key = read_literal(line, b"term=");
     let Step::To(_, at) = key else {
         return TermStep::Stuck(stuck_at(key));
     };
@@ -271,9 +287,6 @@ pub fn read_term(
     ensures { λ r. ⌜ TermAnswer (now (names .entry)) equations (now (slots .entry)) n (now (line .entry)) (now (store .entry)) (now (store .exit)) r ⌝ }
 {
     if NAMES < names.len() {
-        return TermStep::Stuck(0);
-    }
-    if LINE_BYTES < line.len() {
         return TermStep::Stuck(0);
     }
     if TERMS <= n {

@@ -10,8 +10,8 @@ use borrow.Author.Tests.{lt-ltb, le-ltb, eq-eqb, ne-eqb}
 use Rattle.meaning.specs.Bytes.{Text}
 use Rattle.grammar.specs.Reading.{Cut, cut, noLine, withByte, firstLine}
 use Rattle.reading.specs.Lines.{LineEnd}
-use Rattle.forms.proofs.Rests.{rest-cons}
-use Rattle.forms.proofs.Words.{take-snoc}
+use Rattle.words.proofs.Rests.{rest-cons}
+use Rattle.words.proofs.WordReading.{take-snoc}
 
 -- The first line, byte by byte.
 abbrev pub withBytes : Text → Cut → Cut

@@ -10,7 +10,7 @@ use borrow.Author.Tests.{lt-ltb, le-ltb}
 use Rattle.meaning.specs.Bytes.{Text, ascii}
 use Rattle.grammar.specs.Text.{sameText}
 use Rattle.grammar.specs.Faults.{nameNumber}
-use Rattle.forms.proofs.Looked.{same-self, same-true}
+use Rattle.words.proofs.Looked.{same-self, same-true}
 use Rattle.grammar.specs.Reading.{isFree}
 
 same-turned : (s t : Text) → sameText t s ≡ true → sameText s t ≡ true

@@ -13,7 +13,7 @@ use Rattle.table.specs.declared.Order.{Order}
 use Rattle.table.specs.Encoded.{filled, termWords, termsWords, termFor, slotsFrom}
 use Rattle.table.specs.Packed.{termWord}
 use Rattle.table.proofs.Filled.{slots-more, part-free, part-more}
-use Rattle.forms.specs.Lists.{over}
+use Rattle.lists.specs.Lists.{over}
 use Rattle.grammar.specs.Text.{Past, stuck}
 use Rattle.grammar.specs.Forms.{Line, termLine, OrderLine, orderLine}
 use Rattle.grammar.specs.Faults.{Found, fine, fault, termSaid, termFault, orderSaid, orderFault}

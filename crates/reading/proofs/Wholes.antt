@@ -21,11 +21,11 @@ use Rattle.table.proofs.Filled.{filled-length, filled-two, filled-front}
 use Rattle.grammar.specs.Text.{Past, past, stuck}
 use Rattle.grammar.specs.Forms.{countLine}
 use Rattle.faults.specs.CodedFaults.{faultOf}
-use Rattle.forms.specs.Lists.{over}
+use Rattle.lists.specs.Lists.{over}
 use Rattle.faults.specs.declared.Fault.{Fault}
 use Rattle.faults.specs.declared.Fault.the-variants.{Form, Name, Range, Amount, Operand}
-use Rattle.forms.proofs.Rests.{rest-cons}
-use Rattle.forms.proofs.Looked.{word-name}
+use Rattle.words.proofs.Rests.{rest-cons}
+use Rattle.words.proofs.Looked.{word-name}
 use Rattle.grammar.specs.Reading.{takenIf, formed, takeNumber, nameCount, equationCount, termCount, Cut, cut, noLine, firstLine, Walk, reached, halted, walk, afterLine, lineWalk, oneLine, read, badLine, Whole, described}
 use Rattle.reading.specs.Walks.{between}
 use Rattle.reading.specs.Stored.{faultFor, refusing, readFor, badAnswer, Ended, Padded}

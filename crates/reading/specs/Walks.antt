@@ -13,7 +13,7 @@ use Rattle.table.specs.declared.Order.{Order}
 use Rattle.table.specs.Decoded.{nameOf}
 use Rattle.table.specs.Encoded.{filled, termWords, termFor, slotsFrom, termsWords, orderWords, orderFor}
 use Rattle.faults.specs.CodedFaults.{faultOf}
-use Rattle.forms.specs.Lists.{over}
+use Rattle.lists.specs.Lists.{over}
 use Rattle.grammar.specs.Reading.{Walk, reached, halted}
 use Rattle.reading.specs.declared.Progress.{Progress}
 use Rattle.reading.specs.declared.Progress.the-variants.{To, Bad}

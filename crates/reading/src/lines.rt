@@ -1,8 +1,8 @@
 // Where a line of the text ends, and the lines with a number.
 use crate::Progress;
 use faults::Fault;
-use forms::Step;
 use forms::lines::read_count;
+use words::Step;
 ghost use Prim.Native.Nat.{_≤_};
 ghost use lib.ListN.{length, drop};
 ghost use Rattle.faults.specs.CodedFaults.{faultOf};

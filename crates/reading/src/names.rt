@@ -8,9 +8,9 @@ ghost use Rattle.reading.specs.Walks.{Spot, Walks, NamesTo};
 use crate::Progress;
 use crate::lines::line_end;
 use faults::Fault;
-use forms::Step;
 use forms::lines::read_name_line;
-use forms::names::find_name;
+use words::Step;
+use words::names::find_name;
 
 // A name is no earlier one, and none of the words tau, none and all.
 fn is_free(names: &[u64], w: u64) -> bool

@@ -1,10 +1,15 @@
 -- `forms::kinds::find_kind` meets its contract: one kind after the other, the farthest place kept.
 -- Assumes nothing.
-use Prim.Native.Nat.{_-_}
+use borrow.Author.Needs.{needs}
+use Prim.Native.Nat.{_+_, _-_}
 use native.Mathlib.Omega.{arith}
+use lib.ListN.{getD, drop}
+use Rattle.table.specs.Decoded.{nameOf}
+use Rattle.grammar.specs.Text.{past, stuck, literal}
 use Rattle.faults.proofs.Calls.{asks-nothing}
-use Rattle.forms.proofs.Steps.{stuck-there}
-use Rattle.forms.proofs.Kinded.{Sought, sought-none, sought-found, sought-more, sought-all}
+use Rattle.words.specs.Steps.{Stands}
+use Rattle.words.proofs.Steps.{stuck-there, went-on, stays-on}
+use Rattle.forms.proofs.Kinded.{packedKinds, Sought, sought-none, sought-found, sought-more, sought-all}
 use Rattle.forms.proofs.kinds.find_kind.Statement.{statement}
 use Rattle.forms.proofs.kinds.find_kind.Tie as tie
 
@@ -17,25 +22,65 @@ abbrev μ-loop : tie.MeasureT-loop
 loop-holds : tie.Need-loop-holds Inv-loop μ-loop
 loop-holds c = sought-none _ _
 
+part-read-packed-start : tie.Need-part-read-packed-start Inv-loop μ-loop
+part-read-packed-start c = c .before .before .before .pre .1
+
+sub-read-packed : tie.Need-sub-read-packed Inv-loop μ-loop
+sub-read-packed c = let w = part-read-packed-start c in omega arith
+
+part-read-packed-end : tie.Need-part-read-packed-end Inv-loop μ-loop
+part-read-packed-end c = search needs
+
 mul-read-packed : tie.Need-mul-read-packed Inv-loop μ-loop
 mul-read-packed c = omega arith
 
 array-read-read-packed : tie.Need-array-read-read-packed Inv-loop μ-loop
 array-read-read-packed c = omega arith
 
-read-packed-requires : tie.Need-read-packed-requires Inv-loop μ-loop
-read-packed-requires c κs = c .before .before .before .pre .1
-
 enum-known-word : tie.Need-enum-known-word Inv-loop μ-loop
 enum-known-word c = c .match .keys1
+
+-- the kind's word that stands there, in the line
+found : (c : tie.After-known-told Inv-loop μ-loop)
+    → let turn = c .before .before .before .before .before in
+    let a = turn .before .before .before .args in
+    let next = a .at + c .before .word .given .0 .1 .0 in
+    Stands (a .line .now) next (past tt (drop next (a .line .now))) (literal (nameOf 8 (getD packedKinds (turn .before .loop .k) 0)) (drop (a .at) (a .line .now)))
+found c =
+    let read = c .before .before .before in
+    let turn = read .before .before in
+    let start = turn .before .before .before in
+    let a = start .args in
+    went-on (literal (nameOf 8 (getD packedKinds (turn .before .loop .k) 0))) (a .line .now) (a .at) (start .pre .1) (read .read-packed .ensures .steps)
+    (c .before .word .given .1)
+
+add-t18 : tie.Need-add-t18 Inv-loop μ-loop
+add-t18 c = let s = found c .within in omega arith
+
+returns : tie.Need-returns Inv-loop μ-loop
+returns c =
+    let turn = c .before .before .before .before .before in
+    sought-found _ _ _ _ (turn .before .loop .inv) (turn .loop-test .taken) (found c)
 
 enum-told : tie.Need-enum-told Inv-loop μ-loop
 enum-told c = c .match .keys2
 
-returns : tie.Need-returns Inv-loop μ-loop
-returns c =
-    sought-found _ _ _ _ (c .before .before .before .before .before .loop .inv) (c .before .before .before .before .loop-test .taken) (c .before .before .before .read-packed .ensures)
-    (c .before .word .given .1)
+-- the place where another word was stuck
+missed : (c : tie.After-stuck-at Inv-loop μ-loop)
+    → let turn = c .before .before .before .before .before in
+    let a = turn .before .before .before .args in
+    let p = a .at + c .stuck-at .result in
+    Stands (a .line .now) p (stuck (drop p (a .line .now))) (literal (nameOf 8 (getD packedKinds (turn .before .loop .k) 0)) (drop (a .at) (a .line .now)))
+missed c =
+    let read = c .before .before .before in
+    let turn = read .before .before in
+    let start = turn .before .before .before in
+    let a = start .args in
+    stays-on (literal (nameOf 8 (getD packedKinds (turn .before .loop .k) 0))) (a .line .now) (a .at) (start .pre .1) (read .read-packed .ensures .steps)
+    (stuck-there (c .before .enum-told .given .1) (c .stuck-at .ensures))
+
+add-most : tie.Need-add-most Inv-loop μ-loop
+add-most c = let s = missed c .within in omega arith
 
 add-k : tie.Need-add-k Inv-loop μ-loop
 add-k c = omega arith
@@ -45,10 +90,8 @@ loop-less c = omega arith
 
 loop-again : tie.Need-loop-again Inv-loop μ-loop
 loop-again c =
-    let told = c .before .before in
-    let read = told .before .before in
-    sought-more _ _ _ _ (read .before .before .loop .inv) (read .before .loop-test .taken) (read .read-packed .ensures)
-    (read .before .before .before .before .pre .0) (stuck-there (told .enum-told .given .1) (c .before .stuck-at .ensures)) (c .most .ensures)
+    let turn = c .before .before .before .before .before .before in
+    sought-more _ _ _ _ (turn .before .loop .inv) (turn .loop-test .taken) (turn .before .before .before .pre .0) (omega arith) (missed (c .before)) (c .most .ensures)
 
 returns-2 : tie.Need-returns-2 Inv-loop μ-loop
 returns-2 c = sought-all _ _ _ _ (c .before .loop .inv) (c .loop-test .left)
@@ -56,5 +99,5 @@ returns-2 c = sought-all _ _ _ _ (c .before .loop .inv) (c .loop-test .left)
 pub find-kind-spec : {M : Type 1} → statement M
 find-kind-spec =
     tie.close
-    (tie.spec Inv-loop μ-loop loop-holds mul-read-packed array-read-read-packed read-packed-requires enum-known-word returns enum-told
-    asks-nothing asks-nothing add-k loop-less loop-again returns-2)
+    (tie.spec Inv-loop μ-loop loop-holds sub-read-packed part-read-packed-start part-read-packed-end mul-read-packed array-read-read-packed asks-nothing
+    enum-known-word add-t18 returns enum-told asks-nothing add-most asks-nothing add-k loop-less loop-again returns-2)

@@ -1,26 +1,47 @@
 -- `forms::terms::read_act` meets its contract: a name, and the end of the line.
 -- Assumes nothing.
+use borrow.Author.Needs.{needs}
 use mathlib.Core.Path.{sym, _∙_}
-use borrow.Author.Tests.{not-true, not-false}
 use mathlib.Core.List.{map}
+use Prim.Native.Nat.{_+_, _≤_}
 use native.Mathlib.Omega.{arith}
+use borrow.Author.Tests.{not-true, not-false}
+use lib.ListN.{length, drop}
 use Rattle.table.specs.Decoded.{nameOf}
+use Rattle.grammar.specs.Text.{past, stuck, word}
 use Rattle.grammar.specs.Forms.{space}
 use Rattle.faults.proofs.Calls.{asks-nothing}
-use Rattle.forms.proofs.Rests.{sign-within}
-use Rattle.forms.proofs.Steps.{said-stuck-there}
+use Rattle.words.specs.Steps.{Stands}
+use Rattle.words.proofs.Rests.{sign-within}
+use Rattle.lists.specs.Entries.{saidOf, seen, nameEntry}
+use Rattle.lists.proofs.Seen.{said-stuck-there, said-went-on, said-stays-on}
 use Rattle.forms.proofs.Operands.{act-no-space, act-no-name, act-no-end, act-line}
 use Rattle.forms.proofs.terms.read_act.Statement.{statement}
 use Rattle.forms.proofs.terms.read_act.Tie as tie
 
 returns : tie.Need-returns
-returns c store = let a = c .before .before .before .before .args in act-no-space (map (nameOf 8) (a .names .now)) (a .line .now) (a .at) (sym (c .before .sign-at .ensures) ∙ not-true _ (c .if1 .taken))
+returns c store =
+    let a = c .before .before .before .before .args in
+    act-no-space (map (nameOf 8) (a .names .now)) (a .line .now) (a .at) (sym (c .before .sign-at .ensures) ∙ not-true _ (c .if1 .taken))
 
-add-read-name : tie.Need-add-read-name
-add-read-name c = let w = sign-within space (c .before .before .before .before .args .line .now) (c .before .before .before .before .args .at) (sym (c .before .sign-at .ensures) ∙ not-false _ (c .if1 .left)) in omega arith
+-- a space that stands there lies in the line
+passed : (c : tie.Else1) → let a = c .before .before .before .before .args in a .at + 1 ≤ length (a .line .now)
+passed c =
+    let a = c .before .before .before .before .args in
+    let w = sign-within space (a .line .now) (a .at) (sym (c .before .sign-at .ensures) ∙ not-false _ (c .if1 .left)) in
+    omega arith
 
-read-name-requires : tie.Need-read-name-requires
-read-name-requires c κs = let w = sign-within space (c .before .before .before .before .args .line .now) (c .before .before .before .before .args .at) (sym (c .before .sign-at .ensures) ∙ not-false _ (c .if1 .left)) in omega arith
+add-behind : tie.Need-add-behind
+add-behind c = let w = passed c in omega arith
+
+sub-read-name : tie.Need-sub-read-name
+sub-read-name c = let w = passed c in omega arith
+
+part-read-name-start : tie.Need-part-read-name-start
+part-read-name-start c = passed c
+
+part-read-name-end : tie.Need-part-read-name-end
+part-read-name-end c = search needs
 
 enum-known-name : tie.Need-enum-known-name
 enum-known-name c = c .match .keys1
@@ -28,16 +49,60 @@ enum-known-name c = c .match .keys1
 enum-told : tie.Need-enum-told
 enum-told c = c .match .keys2
 
+-- the name that is not there, or is, in the line
+missed : (c : tie.After-said-stuck-at)
+    → let a = c .before .before .before .before .before .before .before .before .before .args in
+    let p = a .at + 1 + c .said-stuck-at .result in
+    Stands (a .line .now) p (stuck (drop p (a .line .now))) (seen (nameEntry (map (nameOf 8) (a .names .now))) word (drop (a .at + 1) (a .line .now)))
+missed c =
+    let read = c .before .before .before in
+    let tested = read .before .before in
+    let a = tested .before .before .before .before .args in
+    said-stays-on (seen (nameEntry (map (nameOf 8) (a .names .now))) word) (a .line .now) (a .at + 1) (passed tested) (read .read-name .ensures)
+    (said-stuck-there (c .before .enum-told .given .1) (c .said-stuck-at .ensures))
+
+named : (c : tie.After-known-told)
+    → let a = c .before .before .before .before .before .before .before .before .before .args in
+    let e = c .before .name .given .0 in
+    let next = a .at + 1 + e .1 .0 in
+    Stands (a .line .now) next (past (saidOf (e .0)) (drop next (a .line .now))) (seen (nameEntry (map (nameOf 8) (a .names .now))) word (drop (a .at + 1) (a .line .now)))
+named c =
+    let read = c .before .before .before in
+    let tested = read .before .before in
+    let a = tested .before .before .before .before .args in
+    said-went-on (seen (nameEntry (map (nameOf 8) (a .names .now))) word) (a .line .now) (a .at + 1) (passed tested) (read .read-name .ensures)
+    (c .before .name .given .1)
+
+add-t18 : tie.Need-add-t18
+add-t18 c = let s = missed c .within in omega arith
+
 returns-2 : tie.Need-returns-2
-returns-2 c store = let a = c .before .before .before .before .before .before .before .before .args in act-no-name (map (nameOf 8) (a .names .now)) (a .line .now) (a .at) (sym (c .before .before .before .before .before .sign-at .ensures) ∙ not-false _ (c .before .before .before .before .if1 .left)) (c .before .before .before .read-name .ensures) (said-stuck-there (c .before .enum-told .given .1) (c .said-stuck-at .ensures))
+returns-2 c store =
+    let tested = c .before .before .before .before .before in
+    let a = tested .before .before .before .before .args in
+    act-no-name (map (nameOf 8) (a .names .now)) (a .line .now) (a .at) (sym (tested .before .sign-at .ensures) ∙ not-false _ (tested .if1 .left)) (missed c)
+
+add-next : tie.Need-add-next
+add-next c = let s = named c .within in omega arith
 
 returns-3 : tie.Need-returns-3
-returns-3 c store = let a = c .before .before .before .before .before .before .before .before .before .args in act-no-end (map (nameOf 8) (a .names .now)) (a .line .now) (a .at) (sym (c .before .before .before .before .before .before .sign-at .ensures) ∙ not-false _ (c .before .before .before .before .before .if1 .left)) (c .before .before .before .before .read-name .ensures) (c .before .before .name .given .1) (c .if2 .taken)
+returns-3 c store =
+    let known = c .before in
+    let tested = known .before .before .before .before .before in
+    let a = tested .before .before .before .before .args in
+    act-no-end (map (nameOf 8) (a .names .now)) (a .line .now) (a .at) (sym (tested .before .sign-at .ensures) ∙ not-false _ (tested .if1 .left))
+    (known .before .name .given .0 .0) (named known) (c .if2 .taken)
 
 returns-4 : tie.Need-returns-4
-returns-4 c store = let a = c .before .before .before .before .before .before .before .before .before .args in act-line (map (nameOf 8) (a .names .now)) (a .line .now) (a .at) (sym (c .before .before .before .before .before .before .sign-at .ensures) ∙ not-false _ (c .before .before .before .before .before .if1 .left)) (c .before .before .before .before .read-name .ensures) (c .before .before .name .given .1) (a .n) store (c .if2 .left)
+returns-4 c store =
+    let known = c .before in
+    let tested = known .before .before .before .before .before in
+    let a = tested .before .before .before .before .args in
+    act-line (map (nameOf 8) (a .names .now)) (a .line .now) (a .at) (sym (tested .before .sign-at .ensures) ∙ not-false _ (tested .if1 .left))
+    (known .before .name .given .0 .0) (named known) (a .n) store (c .if2 .left)
 
 pub read-act-spec : {M : Type 1} → statement M
 read-act-spec =
     tie.close
-    (tie.spec asks-nothing returns add-read-name read-name-requires enum-known-name enum-told asks-nothing returns-2 returns-3 returns-4)
+    (tie.spec asks-nothing returns add-behind sub-read-name part-read-name-start part-read-name-end asks-nothing enum-known-name enum-told asks-nothing
+    add-t18 returns-2 add-next returns-3 returns-4)

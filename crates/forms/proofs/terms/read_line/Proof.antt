@@ -11,7 +11,7 @@ use Rattle.grammar.specs.Text.{onward}
 use Rattle.grammar.specs.Forms.{kinds, ofKind, termLine}
 use Rattle.forms.specs.Kinds.{fartherStep, KindFound}
 use Rattle.faults.proofs.Calls.{asks-nothing}
-use Rattle.forms.proofs.Steps.{stuck-there, went, stays}
+use Rattle.words.proofs.Steps.{stuck-there, went, stays}
 use Rattle.forms.proofs.Operands.{line-become}
 use Rattle.forms.proofs.Farthest.{key-passed, line-farther}
 use Rattle.forms.proofs.Kinded.{kind-stuck-there, kind-to, kind-stays}
@@ -21,9 +21,6 @@ use Rattle.forms.proofs.terms.read_line.Tie as tie
 slice-aggregate-read-literal : tie.Need-slice-aggregate-read-literal
 slice-aggregate-read-literal c = refl
 
-read-literal-requires : tie.Need-read-literal-requires
-read-literal-requires c κs = search needs
-
 enum-known-key : tie.Need-enum-known-key
 enum-known-key c = c .match .keys1
 
@@ -32,18 +29,18 @@ enum-told c = c .match .keys2
 
 returns : tie.Need-returns
 unfolding termLine
-returns c = ap (λ d. onward d (λ _ r. ofKind kinds r)) (stays (c .before .before .before .read-literal .ensures) (stuck-there (c .before .enum-told .given .1) (c .stuck-at .ensures)) .says)
+returns c = ap (λ d. onward d (λ _ r. ofKind kinds r)) (stays (c .before .before .before .read-literal .ensures .steps) (stuck-there (c .before .enum-told .given .1) (c .stuck-at .ensures)) .says)
 
 find-kind-requires : tie.Need-find-kind-requires
 find-kind-requires c κs =
-    let s = went (c .before .before .before .read-literal .ensures) (c .before .key .given .1) in
+    let s = went (c .before .before .before .read-literal .ensures .steps) (c .before .key .given .1) in
     (omega (arith, key-passed (ascii "term=") (c .before .before .before .before .before .before .before .before .args .line .now) _ (s .within) (s .says)), s .within)
 
 -- the rest of the line, after its key
 passed : (c : tie.After-find-kind)
     → ofKind kinds (drop (c .before .before .key .given .0 .1 .0) (c .before .before .before .before .before .before .before .before .before .args .line .now)) ≡ termLine (c .before .before .before .before .before .before .before .before .before .args .line .now)
 unfolding termLine
-passed c = ap (λ d. onward d (λ _ r. ofKind kinds r)) (went (c .before .before .before .before .read-literal .ensures) (c .before .before .key .given .1) .says)
+passed c = ap (λ d. onward d (λ _ r. ofKind kinds r)) (went (c .before .before .before .before .read-literal .ensures .steps) (c .before .before .key .given .1) .says)
 
 enum-known-kind : tie.Need-enum-known-kind
 enum-known-kind c = c .match2 .keys1
@@ -65,7 +62,7 @@ read-kind-requires : tie.Need-read-kind-requires
 read-kind-requires c κs =
     let f = found (c .before) in
     let p = c .before .before .before .before .before .before .before .before .before .before .before .before .before .pre in
-    (f .within, p .0, p .1, p .2, f .known)
+    (f .within, p .0, p .1, f .known)
 
 same-length : tie.Need-same-length
 same-length c = search needs
@@ -83,5 +80,5 @@ returns-3 c =
 pub read-line-spec : {M : Type 1} → statement M
 read-line-spec =
     tie.close
-    (tie.spec slice-aggregate-read-literal read-literal-requires enum-known-key enum-told asks-nothing returns find-kind-requires
+    (tie.spec slice-aggregate-read-literal asks-nothing enum-known-key enum-told asks-nothing returns find-kind-requires
     enum-known-kind enum-told-2 asks-nothing returns-2 read-kind-requires asks-nothing same-length returns-3)

@@ -3,22 +3,19 @@
 use borrow.Author.Needs.{needs}
 use mathlib.Core.Path.{_≡_}
 use mathlib.Core.List.{map}
+use native.Mathlib.Omega.{arith}
 use lib.ListN.{length}
 use Rattle.table.specs.Decoded.{nameOf}
 use Rattle.faults.proofs.Calls.{asks-nothing}
 use Rattle.forms.proofs.Slotted.{term-stays, term-taken}
-use native.Mathlib.Omega.{arith}
 use Rattle.forms.proofs.terms.read_term.Statement.{statement}
 use Rattle.forms.proofs.terms.read_term.Tie as tie
 
 returns : tie.Need-returns
-returns c terms e i h j k = absurd (omega arith)
+returns c terms e i h j = absurd (omega arith)
 
 returns-2 : tie.Need-returns-2
-returns-2 c terms e i h j k = absurd (omega arith)
-
-returns-3 : tie.Need-returns-3
-returns-3 c terms e i h j k = absurd (omega arith)
+returns-2 c terms e i h j = absurd (omega arith)
 
 read-line-requires : tie.Need-read-line-requires
 read-line-requires c κs = search needs
@@ -32,24 +29,28 @@ enum-told c = c .match .keys2
 same-length : tie.Need-same-length
 same-length c = search needs
 
-returns-4 : tie.Need-returns-4
-returns-4 c terms e i h j k =
-    let a = c .before .before .before .before .before .before .before .before .before .before .before .before .before .args in
-    let l : length (c .before .before .before .before .read-line .last .1 .1 .1 .0) ≡ length (a .store .now) = search needs in
-    term-stays (map (nameOf 8) (a .names .now)) (a .equations) terms (a .slots .now) (omega arith) e (a .n) i (a .line .now) (a .store .now) (c .before .before .before .before .read-line .last .1 .1 .1 .0) l
-    (c .before .before .before .before .read-line .result) (c .enum-told .given .1) (c .before .before .before .before .read-line .ensures)
+returns-3 : tie.Need-returns-3
+returns-3 c terms e i h j =
+    let read = c .before .before .before .before in
+    let a = read .before .before .before .before .before .before .before .before .args in
+    let after = read .read-line .last .1 .1 .1 .0 in
+    let l : length after ≡ length (a .store .now) = search needs in
+    term-stays (map (nameOf 8) (a .names .now)) (a .equations) terms (a .slots .now) (omega arith) e (a .n) i (a .line .now) (a .store .now) after l
+    (read .read-line .result) (c .enum-told .given .1) (read .read-line .ensures)
 
 same-length-2 : tie.Need-same-length-2
 same-length-2 c = search needs
 
-returns-5 : tie.Need-returns-5
-returns-5 c terms e i h j k =
-    let a = c .before .before .before .before .before .before .before .before .before .before .before .before .before .before .before .args in
-    let l : length (c .before .before .before .before .before .before .read-line .last .1 .1 .1 .0) ≡ length (a .store .now) = search needs in
-    term-taken (map (nameOf 8) (a .names .now)) (a .equations) terms (a .slots .now) (omega arith) e (a .n) i (a .line .now) (a .store .now) (c .before .before .before .before .before .before .read-line .last .1 .1 .1 .0) l
-    (c .before .before .said .given .1) (c .before .before .before .before .before .before .read-line .ensures) (c .joined-fault .ensures)
+returns-4 : tie.Need-returns-4
+returns-4 c terms e i h j =
+    let read = c .before .before .before .before .before .before in
+    let a = read .before .before .before .before .before .before .before .before .args in
+    let after = read .read-line .last .1 .1 .1 .0 in
+    let l : length after ≡ length (a .store .now) = search needs in
+    term-taken (map (nameOf 8) (a .names .now)) (a .equations) terms (a .slots .now) (omega arith) e (a .n) i (a .line .now) (a .store .now) after l
+    (c .before .before .said .given .1) (read .read-line .ensures) (c .joined-fault .ensures)
 
 pub read-term-spec : {M : Type 1} → statement M
 read-term-spec =
     tie.close
-    (tie.spec returns returns-2 returns-3 read-line-requires enum-known-said enum-told same-length returns-4 asks-nothing same-length-2 returns-5)
+    (tie.spec returns returns-2 read-line-requires enum-known-said enum-told same-length returns-3 asks-nothing same-length-2 returns-4)

@@ -3,7 +3,7 @@
 use borrow.Author.Needs.{needs}
 use native.Mathlib.Omega.{arith}
 use Rattle.faults.specs.CodedFaults.{faultOf}
-use Rattle.forms.proofs.Steps.{went, says-stuck}
+use Rattle.words.proofs.Steps.{went, stays}
 use Rattle.faults.proofs.Calls.{asks-nothing}
 use Rattle.reading.proofs.Walking.{refuses, line-lacks, line-there, line-taken, next-spot}
 use Rattle.reading.proofs.Taking.{number-stuck, number-low, number-high, number-between}
@@ -35,7 +35,7 @@ returns-2 : tie.Need-returns-2
 returns-2 c =
     refuses
     (line-there _ (c .before .before .before .before .before .before .before .before .args .line) (c .before .before .before .before .before .line-end .ensures) (c .before .before .before .before .if1 .left)
-    (number-stuck (c .before .before .before .before .before .before .before .before .args .key .now) (c .before .before .before .before .before .before .before .before .args .low) (c .before .before .before .before .before .before .before .before .args .below) (faultOf (c .before .before .before .before .before .before .before .before .args .fault)) _ (says-stuck (c .before .before .read-count .ensures) (c .enum-told .given .1))))
+    (number-stuck (c .before .before .before .before .before .before .before .before .args .key .now) (c .before .before .before .before .before .before .before .before .args .low) (c .before .before .before .before .before .before .before .before .args .below) (faultOf (c .before .before .before .before .before .before .before .before .args .fault)) _ (stays (c .before .before .read-count .ensures) (c .enum-told .given .1) .says)))
 
 returns-3 : tie.Need-returns-3
 returns-3 c =

@@ -6,7 +6,7 @@ use mathlib.Core.List.{map}
 use native.Mathlib.Omega.{arith}
 use borrow.Author.Tests.{not-true, not-false}
 use Rattle.table.specs.Decoded.{nameOf}
-use Rattle.forms.proofs.Steps.{went, says-stuck}
+use Rattle.words.proofs.Steps.{went, stays}
 use Rattle.faults.proofs.Calls.{asks-nothing}
 use Rattle.reading.proofs.Walking.{line-lacks, line-there, line-taken, next-spot}
 use Rattle.reading.proofs.Taking.{name-stuck, name-held, name-free}
@@ -39,7 +39,7 @@ returns-2 c =
     record {
       says =
           line-there _ (c .before .before .before .before .before .before .before .before .args .line) (c .before .before .before .before .before .line-end .ensures) (c .before .before .before .before .if1 .left)
-          (name-stuck (map (nameOf 8) (c .before .before .before .before .before .before .before .before .args .names .now)) _ (says-stuck (c .before .before .read-name-line .ensures) (c .enum-told .given .1)));
+          (name-stuck (map (nameOf 8) (c .before .before .before .before .before .before .before .before .args .names .now)) _ (stays (c .before .before .read-name-line .ensures) (c .enum-told .given .1) .says));
       spot = tt;
     }
 

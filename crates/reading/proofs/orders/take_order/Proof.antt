@@ -11,7 +11,7 @@ use Rattle.grammar.specs.Faults.{orderSaid}
 use Rattle.forms.specs.Orders.{OrderRead}
 use Rattle.faults.proofs.Calls.{asks-nothing}
 use Rattle.reading.proofs.Walking.{line-lacks, line-there, line-taken, next-spot}
-use Rattle.reading.proofs.Termed.{part-short, found-fine, order-stuck, order-fine, order-faulty}
+use Rattle.reading.proofs.Termed.{found-fine, order-stuck, order-fine, order-faulty}
 use Rattle.reading.proofs.orders.take_order.Statement.{statement}
 use Rattle.reading.proofs.orders.take_order.Tie as tie
 
@@ -33,7 +33,7 @@ part-read-order-end c = search needs
 -- what the reader says of the line
 line-read : (c : tie.After-read-order)
     → OrderRead (map (nameOf 8) (c .before .before .before .before .before .before .before .before .args .names .now)) (take (c .before .before .before .before .line-end .result - c .before .before .before .before .before .before .before .before .args .at) (drop (c .before .before .before .before .before .before .before .before .args .at) (c .before .before .before .before .before .before .before .before .args .text .now))) (c .before .before .before .before .before .before .before .before .args .store .now) (c .read-order .last .1 .1 .0) (c .read-order .result)
-line-read c = c .read-order .ensures (c .before .before .before .before .before .before .before .before .pre .1) (part-short (c .before .before .before .before .before .before .before .before .args .text .now) (c .before .before .before .before .before .before .before .before .args .at) (c .before .before .before .before .line-end .result - c .before .before .before .before .before .before .before .before .args .at) (c .before .before .before .before .before .before .before .before .pre .0 .short))
+line-read c = c .read-order .ensures (c .before .before .before .before .before .before .before .before .pre .1)
 
 enum-known-step : tie.Need-enum-known-step
 enum-known-step c = c .match .keys1

@@ -13,7 +13,7 @@ use Rattle.reading.specs.Walks.{TermsBefore}
 use Rattle.forms.specs.Terms.{TermRead}
 use Rattle.faults.proofs.Calls.{asks-nothing}
 use Rattle.reading.proofs.Walking.{line-lacks, line-there, line-taken, next-spot}
-use Rattle.reading.proofs.Termed.{part-short, found-fine, term-stuck, term-fine, term-faulty}
+use Rattle.reading.proofs.Termed.{found-fine, term-stuck, term-fine, term-faulty}
 use Rattle.reading.proofs.terms.take_term.Statement.{statement}
 use Rattle.reading.proofs.terms.take_term.Tie as tie
 
@@ -35,7 +35,7 @@ part-read-term-end c = search needs
 -- what the reader says of the line
 line-read : (c : tie.After-read-term) (terms : List D.Term) → TermsBefore terms (c .before .before .before .before .before .before .before .before .before .args .slots .now) (c .before .before .before .before .before .before .before .before .before .args .n)
     → TermRead (map (nameOf 8) (c .before .before .before .before .before .before .before .before .before .args .names .now)) (c .before .before .before .before .before .before .before .before .before .args .equations) terms (take (c .before .before .before .before .line-end .result - c .before .before .before .before .before .before .before .before .before .args .at) (drop (c .before .before .before .before .before .before .before .before .before .args .at) (c .before .before .before .before .before .before .before .before .before .args .text .now))) (c .before .before .before .before .before .before .before .before .before .args .store .now) (c .read-term .last .1 .1 .1 .1 .1 .0) (c .read-term .result)
-line-read c terms b = c .read-term .ensures terms (b .kept) (b .counted) (c .before .before .before .before .before .before .before .before .before .pre .1) (c .before .before .before .before .before .before .before .before .before .pre .2) (part-short (c .before .before .before .before .before .before .before .before .before .args .text .now) (c .before .before .before .before .before .before .before .before .before .args .at) (c .before .before .before .before .line-end .result - c .before .before .before .before .before .before .before .before .before .args .at) (c .before .before .before .before .before .before .before .before .before .pre .0 .short))
+line-read c terms b = c .read-term .ensures terms (b .kept) (b .counted) (c .before .before .before .before .before .before .before .before .before .pre .1) (c .before .before .before .before .before .before .before .before .before .pre .2)
 
 enum-known-step : tie.Need-enum-known-step
 enum-known-step c = c .match .keys1

@@ -1,0 +1,200 @@
+-- The lists, entry by entry, with their words over the start of a store.
+-- Assumes nothing.
+use mathlib.Core.Path.{_≡_, refl, sym, ap, ap₂, subst, _∙_}
+use mathlib.Core.Bool.{Bool, true, false}
+use mathlib.Core.List.{List, [], _∷_, _++_, map, append-assoc, append-nil}
+use Rattle.table.specs.Decoded.{nameOf}
+use Rattle.words.proofs.Steps.{IsStuck, restAt, rest-drop}
+use Prim.Native.Nat.{ℕ, suc, _+_, _*_, _≤_, _<_, _^_}
+use native.Mathlib.Omega.{arith}
+use native.Mathlib.Nat.{le-refl}
+use lib.Dec.{ltb}
+use lib.ListN.{length, drop, set, length-append, drop-of-length-le}
+use Rattle.meaning.specs.Bytes.{Text}
+use Rattle.grammar.specs.Text.{Past, past, stuck, onward, word, separatedOn}
+use Rattle.grammar.specs.Forms.{part, label, pair, rule}
+use borrow.Author.Tests.{le-leb, ltb-true, ltb-false}
+use Rattle.grammar.specs.Faults.{fine, worst, rising}
+use Rattle.lists.specs.Tallies.{Said, weightOf, allFaults}
+use Rattle.lists.specs.Entries.{nameEntry, pairEntry, ruleEntry, labelEntry}
+use Rattle.lists.specs.Lists.{entryOf, listFaults, weightFor, limitFor, wordCount, entryWord, entryWords, listWords, entryStored, over, wholeList, withFew, ListRead}
+use Rattle.lists.specs.declared.SaidStep.{SaidStep}
+use Rattle.lists.specs.declared.SaidStep.the-variants as S
+use Rattle.faults.specs.declared.Found.the-variants.{Fine}
+use Rattle.lists.specs.declared.ListKind.{ListKind}
+use Rattle.lists.specs.declared.ListKind.the-variants.{Names, Pairs, Rules, Labels}
+use Rattle.lists.proofs.Seen.{said-same}
+use Rattle.lists.proofs.Parts.{name-low, label-small}
+
+-- words over the start of a store, one more
+over-one : (ws store : List ℕ) (a : ℕ) → over (ws ++ (a ∷ [])) store ≡ set (over ws store) (length ws) a
+unfolding over
+over-one [] [] a = refl
+over-one [] (x ∷ store) a = refl
+over-one (w ∷ ws) [] a = refl
+over-one (w ∷ ws) (x ∷ store) a = ap (λ l. w ∷ l) (over-one ws store a)
+
+over-two : (ws store : List ℕ) (a b : ℕ) → over (ws ++ (a ∷ b ∷ [])) store ≡ set (set (over ws store) (length ws) a) (length ws + 1) b
+over-two ws store a b =
+    ap (λ l. over l store) (sym (append-assoc ws (a ∷ []) (b ∷ [])))
+    ∙ over-one (ws ++ (a ∷ [])) store b
+    ∙ ap₂ (λ l n. set l n b) (over-one ws store a) (length-append ws (a ∷ []))
+
+pub over-entry : (kind : ListKind) (ws store : List ℕ) (e : Said)
+    → over (ws ++ entryWords kind e) store ≡ entryStored (wordCount kind) (over ws store) (length ws) (entryWord kind (e .first) (e .second)) (e .second)
+over-entry Names ws store e = over-one ws store (e .first)
+over-entry Pairs ws store e = over-one ws store (e .first + 32 * e .second)
+over-entry Rules ws store e = over-two ws store (e .first) (e .second)
+over-entry Labels ws store e = over-one ws store (e .first)
+
+pub length-over : (ws store : List ℕ) → length (over ws store) ≡ length store
+unfolding over
+length-over [] store = refl
+length-over (w ∷ ws) [] = refl
+length-over (w ∷ ws) (x ∷ store) = ap suc (length-over ws store)
+
+pub words-snoc : (kind : ListKind) (es : List Said) (e : Said) → listWords kind (es ++ (e ∷ [])) ≡ listWords kind es ++ entryWords kind e
+unfolding listWords
+words-snoc kind [] e = append-nil (entryWords kind e)
+words-snoc kind (d ∷ es) e = rw (words-snoc kind es e, append-assoc)
+
+pub words-count : (kind : ListKind) (e : Said) → length (entryWords kind e) ≡ wordCount kind
+words-count Names e = refl
+words-count Pairs e = refl
+words-count Rules e = refl
+words-count Labels e = refl
+
+pub count-most : (kind : ListKind) → wordCount kind ≤ 2
+count-most Names = omega arith
+count-most Pairs = omega arith
+count-most Rules = omega arith
+count-most Labels = omega arith
+
+-- The number of an entry leaves room for the next, and its word is one.
+abbrev Small : ListKind → Said → Type 0
+Small kind e = (e .first < 2 ^ 63) × (entryWord kind (e .first) (e .second) < 2 ^ 64)
+
+abbrev SmallPast : ListKind → Past Said → Type 0
+SmallPast kind (past e r) = Small kind e
+SmallPast kind (stuck r) = Unit {0}
+
+small-seen : {A : Type 0} (kind : ListKind) (say : A → Said) → ((a : A) → Small kind (say a)) → (x : Past A) → SmallPast kind (onward x (λ a r. past (say a) r))
+small-seen kind say h (past a r) = h a
+small-seen kind say h (stuck r) = tt
+
+module _ (words : List Text) (few : length words ≤ 12) where
+  small-entry : (kind : ListKind) (s : Text) → SmallPast kind (entryOf words kind s)
+  small-entry Names s = small-seen Names (nameEntry words) (λ w. let l = name-low words w in (omega arith, omega arith)) (word s)
+  small-entry Pairs s =
+      small-seen Pairs (pairEntry words) (λ p. let l = name-low words (p .left) in let r = name-low words (p .right) in (omega arith, omega arith)) (pair s)
+  small-entry Rules s = small-seen Rules (ruleEntry words) (λ r. let l = label-small words few (r .left) in (l, omega arith)) (rule s)
+  small-entry Labels s = small-seen Labels (labelEntry words) (λ ps. let l = label-small words few ps in (l, omega arith)) (label s)
+
+  pub entry-small : (kind : ListKind) (s : Text) {e : Said} {r : Text} → past e r ≡ entryOf words kind s
+      → (e .first < 2 ^ 63) × (entryWord kind (e .first) (e .second) < 2 ^ 64)
+  entry-small kind s h = let k = small-entry kind s in rw (← h) at k
+
+-- Where nothing stands no entry is read.
+entry-none : (words : List Text) (kind : ListKind) → entryOf words kind [] ≡ stuck []
+unfolding word part pair rule separatedOn
+entry-none words Names = refl
+entry-none words Pairs = refl
+entry-none words Rules = refl
+entry-none words Labels = refl
+
+pub entry-within : (words : List Text) (kind : ListKind) (line : Text) (from : ℕ) {e : Said} {r : Text} → past e r ≡ entryOf words kind (drop from line)
+    → from < length line
+entry-within words kind line from {e} {r} h = cases (ltb from (length line)) refl
+  where
+    cases : (t : Bool) → ltb from (length line) ≡ t → from < length line
+    cases true k = ltb-true from (length line) k
+    cases false k =
+        let z : past e r ≡ entryOf words kind [] = rw (drop-of-length-le line (ltb-false from (length line) k)) at h in
+        absurd (subst IsStuck (sym (z ∙ entry-none words kind)) tt)
+
+-- What was put into the store so far.
+pub record Filled (kind : ListKind) (before : List ℕ) (es : List Said) (entries index : ℕ) (store : List ℕ) : Type 0 where
+  pub entries-are : entries ≡ length es
+  pub index-is : index ≡ length (listWords kind es)
+  pub index-most : index ≤ 2 * entries
+  pub store-is : store ≡ over (listWords kind es) before
+
+module _ (kind : ListKind) (before : List ℕ) where
+  pub filled-none : Filled kind before [] 0 0 before
+  unfolding over listWords
+  filled-none = record { entries-are = refl; index-is = refl; index-most = omega arith; store-is = refl }
+
+  pub filled-more : {es : List Said} {entries index size : ℕ} {store after : List ℕ} (e : Said) → Filled kind before es entries index store → size ≡ wordCount kind
+      → after ≡ entryStored size store index (entryWord kind (e .first) (e .second)) (e .second) → Filled kind before (es ++ (e ∷ [])) (entries + 1) (index + size) after
+  filled-more {es} {entries} {index} {size} {store} {after} e f s a =
+      let w = words-snoc kind es e in
+      let m = count-most kind in
+      record {
+        entries-are = omega (arith, f .entries-are, length-append es (e ∷ []));
+        index-is = omega (arith, f .index-is, s, ap length w, length-append (listWords kind es) (entryWords kind e), words-count kind e);
+        index-most = omega (arith, f .index-most, s);
+        store-is =
+            a ∙ rw (s, f .store-is, f .index-is, w) (sym (over-entry kind (listWords kind es) before e));
+      }
+
+-- What a list that was read says of any reading of it.
+abbrev listIn : Past (List Said) → List Said
+listIn (past es r) = es
+listIn (stuck r) = []
+
+abbrev IsPast : Past (List Said) → Type 0
+IsPast (past es r) = Unit {0}
+IsPast (stuck r) = ⊥
+
+pub not-read : {es : List Said} {p t : Text} {due : Past (List Said)} → stuck t ≡ due → past es p ≡ due → ⊥
+not-read h k = subst IsPast (k ∙ sym h) tt
+
+pub as-read : {es ds : List Said} {p t : Text} {due : Past (List Said)} → past ds t ≡ due → past es p ≡ due → ds ≡ es
+as-read h k = ap listIn (h ∙ sym k)
+
+pub weight-most : (kind : ListKind) → weightFor kind ≤ 1
+weight-most Names = omega arith
+weight-most Pairs = omega arith
+weight-most Rules = omega arith
+weight-most Labels = omega arith
+
+pub limit-most : (kind : ListKind) → limitFor kind ≤ 32
+limit-most Names = omega arith
+limit-most Pairs = omega arith
+limit-most Rules = omega arith
+limit-most Labels = omega arith
+
+-- The empty list, as it is said.
+pub list-none : (kind : ListKind) → fine ≡ listFaults kind []
+unfolding allFaults worst rising weightOf
+list-none kind = rw (le-leb 0 (limitFor kind) (omega arith))
+
+pub over-none : (kind : ListKind) (store : List ℕ) → store ≡ over (listWords kind []) store
+unfolding over listWords
+over-none kind store = refl
+
+pub none-read : (kind : ListKind) (line : Text) (store : List ℕ)
+    → ListRead kind line (past [] []) store store (S.To (record { fault = Fine; first = 0; second = 0 }) (length line))
+none-read kind line store =
+    record {
+      read =
+          record {
+            stands =
+                record {
+                  says = ap₂ {C = Past Said} past (said-same (list-none kind) refl refl) (drop-of-length-le line (le-refl (length line)));
+                  within = le-refl (length line);
+                };
+          };
+      stored = λ es p h. over-none kind store ∙ ap (λ l. over (listWords kind l) store) (sym (as-read h refl));
+    }
+
+-- More names than a description has.
+pub many-read : (kind : ListKind) (line : Text) (before after : List ℕ) → ListRead kind line (stuck line) before after (S.Stuck 0)
+many-read kind line before after =
+    record { read = record { stands = record { says = refl; within = omega arith } }; stored = λ es p h. absurd (not-read refl h) }
+
+-- A list at a place of the line, with few enough names.
+pub list-there : (names : List ℕ) (kind : ListKind) (line : Text) (at : ℕ) {before after : List ℕ} {r : SaidStep} → length names ≤ 12 → at ≤ length line
+    → ListRead kind (restAt line at) (withFew names (wholeList (map (nameOf 8) names) kind (restAt line at)) (restAt line at)) before after r
+    → ListRead kind (drop at line) (wholeList (map (nameOf 8) names) kind (drop at line)) before after r
+list-there names kind line at few h l = rw (le-leb (length names) 12 few, rest-drop line at h) at l

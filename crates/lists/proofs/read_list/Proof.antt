@@ -1,0 +1,207 @@
+-- `lists::read_list` meets its contract: entry after entry, what was read and what is to come are the list.
+-- Assumes nothing.
+use borrow.Author.Needs.{needs}
+use mathlib.Core.Path.{_≡_, refl, sym, ap, _∙_}
+use mathlib.Core.List.{List, [], _∷_, _++_, map}
+use Prim.Native.Nat.{_+_, _*_, _-_, _≤_, _<_, _^_}
+use native.Mathlib.Omega.{arith}
+use borrow.Author.Tests.{not-true, not-false}
+use lib.ListN.{length, drop, length-map}
+use Rattle.table.specs.Decoded.{nameOf}
+use Rattle.grammar.specs.Text.{past}
+use Rattle.grammar.specs.Forms.{comma}
+use Rattle.faults.proofs.Calls.{asks-nothing}
+use Rattle.words.specs.Steps.{Stands}
+use Rattle.words.proofs.Steps.{otherwise}
+use Rattle.lists.specs.Tallies.{Said}
+use Rattle.lists.specs.Entries.{saidOf}
+use Rattle.lists.specs.Lists.{entryOf, weightFor, limitFor, wordCount, entryWord, entryStored, listEntry, listWords, over}
+use Rattle.lists.proofs.Seen.{said-stuck-there, said-went-on, said-stays-on, said-same}
+use Rattle.lists.proofs.Tallied.{Tallied, tallied-none, tallied-more}
+use Rattle.lists.proofs.Gathered.{Progress, begun, list-stuck, list-ends, list-goes-on, ended-with, stuck-with}
+use Rattle.lists.proofs.Listed.{length-over, entry-small, Filled, filled-none, filled-more, entry-within, not-read, as-read, count-most, weight-most, limit-most}
+use Rattle.lists.proofs.read_list.Statement.{statement}
+use Rattle.lists.proofs.read_list.Tie as tie
+
+-- Some entries were read; the tally, the count and the store are theirs. (Each took two bytes at least, with its comma.)
+abbrev Inv-loop : tie.InvT-loop
+Inv-loop kind rest names store₀ shape tally₀ entries₀ index₀ from₀ store tally entries index from =
+    (es : List Said) × Progress comma (entryOf (map (nameOf 8) names) kind) rest from es × Tallied (λ e. weightFor kind) (limitFor kind) es tally
+    × Filled kind store₀ es entries index store × (entries ≤ from) × (shape .size ≡ wordCount kind) × (shape .weight ≡ weightFor kind)
+    × (shape .limit ≡ limitFor kind)
+
+abbrev μ-loop : tie.MeasureT-loop
+μ-loop kind rest names store₀ shape tally₀ entries₀ index₀ from₀ store tally entries index from = length rest - from
+
+loop-holds : tie.Need-loop-holds Inv-loop μ-loop
+loop-holds c =
+    let shape = c .shape-of .ensures in
+    ([], begun _ _ _, tallied-none _ _, filled-none _ _, omega arith, shape .0, shape .1, shape .2)
+
+sub-read-entry : tie.Need-sub-read-entry Inv-loop μ-loop
+sub-read-entry c = omega (arith, c .loop .inv .1 .within)
+
+part-read-entry-start : tie.Need-part-read-entry-start Inv-loop μ-loop
+part-read-entry-start c = c .loop .inv .1 .within
+
+part-read-entry-end : tie.Need-part-read-entry-end Inv-loop μ-loop
+part-read-entry-end c = search needs
+
+read-entry-requires : tie.Need-read-entry-requires Inv-loop μ-loop
+read-entry-requires c κs = c .before .before .before .before .before .before .pre
+
+enum-known-entry : tie.Need-enum-known-entry Inv-loop μ-loop
+enum-known-entry c = c .match .keys1
+
+enum-told : tie.Need-enum-told Inv-loop μ-loop
+enum-told c = c .match .keys2
+
+same-length : tie.Need-same-length Inv-loop μ-loop
+same-length c = ap length (c .before .before .before .before .before .loop .inv .3 .store-is) ∙ length-over _ _
+
+returns : tie.Need-returns Inv-loop μ-loop
+returns c =
+    let read = c .before .before .before in
+    let loop = read .before .before .loop in
+    let a = read .before .before .before .before .before .before .before .args in
+    let s =
+    list-stuck (loop .inv .1)
+    (said-stays-on (entryOf (map (nameOf 8) (a .names .now)) (a .kind)) (a .rest .now) (loop .from) (loop .inv .1 .within) (read .read-entry .ensures)
+    (said-stuck-there (c .before .enum-told .given .1) (c .said-stuck-at .ensures))) in
+    record { read = record { stands = stuck-with (listEntry (a .kind)) s }; stored = λ es p h. absurd (not-read (s .says) h) }
+
+add-t24 : tie.Need-add-t24 Inv-loop μ-loop
+add-t24 c = let s = returns c .read .stands .within in omega arith
+
+-- the entry that was read, in the line
+went : (c : tie.After-known-told Inv-loop μ-loop)
+    → let read = c .before .before .before in
+    let from = read .before .before .loop .from in
+    let a = read .before .before .before .before .before .before .before .args in
+    let next = from + c .before .entry .given .0 .1 .0 in
+    Stands (a .rest .now) next (past (saidOf (c .before .entry .given .0 .0)) (drop next (a .rest .now)))
+    (entryOf (map (nameOf 8) (a .names .now)) (a .kind) (drop from (a .rest .now)))
+went c =
+    let read = c .before .before .before in
+    let loop = read .before .before .loop in
+    let a = read .before .before .before .before .before .before .before .args in
+    said-went-on (entryOf (map (nameOf 8) (a .names .now)) (a .kind)) (a .rest .now) (loop .from) (loop .inv .1 .within) (read .read-entry .ensures)
+    (c .before .entry .given .1)
+
+add-next : tie.Need-add-next Inv-loop μ-loop
+add-next c = let s = went c .within in omega arith
+
+entered : (c : tie.After-known-told Inv-loop μ-loop)
+    → let e = c .before .entry .given .0 .0 in
+    let a = c .before .before .before .before .before .before .before .before .before .before .args in
+    (e .first < 2 ^ 63) × (entryWord (a .kind) (e .first) (e .second) < 2 ^ 64)
+entered c =
+    let start = c .before .before .before .before .before .before .before .before .before .before in
+    entry-small _ (rw length-map (start .pre)) (start .args .kind) _ (went c .says)
+
+entry-word-requires : tie.Need-entry-word-requires Inv-loop μ-loop
+entry-word-requires c κs = entered (c .before) .1
+
+tallied : (c : tie.After-counted Inv-loop μ-loop)
+    → let l = c .before .before .before .before .before .before in
+    let kind = l .before .before .before .before .before .args .kind in
+    Tallied (λ e. weightFor kind) (limitFor kind) (l .loop .inv .0 ++ (saidOf (c .before .before .entry .given .0 .0) ∷ [])) (c .counted .result)
+tallied c =
+    let l = c .before .before .before .before .before .before in
+    let kind = l .before .before .before .before .before .args .kind in
+    let i = l .loop .inv in
+    let k = c .counted .ensures in
+    let w = weight-most kind in
+    let m = limit-most kind in
+    tallied-more (λ e. weightFor kind) (limitFor kind) (saidOf (c .before .before .entry .given .0 .0)) (i .2)
+    (record { keys = entered (c .before) .0; totals = omega (arith, i .2 .totals); weights = omega arith; limits = omega arith }) (rw (i .6, i .7) at k)
+
+-- There are fewer entries before this one than bytes, so that twice as many words can be counted.
+counts : (c : tie.After-known-told Inv-loop μ-loop)
+    → let l = c .before .before .before .before .before .loop in
+    (l .index + 4 ≤ 2 ^ 64) × (l .entries + 1 < 2 ^ 64)
+counts c =
+    let l = c .before .before .before .before .before in
+    let start = l .before .before .before .before .before in
+    let i = l .loop .inv in
+    let w = entry-within (map (nameOf 8) (start .args .names .now)) (start .args .kind) (start .args .rest .now) (l .loop .from) (went c .says) in
+    let g = start .good .1 .0 in
+    (omega (arith, i .3 .index-most, i .4), omega (arith, i .4))
+
+put-entry-requires : tie.Need-put-entry-requires Inv-loop μ-loop
+put-entry-requires c κs = let n = counts (c .before .before .before) in omega arith
+
+filled : (c : tie.After-put-entry Inv-loop μ-loop)
+    → let l = c .before .before .before .before .before .before .before .before .before in
+    let a = l .before .before .before .before .before .args in
+    Filled (a .kind) (a .store .now) (l .loop .inv .0 ++ (saidOf (c .before .before .before .before .before .entry .given .0 .0) ∷ [])) (l .loop .entries + 1)
+    (l .loop .index + l .before .shape-of .result .size) (c .put-entry .last .0)
+filled c =
+    let l = c .before .before .before .before .before .before .before .before .before in
+    let a = l .before .before .before .before .before .args in
+    let e = c .before .before .before .before .before .entry .given .0 .0 in
+    filled-more (a .kind) (a .store .now) (saidOf e) (l .loop .inv .3) (l .loop .inv .5)
+    (c .put-entry .ensures
+    ∙ ap (λ w. entryStored (l .before .shape-of .result .size) (l .loop .store) (l .loop .index) w (e .second)) (c .before .before .entry-word .ensures))
+
+add-index : tie.Need-add-index Inv-loop μ-loop
+add-index c =
+    let known = c .before .before .before .before .before .before .before in
+    let l = known .before .before .before .before .before in
+    let m = count-most (l .before .before .before .before .before .args .kind) in
+    let n = counts known in
+    omega (arith, l .loop .inv .5)
+
+add-entries : tie.Need-add-entries Inv-loop μ-loop
+add-entries c = let n = counts (c .before .before .before .before .before .before .before) in omega arith
+
+same-length-2 : tie.Need-same-length-2 Inv-loop μ-loop
+same-length-2 c = ap length (filled (c .before .before .before .before .before) .store-is) ∙ length-over _ _
+
+returns-2 : tie.Need-returns-2 Inv-loop μ-loop
+returns-2 c =
+    let put = c .before .before .before .before .before in
+    let known = put .before .before .before .before in
+    let l = known .before .before .before .before .before in
+    let a = l .before .before .before .before .before .args in
+    let s = list-ends (l .loop .inv .1) (went known) (sym (c .before .sign-at .ensures) ∙ not-true _ (c .if1 .taken)) in
+    let f = filled put in
+    record {
+      read =
+          record { stands = otherwise (ended-with (listEntry (a .kind)) s) (said-same (tallied (put .before .before .before) .faults) (f .entries-are) refl) };
+      stored = λ es p h. f .store-is ∙ ap (λ l. over (listWords (a .kind) l) (a .store .now)) (as-read (s .says) h);
+    }
+
+-- the comma lies in the line
+loop-again : tie.Need-loop-again Inv-loop μ-loop
+loop-again c =
+    let put = c .before .before .before .before .before in
+    let known = put .before .before .before .before in
+    let i = known .before .before .before .before .before .loop .inv in
+    let p = list-goes-on (i .1) (went known) (omega arith) (sym (c .before .sign-at .ensures) ∙ not-false _ (c .if1 .left)) in (
+      i .0 ++ (saidOf (known .before .entry .given .0 .0) ∷ []),
+      p,
+      tallied (put .before .before .before),
+      filled put,
+      omega (arith, i .4),
+      i .5,
+      i .6,
+      i .7,
+    )
+
+add-from : tie.Need-add-from Inv-loop μ-loop
+add-from c =
+    let known = c .before .before .before .before .before .before .before .before .before in
+    let start = known .before .before .before .before .before .before .before .before .before .before in
+    let p = loop-again c .1 .within in
+    omega (arith, start .good .1 .0)
+
+loop-less : tie.Need-loop-less Inv-loop μ-loop
+loop-less c = let p = loop-again c .1 .within in omega arith
+
+pub read-list-spec : {M : Type 1} → statement M
+read-list-spec =
+    tie.close
+    (tie.spec Inv-loop μ-loop asks-nothing loop-holds sub-read-entry part-read-entry-start part-read-entry-end read-entry-requires enum-known-entry
+    enum-told asks-nothing add-t24 same-length returns add-next asks-nothing entry-word-requires put-entry-requires add-index add-entries asks-nothing
+    same-length-2 returns-2 add-from loop-less loop-again)

@@ -1,0 +1,107 @@
+-- The lists as the code reads them: one kind of entry after the other, and the words that each puts into the store.
+-- Assumes nothing.
+use mathlib.Core.List.{List, [], _∷_, _++_}
+use mathlib.Core.Bool.{Bool, true, false, _&&_}
+use mathlib.Core.Path.{_≡_}
+use Prim.Native.Nat.{ℕ, _+_, _*_}
+use lib.Dec.{leb, eqb}
+use lib.ListN.{length, set}
+use Rattle.meaning.specs.Bytes.{Text, ascii}
+use Rattle.grammar.specs.Text.{Past, past, stuck, onward, sameText, word, separated}
+use Rattle.grammar.specs.Forms.{comma, label, pair, rule}
+use Rattle.grammar.specs.Faults.{Found}
+use Rattle.lists.specs.Tallies.{Said, allFaults}
+use Rattle.table.specs.Packed.{either}
+use Rattle.lists.specs.Entries.{Says, seen, labelEntry, nameEntry, pairEntry, ruleEntry}
+use Rattle.lists.specs.declared.SaidStep.{SaidStep}
+use Rattle.lists.specs.declared.ListKind.{ListKind}
+use Rattle.lists.specs.declared.ListKind.the-variants.{Names, Pairs, Rules, Labels}
+
+abbrev pub entryOf : List Text → ListKind → Text → Past Said
+entryOf words Names = seen (nameEntry words) word
+entryOf words Pairs = seen (pairEntry words) pair
+entryOf words Rules = seen (ruleEntry words) rule
+entryOf words Labels = seen (labelEntry words) label
+
+-- Only rules and labels have a maximum.
+abbrev pub weightFor : ListKind → ℕ
+weightFor Names = 0
+weightFor Pairs = 0
+weightFor Rules = 1
+weightFor Labels = 1
+
+abbrev pub limitFor : ListKind → ℕ
+limitFor Names = 0
+limitFor Pairs = 0
+limitFor Rules = 8
+limitFor Labels = 32
+
+abbrev pub listFaults : ListKind → List Said → Found
+listFaults kind es = allFaults (λ e. weightFor kind) (limitFor kind) es
+
+-- A list's fault and how many entries it has.
+abbrev pub listEntry : ListKind → List Said → Said
+listEntry kind es = record { found = listFaults kind es; first = length es; second = 0 }
+
+abbrev pub listOf : List Text → ListKind → Text → Past (List Said)
+listOf words kind = separated comma (entryOf words kind)
+
+-- The words of an entry, and of a list.
+abbrev pub wordCount : ListKind → ℕ
+wordCount Names = 1
+wordCount Pairs = 1
+wordCount Rules = 2
+wordCount Labels = 1
+
+-- the first word: a pair is one word, its right side in the next five bits
+abbrev pub entryWord : ListKind → ℕ → ℕ → ℕ
+entryWord Names first second = first
+entryWord Pairs first second = first + 32 * second
+entryWord Rules first second = first
+entryWord Labels first second = first
+
+abbrev pub entryWords : ListKind → Said → List ℕ
+entryWords Names e = e .first ∷ []
+entryWords Pairs e = (e .first + 32 * e .second) ∷ []
+entryWords Rules e = e .first ∷ e .second ∷ []
+entryWords Labels e = e .first ∷ []
+
+unfoldable pub listWords : ListKind → List Said → List ℕ
+listWords kind [] = []
+listWords kind (e ∷ es) = entryWords kind e ++ listWords kind es
+
+abbrev pub withSecond : Bool → List ℕ → ℕ → ℕ → List ℕ
+withSecond true store at second = set store at second
+withSecond false store at second = store
+
+abbrev pub entryStored : ℕ → List ℕ → ℕ → ℕ → ℕ → List ℕ
+entryStored size store at first second = withSecond (eqb size 2) (set store at first) (at + 1) second
+
+-- words over the start of a store, as far as it reaches
+unfoldable pub over : List ℕ → List ℕ → List ℕ
+over [] store = store
+over (w ∷ ws) [] = []
+over (w ∷ ws) (x ∷ store) = w ∷ over ws store
+
+-- `none` is the list of no labels.
+abbrev pub unlessNone : Bool → Past (List Said) → Past (List Said)
+unlessNone true other = past [] []
+unlessNone false other = other
+
+abbrev pub takesNone : ListKind → Bool
+takesNone Names = false
+takesNone Pairs = false
+takesNone Rules = false
+takesNone Labels = true
+
+abbrev pub wholeList : List Text → ListKind → Text → Past (List Said)
+wholeList words kind s = unlessNone (takesNone kind && sameText s (ascii "none")) (listOf words kind s)
+
+-- A description has at most 12 names; with more nothing is read.
+abbrev pub withFew : {A : Type 0} → List ℕ → Past A → Text → Past A
+withFew names due s = either (leb (length names) 12) due (stuck s)
+
+-- A list that is read: its fault and its number of entries, and its words over the start of the store.
+pub record ListRead (kind : ListKind) (line : Text) (due : Past (List Said)) (before after : List ℕ) (r : SaidStep) : Type 0 where
+  pub read : Says line r (onward due (λ es p. past (listEntry kind es) p))
+  pub stored : (es : List Said) (p : Text) → past es p ≡ due → after ≡ over (listWords kind es) before

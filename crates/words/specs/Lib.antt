@@ -1,0 +1,2 @@
+-- What the answers of the readers at the bottom of a line stand for.
+pub mod Steps
