@@ -5,7 +5,7 @@ use places::Growth;
 use sets::Built;
 use ways::Way;
 ghost use lib.ListN.{length, take};
-ghost use Rattle.sets.specs.Parts.{roomAt};
+ghost use Rattle.sets.specs.Parts.{wordsOf, roomAt};
 ghost use Rattle.sets.specs.Building.{Grown};
 ghost use Rattle.growth.specs.Fresh.{newIn};
 ghost use Rattle.shapes.specs.Adding.{eachAdded, addedOf};
