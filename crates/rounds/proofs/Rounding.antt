@@ -26,7 +26,7 @@ use Rattle.terms.specs.Laid.{flat, Begins}
 use Rattle.places.specs.Sameness.{allStay}
 use Rattle.places.specs.Starts.{half, whole, startIn}
 use Rattle.terms.specs.Working.{Kept}
-use Rattle.rounds.specs.Passes.{RoundDone, RoundOver, Between, RoundEnds, Read, Passed}
+use Rattle.rounds.specs.Passes.{RoundDone, Between, Read, Passed}
 use Rattle.rounds.specs.Alphabets.{Reached}
 use Rattle.terms.proofs.Areas.{laid-part, total-take, total-part}
 use Rattle.places.specs.Moving.{lowered, loweredIn}
@@ -92,15 +92,16 @@ module _ (table : Table) (store work₀ : List ℕ) where
     turned-end h d o l e f =
         let b = t .right d o l e f .0 in absurd (let m = rounds-so-far d k (b .unstable) (b .few) in omega arith)
 
-    module _ (starts now : List ℕ) (fits : Bool) (p : Passed (table .slots) (table .bodies) (table .terms) store older before work starts now fits) where
-      pub turned-large : fits ≡ false → Reached table store work₀ now TooLarge
-      turned-large u d o l e f =
-          let x = t .right d o l e f in
-          let y : RoundOver d k work now = subst (λ (b : Bool). RoundEnds b d k before starts work now) u (p .right d o k (read-of d e) f (x .0)) in
-          (passed-answer d o (suc k) (y .passed), kept-trans work₀ work now (x .1) (y .kept))
+    pub turned-large : (starts now : List ℕ) → Passed (table .slots) (table .bodies) (table .terms) store older before work starts now false
+        → Reached table store work₀ now TooLarge
+    turned-large starts now p d o l e f =
+        let x = t .right d o l e f in
+        let y = p .right d o k (read-of d e) f (x .0) in
+        (passed-answer d o (suc k) (y .passed), kept-trans work₀ work now (x .1) (y .kept))
 
-      done : fits ≡ true → (d : D.Description) (o : D.Order) → Legal d o → table ≡ tableOf d → store ≡ storeOf d o → RoundDone d k before starts work now
-      done u d o l e f = subst (λ (b : Bool). RoundEnds b d k before starts work now) u (p .right d o k (read-of d e) f (t .right d o l e f .0))
+    module _ (starts now : List ℕ) (p : Passed (table .slots) (table .bodies) (table .terms) store older before work starts now true) where
+      done : (d : D.Description) (o : D.Order) → Legal d o → table ≡ tableOf d → store ≡ storeOf d o → RoundDone d k before starts work now
+      done d o l e f = p .right d o k (read-of d e) f (t .right d o l e f .0)
 
       -- the bodies of the table are those of the description
       same-bodies : (d : D.Description) (o : D.Order) → Legal d o → table ≡ tableOf d → allStay before starts (take (table .equations) (table .bodies)) ≡ allStay before starts (d .bodies)
@@ -108,12 +109,12 @@ module _ (table : Table) (store work₀ : List ℕ) where
       same-bodies d o l e =
           ap (λ (x : Table). allStay before starts (take (x .equations) (x .bodies))) e ∙ ap (allStay before starts) (bodies-of d (l .equationCount))
 
-      pub turned-stable : fits ≡ true → allStay before starts (take (table .equations) (table .bodies)) ≡ true
+      pub turned-stable : allStay before starts (take (table .equations) (table .bodies)) ≡ true
           → Reached table store work₀ now (At (k + 1) (half + startIn starts (table .root)) (half + startIn starts (suc (table .root))))
       unfolding tableOf
-      turned-stable u s d o l e f =
+      turned-stable s d o l e f =
           let x = t .right d o l e f in
-          let y = done u d o l e f in
+          let y = done d o l e f in
           let sets = roundSets d (suc k) in
           let root : table .root ≡ d .root = ap (λ (z : Table). z .root) e in
           let st : Stable d k = stable-if d k before starts (x .0 .lower .begins) (y .upper .begins) (l .bodies) (subst (λ (b : Bool). T b) (sym (sym (same-bodies d o l e) ∙ s)) tt) in
@@ -132,31 +133,33 @@ module _ (table : Table) (store work₀ : List ℕ) where
           )
 
       -- the sets of the round are lowered
-      pub turned-step : (work′ : List ℕ) (count : ℕ) → fits ≡ true → allStay before starts (take (table .equations) (table .bodies)) ≡ false → length starts ≡ length this → length now ≡ length work → length work′ ≡ length now → count ≡ startIn starts (table .terms)
-          → work′ ≡ loweredIn count now → Turned table store work₀ work′ before starts starts (k + 1)
+      pub turned-step : (work′ : List ℕ) → allStay before starts (take (table .equations) (table .bodies)) ≡ false → length starts ≡ length this
+          → length now ≡ length work → length work′ ≡ length work → work′ ≡ loweredIn (startIn starts (table .terms)) now
+          → Turned table store work₀ work′ before starts starts (k + 1)
       unfolding tableOf
-      turned-step work′ count u s size long also c w =
+      turned-step work′ s size long also w =
+          let count = startIn starts (table .terms) in
           let m : length now ≡ length work₀ = long ∙ t .long in
-          let h : count ≤ half = omega (arith, start-low starts (table .terms)) in
+          let h : count ≤ half = start-low starts (table .terms) in
           let v : work′ ≡ lowered count now = w ∙ lowered-all count now h (omega (arith, t .room)) in
           record {
             few = t .few;
             equations = t .equations;
             room = t .room;
-            long = also ∙ m;
+            long = also ∙ t .long;
             sizeOlder = t .size;
             size = size ∙ t .sizeThis;
             sizeThis = size ∙ t .sizeThis;
             first = p .first;
             right = λ d o l e f.
                 let x = t .right d o l e f in
-                let y = done u d o l e f in
+                let y = done d o l e f in
                 let terms : table .terms ≡ D.termCount d = ap (λ (z : Table). z .terms) e in
                 let all : startIn starts (D.termCount d) ≡ total (roundSets d (suc k)) = y .upper .begins (D.termCount d) (le-refl (D.termCount d)) ∙ ap total (whole-round d k) in
                 let differ : T (allStay before starts (d .bodies)) → ⊥ = λ z. subst (λ (b : Bool). T b) (sym (same-bodies d o l e) ∙ s) z in (
                   subst (λ (n : ℕ). Between d n before starts work′) (sym (add-one k))
                       (between-lowered d k count older before starts work now work′ (x .0) y
-                      (unstable-if d k before starts (x .0 .lower .begins) (y .upper .begins) (l .bodies) differ) (c ∙ ap (startIn starts) terms ∙ all) v),
+                      (unstable-if d k before starts (x .0 .lower .begins) (y .upper .begins) (l .bodies) differ) (ap (startIn starts) terms ∙ all) v),
                   kept-trans work₀ work work′ (x .1) (kept-trans work now work′ (y .kept) (kept-lowered count now work′ (omega arith) (omega (arith, t .room)) v)),
                 );
           }

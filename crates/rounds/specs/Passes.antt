@@ -5,7 +5,7 @@ use mathlib.Core.Bool.{Bool, true, false}
 use mathlib.Core.List.{List}
 use Prim.Native.Nat.{ℕ, suc, pred, _≤_, _<_}
 use lib.Dec.{T}
-use lib.ListN.{length}
+use lib.ListN.{length, take}
 use Rattle.meaning.specs.Descriptions as D
 use Rattle.meaning.specs.Descriptions.{Description, termCount, all}
 use Rattle.meaning.specs.Legal.{Legal}
@@ -13,8 +13,12 @@ use Rattle.meaning.specs.Rounds.{equationSets, roundSets}
 use Rattle.meaning.specs.Limits.{over}
 use Rattle.table.specs.Encoded.{storeOf, tableOf}
 use Rattle.places.specs.Starts.{half, whole, startIn}
+use Rattle.places.specs.Sameness.{allStay}
+use Rattle.places.specs.Moving.{loweredIn}
 use Rattle.terms.specs.Laid.{Begins, Laid}
 use Rattle.terms.specs.Working.{Kept}
+use Rattle.rounds.specs.declared.turns.Turn.{Turn}
+use Rattle.rounds.specs.declared.turns.Turn.the-variants.{TooLarge, Stable, Goes}
 
 -- A round worked out: its sets in the upper half; or a limit passed.
 pub record RoundDone (d : Description) (k : ℕ) (before this work work′ : List ℕ) : Type 0 where
@@ -48,3 +52,20 @@ pub record Passed (slots bodies : List ℕ) (terms : ℕ) (store older before wo
   pub first : startIn this′ 0 ≡ 0
   pub right : (d : D.Description) (o : D.Order) (k : ℕ) → Read d slots bodies terms → store ≡ storeOf d o → Between d k older before work
       → RoundEnds fits d k before this′ work work′
+
+-- A round and what follows it: the equations' sets stayed; or they did not, and the sets of the round are copied down.
+pub record AtRest (slots bodies : List ℕ) (equations terms : ℕ) (store older before work this′ work′ : List ℕ) : Type 0 where
+  pub passed : Passed slots bodies terms store older before work this′ work′ true
+  pub same : allStay before this′ (take equations bodies) ≡ true
+
+pub record WentOn (slots bodies : List ℕ) (equations terms : ℕ) (store older before work this′ work′ : List ℕ) : Type 0 where
+  pub worked : List ℕ
+  pub passed : Passed slots bodies terms store older before work this′ worked true
+  pub changed : allStay before this′ (take equations bodies) ≡ false
+  pub long : length worked ≡ length work
+  pub words : work′ ≡ loweredIn (startIn this′ terms) worked
+
+abbrev pub TurnMade : (slots bodies : List ℕ) (equations terms : ℕ) (store older before work this′ work′ : List ℕ) → Turn → Type 0
+TurnMade slots bodies equations terms store older before work this′ work′ TooLarge = Passed slots bodies terms store older before work this′ work′ false
+TurnMade slots bodies equations terms store older before work this′ work′ Stable = AtRest slots bodies equations terms store older before work this′ work′
+TurnMade slots bodies equations terms store older before work this′ work′ Goes = WentOn slots bodies equations terms store older before work this′ work′
