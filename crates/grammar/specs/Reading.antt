@@ -115,26 +115,32 @@ pub record Whole : Type 0 where
   pub given : Description
   pub order : Order
 
--- the lines from the root's on, from the terms' on, and all
+-- the lines from a section's first on, and all
+abbrev pub fromOrder : Description → ℕ → Text → Walk Whole
+fromOrder d line s = walk (oneLine (takeOrder (d .words)) line s) (λ order line s. reached (record { given = d; order = order }) line s)
+
 abbrev pub fromRoot : List Text → List Term → List ℕ → ℕ → ℕ → Text → Walk Whole
 fromRoot words terms bodies t line s =
     walk (oneLine (takeNumber (ascii "root=") (λ r. ltb r t) range) line s) (λ root line s.
-    walk (oneLine (takeOrder words) line s) (λ order line s.
-    reached (record { given = record { words = words; terms = terms; bodies = bodies; root = root }; order = order }) line s))
+    fromOrder (record { words = words; terms = terms; bodies = bodies; root = root }) line s)
+
+abbrev pub fromBodies : List Text → List Term → ℕ → ℕ → ℕ → Text → Walk Whole
+fromBodies words terms e t line s = walk (lines (takeBody t) e [] line s) (λ bodies line s. fromRoot words terms bodies t line s)
 
 abbrev pub fromTerms : List Text → ℕ → ℕ → ℕ → Text → Walk Whole
-fromTerms words e t line s =
-    walk (lines (takeTerm words e) t [] line s) (λ terms line s.
-    walk (lines (takeBody t) e [] line s) (λ bodies line s.
-    fromRoot words terms bodies t line s))
+fromTerms words e t line s = walk (lines (takeTerm words e) t [] line s) (λ terms line s. fromBodies words terms e t line s)
 
-unfoldable pub wholeText : Text → Walk Whole
-wholeText text =
-    walk (oneLine (takeNumber (ascii "names=") nameCount form) 1 text) (λ n line s.
-    walk (lines takeName n [] line s) (λ words line s.
+abbrev pub fromCounts : List Text → ℕ → Text → Walk Whole
+fromCounts words line s =
     walk (oneLine (takeNumber (ascii "equations=") equationCount form) line s) (λ e line s.
     walk (oneLine (takeNumber (ascii "terms=") termCount form) line s) (λ t line s.
-    fromTerms words e t line s))))
+    fromTerms words e t line s))
+
+abbrev pub fromNames : ℕ → ℕ → Text → Walk Whole
+fromNames n line s = walk (lines takeName n [] line s) (λ words line s. fromCounts words line s)
+
+unfoldable pub wholeText : Text → Walk Whole
+wholeText text = walk (oneLine (takeNumber (ascii "names=") nameCount form) 1 text) (λ n line s. fromNames n line s)
 
 abbrev pub described : Walk Whole → Reading
 described = allRead (λ w. read (w .given) (w .order))

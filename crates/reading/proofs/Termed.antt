@@ -4,7 +4,7 @@ use mathlib.Core.Path.{_≡_, refl, ap}
 use mathlib.Core.List.{List, [], _∷_, _++_}
 use Prim.Native.Nat.{ℕ, zero, suc, _+_, _*_, _-_, _≤_, _<_}
 use native.Mathlib.Omega.{arith}
-use lib.ListN.{length, take, drop, set, length-take, length-drop, length-append}
+use lib.ListN.{length, take, drop, set, length-take, length-append}
 use Rattle.meaning.specs.Bytes.{Text}
 use Rattle.meaning.specs.Descriptions as D
 use Rattle.meaning.specs.Answers.{Fault, form}
@@ -24,9 +24,6 @@ use Rattle.faults.specs.declared.Found.the-variants.{Fine, Faulty}
 use Rattle.forms.specs.Terms.{TermTaken}
 use Rattle.forms.specs.Orders.{OrderTaken}
 use Rattle.grammar.specs.Reading.{Taken, taken, faulty, takenUnless, formed, takeTerm, takeOrder}
-
-pub part-short : (text : Text) (at k : ℕ) → length text ≤ 8192 → length (take k (drop at text)) ≤ 8192
-part-short text at k h = rw (length-take, length-drop) (omega arith)
 
 -- by the fault that was found
 pub found-fine : {f : G.Found} {x : Found} → foundOf f ≡ x → f ≡ Fine → fine ≡ x
@@ -88,9 +85,9 @@ module _ (ts : List D.Term) (n k : ℕ) (store : List ℕ) (h : n < 96) (e : n �
       (part-more 3072 (32 * n) (3040 - 32 * n) ts (omega arith) (omega arith) t)
 
 -- one slot more
-pub slot-more : (ts : List D.Term) {slots : List ℕ} {n w : ℕ} {x : Term} (t : D.Term) → slots ≡ filled 96 0 (slotsFrom 0 ts) → n ≡ length ts → w ≡ termWord x → x ≡ termFor (length ts) t
-    → set slots n w ≡ filled 96 0 (slotsFrom 0 (ts ++ (t ∷ [])))
-slot-more ts t s e p q = rw (s, e, p, q) (slots-more 96 0 ts t)
+pub slot-more : (ts : List D.Term) {slots : List ℕ} {n w : ℕ} (t : D.Term) → slots ≡ filled 96 0 (slotsFrom 0 ts) → n ≡ length ts
+    → w ≡ termWord (termFor (length ts) t) → set slots n w ≡ filled 96 0 (slotsFrom 0 (ts ++ (t ∷ [])))
+slot-more ts t s e p = rw (s, e, p) (slots-more 96 0 ts t)
 
 pub one-more : (ts : List D.Term) (t : D.Term) {n : ℕ} → n ≡ length ts → n + 1 ≡ length (ts ++ (t ∷ []))
 one-more ts t e = rw (length-append ts (t ∷ [])) (omega arith)

@@ -3,7 +3,7 @@
 use mathlib.Core.Path.{_≡_, refl, sym, ap, ap₂, _∙_}
 use mathlib.Core.Bool.{Bool, true, false}
 use mathlib.Core.List.{List, [], _∷_, _++_, map, append-nil}
-use Prim.Native.Nat.{ℕ, suc, _+_, _-_, _^_, _≤_, _<_}
+use Prim.Native.Nat.{ℕ, zero, suc, _+_, _-_, _^_, _≤_, _<_}
 use native.Mathlib.Omega.{arith}
 use lib.Dec.{leb, ltb}
 use lib.ListN.{length, getD, take, drop, length-append, length-map, drop-of-length-le}
@@ -25,14 +25,16 @@ use Rattle.lists.specs.Lists.{over}
 use Rattle.faults.specs.declared.Fault.{Fault}
 use Rattle.faults.specs.declared.Fault.the-variants.{Form, Name, Range, Amount, Operand}
 use Rattle.words.proofs.Rests.{rest-cons}
-use Rattle.words.proofs.Looked.{word-name}
 use Rattle.grammar.specs.Reading.{takenIf, formed, takeNumber, nameCount, equationCount, termCount, Cut, cut, noLine, firstLine, Walk, reached, halted, walk, afterLine, lineWalk, oneLine, read, badLine, Whole, described}
-use Rattle.reading.specs.Walks.{between}
-use Rattle.reading.specs.Stored.{faultFor, refusing, readFor, badAnswer, Ended, Padded}
+use Rattle.sections.specs.Walks.{Padded}
+use Rattle.sections.specs.Lines.{between}
+use Rattle.sections.proofs.Walking.{padded-length}
+use Rattle.sections.proofs.Taking.{words-back, taken-fit}
+use Rattle.reading.specs.Stored.{faultFor, refusing, readFor, badAnswer, FitsAfter, Ended, Named, Held}
 use Rattle.reading.specs.declared.Answer.the-variants as N
 use Rattle.reading.specs.declared.Read.{Read}
-use Rattle.reading.specs.declared.Progress.{Progress}
-use Rattle.reading.specs.declared.Progress.the-variants.{Bad}
+use Rattle.sections.specs.declared.Progress.{Progress}
+use Rattle.sections.specs.declared.Progress.the-variants.{Bad}
 use Rattle.reading.proofs.Termed.{over-free}
 
 pub fault-back : (f : Fault) → faultFor (faultOf f) ≡ f
@@ -77,16 +79,17 @@ terms-test n = rw (at-most n 96)
 
 -- A step that ends the reading, and one after which it goes on.
 module _ {A : Type 0} {due : Walk A} (k : A → ℕ → Text → Walk Whole) {after : List ℕ} {r : Read} where
-  pub ends-bad : {p : Progress} {f : Fault} {line : ℕ} → p ≡ Bad f line → halted (faultOf f) line ≡ due → r ≡ refusing (badAnswer p) → Ended (described (walk due k)) after r
-  ends-bad {f = f} e q h = rw (← q) (record { result = rw (fault-back f) (rw e at h); left = tt })
+  pub ends-bad : (before : ℕ) {p : Progress} {f : Fault} {line at : ℕ} → p ≡ Bad f line → before + line ≡ at → halted (faultOf f) at ≡ due
+      → r ≡ refusing (badAnswer before p) → Ended (described (walk due k)) after r
+  ends-bad before {f = f} e l q h = rw (← q) (record { result = rw (fault-back f, ← l) (rw e at h); left = tt })
 
   pub ends-on : {a : A} {line : ℕ} {s : Text} → reached a line s ≡ due → Ended (described (k a line s)) after r → Ended (described (walk due k)) after r
   ends-on q h = rw (← q) h
 
--- The end of the text.
-abbrev pub whole-with : D.Description → ℕ → D.Order → Whole
-whole-with d root o = record { given = record { words = d .words; terms = d .terms; bodies = d .bodies; root = root }; order = o }
+pub fits-after : {p : Progress} {f : Fault} {line : ℕ} (before : ℕ) → p ≡ Bad f line → before + line < 2 ^ 64 → FitsAfter before p
+fits-after before e h = rw e h
 
+-- The end of the text.
 module _ (w : Whole) (line end : ℕ) (text : Text) {after : List ℕ} {r : Read} where
   pub ends-short : end < length text → r ≡ readFor (badLine form line) → Ended (described (reached w line (drop end text))) after r
   ends-short h e = rw (rest-cons text end h) (record { result = e; left = tt })
@@ -121,11 +124,14 @@ order-stored d o s q = words-stored 3072 (filled 3072 0 (termsWords (d .terms)))
 abbrev rooted : Table → ℕ → Table
 rooted t root = record { names = t .names; named = t .named; bodies = t .bodies; equations = t .equations; slots = t .slots; terms = t .terms; root = root }
 
-pub with-root : (d : D.Description) (o : D.Order) (root : ℕ) {t : Table} {x : Order} → t ≡ tableOf d → x ≡ orderFor o
-    → _≡_ {A = Read} (record { answer = N.Fine; table = rooted t root; order = x })
-    (readFor (read (record { words = d .words; terms = d .terms; bodies = d .bodies; root = root }) o))
+pub held-root : (d : D.Description) (root : ℕ) {t : Table} {store : List ℕ} → Held d t store
+    → Held (record { words = d .words; terms = d .terms; bodies = d .bodies; root = root }) (rooted t root) store
 unfolding tableOf
-with-root d o root e q = rw (e, q)
+held-root d root h = record { named = h .named; tabled = rw (h .tabled); stored = h .stored }
+
+pub table-read : (d : D.Description) (o : D.Order) {t : Table} {x : Order} → t ≡ tableOf d → x ≡ orderFor o
+    → _≡_ {A = Read} (record { answer = N.Fine; table = t; order = x }) (readFor (read d o))
+table-read d o e q = rw (e, q)
 
 -- A store that is all 0, in two parts.
 module _ (n m k : ℕ) {store : List ℕ} (s : store ≡ filled n 0 []) (e : n ≡ m + k) where
@@ -135,11 +141,6 @@ module _ (n m k : ℕ) {store : List ℕ} (s : store ≡ filled n 0 []) (e : n �
   pub rest-free : drop m store ≡ filled k 0 []
   rest-free = rw (s, filled-two {A = ℕ} 0 n m k e) (drop-at (filled m 0 []) (filled k 0 []) m (filled-length 0 m []))
 
--- Words that give back the names they stand for.
-pub words-back : (ws : List ℕ) → ((i : ℕ) → getD ws i 0 < 2 ^ 64) → map wordOf (map (nameOf 8) ws) ≡ ws
-words-back [] h = refl
-words-back (w ∷ ws) h = ap₂ {C = List ℕ} _∷_ (word-name 8 w (h 0)) (words-back ws (λ i. h (suc i)))
-
 -- The table of what was read before the root.
 same-table : {names names′ bodies bodies′ : List ℕ} {named named′ equations equations′ terms terms′ root : ℕ} {slots slots′ : List ℕ}
     → names ≡ names′ → named ≡ named′ → bodies ≡ bodies′ → equations ≡ equations′ → slots ≡ slots′ → terms ≡ terms′
@@ -147,34 +148,21 @@ same-table : {names names′ bodies bodies′ : List ℕ} {named named′ equati
     (record { names = names′; named = named′; bodies = bodies′; equations = equations′; slots = slots′; terms = terms′; root = root })
 same-table p q r s t u = rw (p, q, r, s, t, u)
 
-pub names-length : {names : List ℕ} {named : ℕ} → Padded names named → length names ≡ 12
-names-length p = ap length (p .padded) ∙ filled-length 0 12 _
-
-pub table-read : (names bodies zeros : List ℕ) (named equations count : ℕ) (slots : List ℕ) (terms : List D.Term)
-    → Padded names named → equations ≤ 16 → length bodies ≡ equations → zeros ≡ filled 16 0 []
-    → slots ≡ filled 96 0 (slotsFrom 0 terms) → length terms ≡ count
-    → _≡_ {A = Table} (record { names = names; named = named; bodies = bodies ++ drop equations zeros; equations = equations; slots = slots; terms = count; root = 0 })
-    (tableOf (record { words = map (nameOf 8) (take named names); terms = terms; bodies = bodies; root = 0 }))
+pub table-held : (names : List ℕ) (named count : ℕ) (slots : List ℕ) (terms : List D.Term) (bodies : List ℕ) (equations : ℕ) → Named names named
+    → slots ≡ filled 96 0 (slotsFrom 0 terms) → length terms ≡ count → Padded 16 equations bodies → equations ≤ 16
+    → _≡_ {A = Table} (record { names = names; named = named; bodies = bodies; equations = equations; slots = slots; terms = count; root = 0 })
+    (tableOf (record { words = map (nameOf 8) (take named names); terms = terms; bodies = take equations bodies; root = 0 }))
 unfolding tableOf
-table-read names bodies zeros named equations count slots terms p e b z s c =
-    let l : length names ≡ 12 = names-length p in
-    let w : length (map (nameOf 8) (take named names)) ≡ named = length-map (take named names) (nameOf 8) ∙ length-take-le named names (omega (arith, p .few)) in
-    let f : bodies ++ drop equations zeros ≡ filled 16 0 bodies = rw (z, ← b) (filled-front 0 16 bodies (omega arith)) in
-    let n : names ≡ filled 12 0 (map wordOf (map (nameOf 8) (take named names))) = rw (words-back (take named names) (p .fits)) (p .padded) in
-    same-table n (sym w) f (sym b) s (sym c)
+table-held names named count slots terms bodies equations n s c b few =
+    let l = padded-length (n .laid) in
+    let m = padded-length b in
+    let w : length (map (nameOf 8) (take named names)) ≡ named = length-map (take named names) (nameOf 8) ∙ length-take-le named names (omega (arith, n .few)) in
+    let e : length (take equations bodies) ≡ equations = length-take-le equations bodies (omega arith) in
+    let f : names ≡ filled 12 0 (map wordOf (map (nameOf 8) (take named names))) = rw (words-back (take named names) (taken-fit named names (n .fits))) (n .laid .padded) in
+    same-table f (sym w) (b .padded) (sym e) s (sym c)
 
 pub held-length : {store : List ℕ} (ts : List D.Term) → store ≡ filled 3072 0 (termsWords ts) ++ filled 32 0 [] → length store ≡ 3104
 held-length ts s =
     let a = filled-length {A = ℕ} 0 3072 (termsWords ts) in
     let b = filled-length {A = ℕ} 0 32 [] in
     rw (s, length-append) (omega arith)
-
--- The names in their array.
-module _ (ws zeros : List ℕ) (named : ℕ) (l : length ws ≡ named) (h : named ≤ 12) (z : zeros ≡ filled 12 0 []) where
-  pub names-front : take named (ws ++ drop named zeros) ≡ ws
-  names-front = take-at ws (drop named zeros) named l
-
-  pub names-padded : ((i : ℕ) → getD ws i 0 < 2 ^ 64) → Padded (ws ++ drop named zeros) named
-  names-padded f =
-      let p : ws ++ drop named zeros ≡ filled 12 0 ws = rw (z, ← l) (filled-front 0 12 ws (omega arith)) in
-      record { few = h; padded = p ∙ ap (filled 12 0) (sym names-front); fits = rw names-front f }

@@ -1,4 +1,4 @@
--- How far reading has come in a text, and what it leaves in a table and its list store.
-pub mod Lines
-pub mod Walks
+-- What the lines of terms and the order's give, and what reading leaves in a table and its list store.
+pub mod Terms
+pub mod Orders
 pub mod Stored

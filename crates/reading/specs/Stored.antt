@@ -3,7 +3,7 @@
 use mathlib.Core.Path.{_≡_}
 use mathlib.Core.Bool.{Bool, true, false}
 use mathlib.Core.List.{List, [], _++_, map}
-use Prim.Native.Nat.{ℕ, _^_, _≤_, _<_}
+use Prim.Native.Nat.{ℕ, _+_, _^_, _≤_, _<_}
 use lib.Dec.{leb}
 use lib.ListN.{length, getD, take, drop, replicate}
 use Rattle.meaning.specs.Bytes.{Text}
@@ -11,18 +11,19 @@ use Rattle.meaning.specs.Answers.{Fault, form, name, range, amount, operand}
 use Rattle.table.specs.declared.Order.the-variants.{All}
 use Rattle.table.specs.declared.Table.{Table}
 use Rattle.table.specs.Decoded.{nameOf}
-use Rattle.table.specs.Encoded.{filled, termsWords, tableOf, blank, orderFor, storeOf}
+use Rattle.table.specs.Encoded.{filled, slotsFrom, termsWords, tableOf, blank, orderFor, storeOf}
 use Rattle.faults.specs.declared.Fault as F
 use Rattle.faults.specs.declared.Fault.the-variants.{Form, Name, Range, Amount, Operand}
 use Rattle.grammar.specs.Reading.{Reading, read, overlong, badLine, readText}
 use Rattle.reading.specs.declared.Answer.{Answer}
 use Rattle.reading.specs.declared.Answer.the-variants.{Fine, TooLong, Bad}
 use Rattle.reading.specs.declared.Read.{Read}
-use Rattle.reading.specs.declared.Progress.{Progress}
-use Rattle.reading.specs.declared.Progress.the-variants as P
-use Rattle.reading.specs.declared.Progress.the-variants.{To}
+use Rattle.sections.specs.declared.Progress.{Progress}
+use Rattle.sections.specs.declared.Progress.the-variants as P
+use Rattle.sections.specs.declared.Progress.the-variants.{To}
+use Rattle.sections.specs.Walks.{Padded}
 use Rattle.faults.specs.CodedFaults.{faultOf}
-use Rattle.meaning.specs.Descriptions.{Description}
+use Rattle.meaning.specs.Descriptions.{Term, Description}
 
 abbrev pub faultFor : Fault → F.Fault
 faultFor form = Form
@@ -68,18 +69,36 @@ pub record Ended (due : Reading) (after : List ℕ) (r : Read) : Type 0 where
   pub result : r ≡ readFor due
   pub left : Left due after
 
--- The answer that a bad line's progress is given on as. (Only a private function cites it, of a progress that is bad.)
-abbrev pub badAnswer : Progress → Answer
-badAnswer (To v at line) = TooLong
-badAnswer (P.Bad f line) = Bad f line
+-- The answer that a bad line's progress is given on as, where so many lines stand before. (Only private functions cite this and what
+-- follows: no public contract rests on it.)
+abbrev pub badAnswer : ℕ → Progress → Answer
+badAnswer before (To v took) = TooLong
+badAnswer before (P.Bad f line) = Bad f (before + line)
+
+abbrev pub FitsAfter : ℕ → Progress → Type 0
+FitsAfter before (To v took) = Unit {0}
+FitsAfter before (P.Bad f line) = before + line < 2 ^ 64
 
 -- Names in an array with 0 after them.
-pub record Padded (names : List ℕ) (named : ℕ) : Type 0 where
+pub record Named (names : List ℕ) (named : ℕ) : Type 0 where
   pub few : named ≤ 12
-  pub padded : names ≡ filled 12 0 (take named names)
-  pub fits : (i : ℕ) → getD (take named names) i 0 < 2 ^ 64
+  pub laid : Padded 12 named names
+  pub fits : (i : ℕ) → getD names i 0 < 2 ^ 64
 
--- A table and a store that hold a description but for its root and its order.
+-- The text and the number of its first line are small, the names few, and the store has its length.
+pub record Sized (text : Text) (line named : ℕ) (store : List ℕ) : Type 0 where
+  pub short : length text ≤ 8192
+  pub low : line ≤ 8192
+  pub few : named ≤ 12
+  pub long : length store ≡ 3104
+
+-- Slots and a store that hold so many terms.
+pub record HeldTerms (terms : List Term) (count : ℕ) (slots store : List ℕ) : Type 0 where
+  pub counted : length terms ≡ count
+  pub kept : slots ≡ filled 96 0 (slotsFrom 0 terms)
+  pub stored : store ≡ filled 3072 0 (termsWords terms) ++ filled 32 0 []
+
+-- A table and a store that hold a description but for its order, or for its root and its order.
 pub record Held (d : Description) (table : Table) (store : List ℕ) : Type 0 where
   pub named : map (nameOf 8) (take (table .named) (table .names)) ≡ d .words
   pub tabled : table ≡ tableOf d

@@ -1,7 +1,4 @@
 // Bytes to a checked table, or the refusal with its number and line.
-mod bodies;
-mod lines;
-mod names;
 mod orders;
 mod terms;
 mod whole;
@@ -14,13 +11,6 @@ use table::Order;
 use table::STORE_WORDS;
 use table::Table;
 use table::areas::clear;
-
-// How far reading has come: past a line, with the number or the packed name that it holds, and with the place and the number
-// of the next line; or the fault of a line and its number.
-pub enum Progress {
-    To(u64, usize, usize),
-    Bad(Fault, usize),
-}
 
 // The most bytes of a description.
 const TEXT_BYTES: usize = 8192;

@@ -1,55 +1,52 @@
 // The order's line.
-ghost use mathlib.Core.Path.{_≡_};
 ghost use mathlib.Core.List.{map};
 ghost use Prim.Native.Nat.{_≤_};
-ghost use lib.ListN.{length, drop};
+ghost use lib.ListN.{length};
 ghost use Rattle.table.specs.Decoded.{nameOf};
 ghost use Rattle.grammar.specs.Reading.{takeOrder, oneLine};
-ghost use Rattle.reading.specs.Walks.{Spot, OrderWalks, orderProgress};
-use crate::Progress;
-use crate::lines::line_end;
+ghost use Rattle.reading.specs.Orders.{OrderWalks};
 use faults::Fault;
 use faults::Found;
 use forms::OrderStep;
 use forms::orders::read_order;
+use sections::Progress;
+use sections::lines::line_end;
 use table::Order;
 
-pub enum OrderProgress {
-    To(Order, usize, usize),
-    Bad(Fault, usize),
+// The order is all where the line is bad.
+pub struct Ordered {
+    pub progress: Progress,
+    pub order: Order,
 }
 
-pub fn take_order(
-    text: &[u8],
-    at: usize,
-    line: usize,
-    names: &[u64],
-    store: &mut [u64],
-) -> OrderProgress
-    requires { ⌜ Spot (now text) at line × (length (now names) ≤ 12) ⌝ }
-    ensures { λ r. ⌜ OrderWalks (now (text .entry)) (oneLine (takeOrder (map (nameOf 8) (now (names .entry)))) line (drop at (now (text .entry)))) (now (store .entry)) (now (store .exit)) r ⌝ }
+pub fn take_order(text: &[u8], line: usize, names: &[u64], store: &mut [u64]) -> Ordered
+    requires { ⌜ (length (now names) ≤ 12) × (length (now text) ≤ 8192) ⌝ }
+    ensures { λ r. ⌜ OrderWalks (now (text .entry)) line (oneLine (takeOrder (map (nameOf 8) (now (names .entry)))) line (now (text .entry)))
+        (now (store .entry)) (now (store .exit)) (r .order) (r .progress) ⌝ }
 {
-    let end = line_end(text, at);
+    let end = line_end(text);
     if text.len() <= end {
-        return OrderProgress::Bad(Fault::Form, line);
+        return Ordered {
+            progress: Progress::Bad(Fault::Form, line),
+            order: Order::All,
+        };
     }
-    let step = read_order(&text[at..end], names, store);
+    let step = read_order(&text[..end], names, store);
     let OrderStep::To(order, found) = step else {
-        return OrderProgress::Bad(Fault::Form, line);
+        return Ordered {
+            progress: Progress::Bad(Fault::Form, line),
+            order: Order::All,
+        };
     };
-    let next = end + 1;
-    let after = line + 1;
+    let took = end + 1;
     match found {
-        Found::Fine => OrderProgress::To(order, next, after),
-        Found::Faulty(f) => OrderProgress::Bad(f, line),
-    }
-}
-
-pub fn fault_of(step: OrderProgress) -> Progress
-    ensures { λ r. ⌜ r ≡ orderProgress step ⌝ }
-{
-    match step {
-        OrderProgress::To(_, at, line) => Progress::To(0, at, line),
-        OrderProgress::Bad(f, line) => Progress::Bad(f, line),
+        Found::Fine => Ordered {
+            progress: Progress::To(0, took),
+            order,
+        },
+        Found::Faulty(f) => Ordered {
+            progress: Progress::Bad(f, line),
+            order: Order::All,
+        },
     }
 }

@@ -1,25 +1,22 @@
-// The lines of the whole text.
+// The lines of the whole text, section after section: each function is lent the text from its section's first line on.
 ghost use mathlib.Core.Path.{_≡_};
-ghost use mathlib.Core.List.{[], map};
-ghost use Prim.Native.Nat.{_≤_};
-ghost use lib.ListN.{length, take, drop};
-ghost use Rattle.meaning.specs.Descriptions.{Description};
+ghost use mathlib.Core.List.{List, [], map};
+ghost use Prim.Native.Nat.{_+_, _≤_};
+ghost use lib.ListN.{length, take};
+ghost use Rattle.meaning.specs.Descriptions as D;
 ghost use Rattle.table.specs.Decoded.{nameOf};
 ghost use Rattle.table.specs.Encoded.{filled};
-ghost use Rattle.grammar.specs.Reading.{fromRoot, fromTerms, wholeText, described};
-ghost use Rattle.reading.specs.Walks.{Spot};
-ghost use Rattle.reading.specs.Stored.{refusing, badAnswer, Ended, Padded, Held};
+ghost use Rattle.grammar.specs.Reading.{fromOrder, fromRoot, fromBodies, fromTerms, fromCounts, fromNames, wholeText, described};
+ghost use Rattle.reading.specs.Stored.{refusing, badAnswer, FitsAfter, Ended, Named, Sized, HeldTerms, Held};
 use crate::Answer;
-use crate::Progress;
 use crate::Read;
-use crate::bodies::take_bodies;
-use crate::lines::take_number;
-use crate::names::take_names;
-use crate::orders::OrderProgress;
-use crate::orders::fault_of;
 use crate::orders::take_order;
 use crate::terms::take_terms;
 use faults::Fault;
+use sections::Progress;
+use sections::bodies::take_bodies;
+use sections::lines::take_number;
+use sections::names::take_names;
 use table::Order;
 use table::Table;
 use table::empty;
@@ -34,69 +31,79 @@ pub fn refused(answer: Answer) -> Read
     }
 }
 
-fn bad(p: Progress) -> Read
-    ensures { λ r. ⌜ r ≡ refusing (badAnswer p) ⌝ }
+// The refusal of a bad line, where so many lines stand before those that were read.
+fn bad(p: Progress, before: usize) -> Read
+    requires { ⌜ FitsAfter before p ⌝ }
+    ensures { λ r. ⌜ r ≡ refusing (badAnswer before p) ⌝ }
 {
     match p {
-        Progress::To(_, _, _) => refused(Answer::TooLong),
-        Progress::Bad(f, line) => refused(Answer::Bad(f, line)),
+        Progress::To(_, _) => refused(Answer::TooLong),
+        Progress::Bad(f, line) => refused(Answer::Bad(f, before + line)),
     }
 }
 
-// The lines from the root's on, after a table that lacks its root.
-fn read_tail(text: &[u8], at: usize, line: usize, table: Table, store: &mut [u64]) -> Read
-    requires { ⌜ Spot (now text) at line × (table .named ≤ 12) × (length (now store) ≡ 3104) ⌝ }
-    ensures { λ r. ⌜ ((d : Description) → Held d table (now (store .entry)) → Ended (described (fromRoot (d .words) (d .terms) (d .bodies) (table .terms) line (drop at (now (text .entry))))) (now (store .exit)) r) ⌝ }
+// The order's line, after a table that is whole.
+fn read_order(text: &[u8], line: usize, table: Table, store: &mut [u64]) -> Read
+    requires { ⌜ Sized (now text) line (table .named) (now store) ⌝ }
+    ensures { λ r. ⌜ ((d : D.Description) → Held d table (now (store .entry))
+        → Ended (described (fromOrder d line (now (text .entry)))) (now (store .exit)) r) ⌝ }
 {
-    let terms = table.terms as u64;
-    let given = take_number(text, at, line, b"root=", 0, terms, Fault::Range);
-    let Progress::To(root, next, number) = given else {
-        return bad(given);
-    };
     let names = table.names;
     let named = table.named;
-    let last = take_order(text, next, number, &names[..named], &mut store[3072..]);
-    let OrderProgress::To(order, end, after) = last else {
-        return bad(fault_of(last));
+    let last = take_order(text, line, &names[..named], &mut store[3072..]);
+    let progress = last.progress;
+    let Progress::To(_, end) = progress else {
+        return bad(progress, 0);
     };
     if end < text.len() {
-        return refused(Answer::Bad(Fault::Form, after));
+        return refused(Answer::Bad(Fault::Form, line + 1));
     }
-    let mut whole = table;
-    whole.root = root as usize;
+    let order = last.order;
     Read {
         answer: Answer::Fine,
-        table: whole,
+        table,
         order,
     }
 }
 
-// The lines from the terms' on.
-fn read_terms(
+// The lines from the root's on, after a table that lacks its root.
+fn read_root(text: &[u8], line: usize, table: Table, store: &mut [u64]) -> Read
+    requires { ⌜ Sized (now text) (line + 1) (table .named) (now store) ⌝ }
+    ensures { λ r. ⌜ ((d : D.Description) → Held d table (now (store .entry))
+        → Ended (described (fromRoot (d .words) (d .terms) (d .bodies) (table .terms) line (now (text .entry)))) (now (store .exit)) r) ⌝ }
+{
+    let terms = table.terms as u64;
+    let given = take_number(text, line, b"root=", 0, terms, Fault::Range);
+    let Progress::To(root, at) = given else {
+        return bad(given, 0);
+    };
+    let mut whole = table;
+    whole.root = root as usize;
+    let next = line + 1;
+    read_order(&text[at..], next, whole, store)
+}
+
+// The lines from the bodies' on; those before them make up the first part of a table.
+fn read_bodies(
     text: &[u8],
-    at: usize,
-    line: usize,
     names: [u64; 12],
     named: usize,
     equations: usize,
+    slots: [u64; 96],
     count: usize,
     store: &mut [u64],
 ) -> Read
-    requires { ⌜ Spot (now text) at line × Padded names named × (equations ≤ 16) × (count ≤ 96) × (now store ≡ filled 3104 0 []) ⌝ }
-    ensures { λ r. ⌜ Ended (described (fromTerms (map (nameOf 8) (take named names)) equations count line (drop at (now (text .entry))))) (now (store .exit)) r ⌝ }
+    requires { ⌜ Sized (now text) count named (now store) × Named names named × (equations ≤ 16) × (count ≤ 96) ⌝ }
+    ensures { λ r. ⌜ ((terms : List D.Term) → HeldTerms terms count slots (now (store .entry))
+        → Ended (described (fromBodies (map (nameOf 8) (take named names)) terms equations count (4 + named + count) (now (text .entry)))) (now (store .exit)) r) ⌝ }
 {
-    let part = &mut store[..3072];
-    let terms = take_terms(text, at, line, &names[..named], equations, count, part);
-    let progress = terms.progress;
-    let Progress::To(_, next, number) = progress else {
-        return bad(progress);
+    let before = 4 + named + count;
+    let given = take_bodies(text, equations, count as u64);
+    let progress = given.progress;
+    let Progress::To(_, at) = progress else {
+        return bad(progress, before);
     };
-    let mut bodies = [0usize; 16];
-    let given = take_bodies(text, next, number, count as u64, &mut bodies[..equations]);
-    let Progress::To(_, last, after) = given else {
-        return bad(given);
-    };
-    let slots = terms.slots;
+    let bodies = given.bodies;
     let table = Table {
         names,
         named,
@@ -106,32 +113,78 @@ fn read_terms(
         terms: count,
         root: 0,
     };
-    read_tail(text, last, after, table, store)
+    let line = before + equations;
+    read_root(&text[at..], line, table, store)
+}
+
+// The lines from the terms' on.
+fn read_terms(
+    text: &[u8],
+    names: [u64; 12],
+    named: usize,
+    equations: usize,
+    count: usize,
+    store: &mut [u64],
+) -> Read
+    requires { ⌜ (length (now text) ≤ 8192) × Named names named × (equations ≤ 16) × (count ≤ 96) × (now store ≡ filled 3104 0 []) ⌝ }
+    ensures { λ r. ⌜ Ended (described (fromTerms (map (nameOf 8) (take named names)) equations count (4 + named) (now (text .entry))))
+        (now (store .exit)) r ⌝ }
+{
+    let part = &mut store[..3072];
+    let terms = take_terms(text, &names[..named], equations, count, part);
+    let progress = terms.progress;
+    let Progress::To(_, at) = progress else {
+        return bad(progress, 4 + named);
+    };
+    let slots = terms.slots;
+    read_bodies(&text[at..], names, named, equations, slots, count, store)
+}
+
+// The counts of equations and terms, and the lines after them.
+fn read_counts(text: &[u8], names: [u64; 12], named: usize, store: &mut [u64]) -> Read
+    requires { ⌜ (length (now text) ≤ 8192) × Named names named × (now store ≡ filled 3104 0 []) ⌝ }
+    ensures { λ r. ⌜ Ended (described (fromCounts (map (nameOf 8) (take named names)) (2 + named) (now (text .entry)))) (now (store .exit)) r ⌝ }
+{
+    let first = take_number(text, 2 + named, b"equations=", 0, 17, Fault::Form);
+    let Progress::To(equations, at) = first else {
+        return bad(first, 0);
+    };
+    let second = take_number(&text[at..], 3 + named, b"terms=", 1, 97, Fault::Form);
+    let Progress::To(count, took) = second else {
+        return bad(second, 0);
+    };
+    let next = at + took;
+    read_terms(
+        &text[next..],
+        names,
+        named,
+        equations as usize,
+        count as usize,
+        store,
+    )
+}
+
+// The lines of so many names, and those after them.
+fn read_names(text: &[u8], named: usize, store: &mut [u64]) -> Read
+    requires { ⌜ (length (now text) ≤ 8192) × (named ≤ 12) × (now store ≡ filled 3104 0 []) ⌝ }
+    ensures { λ r. ⌜ Ended (described (fromNames named 2 (now (text .entry)))) (now (store .exit)) r ⌝ }
+{
+    let words = take_names(text, named);
+    let progress = words.progress;
+    let Progress::To(_, at) = progress else {
+        return bad(progress, 2);
+    };
+    let names = words.names;
+    read_counts(&text[at..], names, named, store)
 }
 
 pub fn read_lines(text: &[u8], store: &mut [u64]) -> Read
     requires { ⌜ (length (now text) ≤ 8192) × (now store ≡ filled 3104 0 []) ⌝ }
     ensures { λ r. ⌜ Ended (described (wholeText (now (text .entry)))) (now (store .exit)) r ⌝ }
 {
-    let first = take_number(text, 0, 1, b"names=", 1, 13, Fault::Form);
-    let Progress::To(n, at, line) = first else {
-        return bad(first);
+    let given = take_number(text, 1, b"names=", 1, 13, Fault::Form);
+    let Progress::To(named, at) = given else {
+        return bad(given, 0);
     };
-    let named = n as usize;
-    let mut names = [0u64; 12];
-    let words = take_names(text, at, line, &mut names[..named]);
-    let Progress::To(_, next, number) = words else {
-        return bad(words);
-    };
-    let second = take_number(text, next, number, b"equations=", 0, 17, Fault::Form);
-    let Progress::To(e, from, after) = second else {
-        return bad(second);
-    };
-    let third = take_number(text, from, after, b"terms=", 1, 97, Fault::Form);
-    let Progress::To(t, start, begins) = third else {
-        return bad(third);
-    };
-    let equations = e as usize;
-    let count = t as usize;
-    read_terms(text, start, begins, names, named, equations, count, store)
+    read_names(&text[at..], named as usize, store)
 }

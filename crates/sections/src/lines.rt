@@ -1,0 +1,52 @@
+// Where the first line of a text ends, and the lines with a number.
+use crate::Progress;
+use faults::Fault;
+use words::Step;
+use forms::lines::read_count;
+ghost use Rattle.faults.specs.CodedFaults.{faultOf};
+ghost use Rattle.grammar.specs.Reading.{oneLine, takeNumber};
+ghost use Rattle.sections.specs.Lines.{LineEnd, between, NumberTo};
+
+// The place of the first LF, or the end of the text.
+pub fn line_end(text: &[u8]) -> usize
+    ensures { λ r. ⌜ LineEnd (now (text .entry)) r ⌝ }
+{
+    let mut end = 0;
+    while end < text.len() {
+        if text[end] == 10 {
+            return end;
+        }
+        end += 1;
+    }
+    end
+}
+
+// A number from `low` on and below `below`, after its key; the line's own number is that which a refusal gives.
+pub fn take_number(
+    text: &[u8],
+    line: usize,
+    key: &[u8],
+    low: u64,
+    below: u64,
+    fault: Fault,
+) -> Progress
+    ensures { λ r. ⌜ NumberTo (now (text .entry)) line below r
+        (oneLine (takeNumber (now (key .entry)) (between low below) (faultOf fault)) line (now (text .entry))) ⌝ }
+{
+    let end = line_end(text);
+    if text.len() <= end {
+        return Progress::Bad(Fault::Form, line);
+    }
+    let step = read_count(&text[..end], key);
+    let Step::To(n, _) = step else {
+        return Progress::Bad(Fault::Form, line);
+    };
+    if n < low {
+        return Progress::Bad(fault, line);
+    }
+    if below <= n {
+        return Progress::Bad(fault, line);
+    }
+    let took = end + 1;
+    Progress::To(n, took)
+}
