@@ -13,7 +13,7 @@ use Rattle.grammar.specs.Text.{Past, past, stuck}
 use Rattle.grammar.specs.Forms.{lf}
 use Rattle.grammar.specs.Faults.{Found, fine, fault, unless}
 use Rattle.grammar.specs.Reading.{Taken, taken, faulty, takenIf, takenUnless, formed, Cut, cut, noLine, withByte, firstLine, Walk, reached, halted, walk, afterLine, lineWalk, oneLine, lines}
-use Rattle.grammar.specs.Writing.{line, eachLine}
+use Rattle.grammar.specs.Writing.{lineBefore, eachLine}
 use Rattle.grammar.proofs.Findings.{IsFine, fine-unless}
 use Rattle.grammar.proofs.Onwards.{fails, When}
 use Rattle.grammar.proofs.Writes.{Inline}
@@ -72,7 +72,7 @@ takes-if {form} w test f make =
 
 -- The first line of a text.
 abbrev CutOf : Text → Cut → Type 0
-CutOf s (cut l r) = s ≡ line l r
+CutOf s (cut l r) = s ≡ lineBefore l r
 CutOf s noLine = Unit {0}
 
 first-line→ : (s : Text) → CutOf s (firstLine s)
@@ -88,7 +88,7 @@ first-line→ (b ∷ s) = pick (eqb b lf) (eqb→eq b lf) (first-line→ s)
     pick true h k = ap {B = Text} (λ c. c ∷ s) (h tt)
     pick false h k = with-byte (firstLine s) k
 
-first-line← : (l r : Text) → Inline l → firstLine (line l r) ≡ cut l r
+first-line← : (l r : Text) → Inline l → firstLine (lineBefore l r) ≡ cut l r
 unfolding firstLine
 first-line← [] r h = refl
 first-line← (b ∷ l) r h = rw (fails (eqb b lf) (h .0), firstLine) (ap (withByte b) (first-line← l r (h .1)))
@@ -121,17 +121,17 @@ after→ n (taken a) h = let e = h .there in (cc, cc)
 after→ n (faulty f) h = absurd (not-halted h)
 
 module _ {Y B : Type 0} {take : Text → Taken B} {make : Y → B} {text : Y → Text} {Legal : Y → Type 0} (w : Takes take make text Legal) where
-  pub one-line→ : (n : ℕ) (s : Text) (b : B) (r : Text) → Reaches (oneLine take n s) b r → Made make (λ y. line (text y) r) Legal b s
+  pub one-line→ : (n : ℕ) (s : Text) (b : B) (r : Text) → Reaches (oneLine take n s) b r → Made make (λ y. lineBefore (text y) r) Legal b s
   one-line→ n s b r h = go (firstLine s) (first-line→ s) h
     where
-      go : (c : Cut) → CutOf s c → Reaches (lineWalk take n c) b r → Made make (λ y. line (text y) r) Legal b s
+      go : (c : Cut) → CutOf s c → Reaches (lineWalk take n c) b r → Made make (λ y. lineBefore (text y) r) Legal b s
       go (cut l q) e h =
           let k = after→ n (take l) h in
           let m = w .sound l b (k .0) in
-          record { source = m .source; builds = m .builds; writes = e ∙ ap₂ line (m .writes) (k .1); legal = m .legal }
+          record { source = m .source; builds = m .builds; writes = e ∙ ap₂ lineBefore (m .writes) (k .1); legal = m .legal }
       go noLine e h = absurd (not-halted h)
 
-  pub one-line← : (n : ℕ) (y : Y) (r : Text) → Legal y → Reaches (oneLine take n (line (text y) r)) (make y) r
+  pub one-line← : (n : ℕ) (y : Y) (r : Text) → Legal y → Reaches (oneLine take n (lineBefore (text y) r)) (make y) r
   one-line← n y r l = record {
     number = suc n;
     there = ap (lineWalk take n) (first-line← (text y) r (w .inline y l)) ∙ ap (λ t. afterLine n t r) (w .complete y l);
@@ -165,7 +165,7 @@ module _ {A : Type 0} {take : List A → Text → Taken (List A)} {text : A → 
         entries = y ∷ i .entries;
         adds = i .adds ∙ ap (λ v. v ++ i .entries) (m .builds) ∙ append-assoc xs (y ∷ []) (i .entries);
         counted = ap suc (i .counted);
-        writes = m .writes ∙ ap (line (text y)) (i .writes);
+        writes = m .writes ∙ ap (lineBefore (text y)) (i .writes);
         legal = (m .legal, subst (λ v. LegalAfter Legal v (i .entries)) (m .builds) (i .legal));
       }
 
@@ -189,11 +189,11 @@ ends-walk {m} {f} h k = record { holds = λ b s r. let w = walk→ m f r in k (w
 
 -- (where nothing else is made of a line, and where a section starts from nothing)
 pub ends-line : {B : Type 0} {take : Text → Taken B} {text : B → Text} {Legal : B → Type 0} → Takes take (λ b. b) text Legal
-    → (n : ℕ) (s : Text) → Ends (oneLine take n s) (λ b r. (s ≡ line (text b) r) × Legal b)
+    → (n : ℕ) (s : Text) → Ends (oneLine take n s) (λ b r. (s ≡ lineBefore (text b) r) × Legal b)
 ends-line {text} {Legal} w n s = record {
   holds = λ b r h.
       let m = one-line→ w n s b r h in
-      subst (λ c. (s ≡ line (text c) r) × Legal c) (sym (m .builds)) (m .writes, m .legal);
+      subst (λ c. (s ≡ lineBefore (text c) r) × Legal c) (sym (m .builds)) (m .writes, m .legal);
 }
 
 pub ends-section : {A : Type 0} {take : List A → Text → Taken (List A)} {text : A → Text} {Legal : List A → A → Type 0}

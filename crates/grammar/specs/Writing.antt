@@ -71,23 +71,23 @@ orderText words all = ascii "all"
 orderText words (only ls) = labelsText words ls
 
 -- A line in front of those that follow it, and a line for each of a list.
-abbrev pub line : Text → Text → Text
-line l rest = l ++ (lf ∷ rest)
+abbrev pub lineBefore : Text → Text → Text
+lineBefore l rest = l ++ (lf ∷ rest)
 
 unfoldable pub eachLine : {A : Type 0} → (A → Text) → List A → Text → Text
 eachLine w [] rest = rest
-eachLine w (x ∷ xs) rest = line (w x) (eachLine w xs rest)
+eachLine w (x ∷ xs) rest = lineBefore (w x) (eachLine w xs rest)
 
 unfoldable pub written : Description → Order → Text
 written d o =
-    line (ascii "names=" ++ decimal (names d))
+    lineBefore (ascii "names=" ++ decimal (names d))
     (eachLine (λ w. ascii "name=" ++ w) (d .words)
-    (line (ascii "equations=" ++ decimal (equations d))
-    (line (ascii "terms=" ++ decimal (termCount d))
+    (lineBefore (ascii "equations=" ++ decimal (equations d))
+    (lineBefore (ascii "terms=" ++ decimal (termCount d))
     (eachLine (λ t. ascii "term=" ++ termText (d .words) t) (d .terms)
     (eachLine (λ b. ascii "equation=" ++ decimal b) (d .bodies)
-    (line (ascii "root=" ++ decimal (d .root))
-    (line (ascii "order=" ++ orderText (d .words) o) [])))))))
+    (lineBefore (ascii "root=" ++ decimal (d .root))
+    (lineBefore (ascii "order=" ++ orderText (d .words) o) [])))))))
 
 -- Legal words: each a lower-case letter, then up to 7 lower-case letters or digits; none of tau, none and all; no word twice.
 abbrev pub inName : ℕ → Bool

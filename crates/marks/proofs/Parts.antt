@@ -21,7 +21,7 @@ use Rattle.grammar.specs.Areas.{Written}
 use Rattle.grammar.proofs.Marks.{partTexts-zero, partTexts-some}
 use Rattle.marks.specs.Packed.{wordsOf}
 use Rattle.marks.specs.Steps.{nextText}
-use Rattle.marks.proofs.Writing.{Underway, lent, back, step, end, next-room}
+use Rattle.marks.proofs.Underway.{Underway, lent, back, underway-step, underway-end, next-room}
 
 pub length-part : (word : Text) (times : ℕ) → length (partText word times) ≡ length word + 1 + length (decimal times)
 length-part word times = omega (arith, length-append word (colon ∷ decimal times))
@@ -105,14 +105,16 @@ module _ {goal before mid : Text} {k : ℕ} (names : List ℕ) (i rest : ℕ) (u
   pub parts-again : {part : Text} {r : ℕ} → i < 12 → length names ≡ 12 →
       Written (nextText k (nameOf 8 (getD names i 0)) (rest % 32)) (lent k mid) part r →
       Underway goal (onward (k + r) (partsFrom names (i + 1) (rest / 32))) before (back k mid part) (k + r)
-  parts-again h e v = step (rw (rw (← v .size) at (parts-step k names i rest h e)) at u) v
+  parts-again h e v = underway-step (rw (rw (← v .size) at (parts-step k names i rest h e)) at u) v
 
   pub parts-early : rest ≡ 0 → Written goal before mid k
-  parts-early e = end (rw (ap (λ (r : ℕ). onward k (partsFrom names i r)) e ∙ ap (onward k) (parts-none (wordsOf (drop i names)) (12 - i)) ∙ onward-nil k) at u)
+  parts-early e =
+      let none = ap (partsFrom names i) e ∙ parts-none (wordsOf (drop i names)) (12 - i) in
+      underway-end (rw (ap (onward k) none ∙ onward-nil k) at u)
 
   pub parts-end : i ≡ 12 → Written goal before mid k
   unfolding labelOf partTexts
-  parts-end e = end (rw (ap (λ (n : ℕ). onward k (partsFrom names n rest)) e ∙ onward-nil k) at u)
+  parts-end e = underway-end (rw (ap (λ (n : ℕ). onward k (partsFrom names n rest)) e ∙ onward-nil k) at u)
 
 pub parts-start : (ts : List Text) → onward 0 ts ≡ joined dot ts
 parts-start ts = onward-none 0 ts refl

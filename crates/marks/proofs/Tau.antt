@@ -25,7 +25,8 @@ pub parts-written : (s : Text) {before mid : Text} {k : ℕ} → Written s befor
 parts-written [] u h = absurd (h (u .size))
 parts-written (b ∷ s) u h = u
 
-pub tau-written : (s : Text) {before mid after : Text} {k r : ℕ} → Written s before mid k → k ≡ 0 → Written (ascii "tau") mid after r → Written (orTau s) before after r
+pub tau-written : (s : Text) {before mid after : Text} {k r : ℕ} → Written s before mid k → k ≡ 0 → Written (ascii "tau") mid after r →
+    Written (orTau s) before after r
 tau-written [] u e v = rw (u .area) at v
 tau-written (b ∷ s) u e v = absurd (omega (arith, u .size))
 
@@ -46,9 +47,10 @@ length-followed (suc k) (n ∷ names) w =
     let word = nameOf 8 n in
     let times = w % 32 in
     let rest = labelOf k (w / 32) in
+    let behind = followed dot (partTexts (wordsOf names) rest) in
     elim (ℕ-discrete times 0) [
       | yes e ↦ rw (partTexts-zero word (wordsOf names) times rest e) (omega (arith, length-followed k names (w / 32)))
-      | no d ↦ rw (partTexts-some word (wordsOf names) times rest d, length-append (partText word times) (followed dot (partTexts (wordsOf names) rest)), length-part word times)
+      | no d ↦ rw (partTexts-some word (wordsOf names) times rest d, length-append (partText word times) behind, length-part word times)
           (omega (arith, length-followed k names (w / 32), length-name n, length-small times (omega arith)))
     ]
 

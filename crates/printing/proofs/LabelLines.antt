@@ -19,7 +19,8 @@ labelLine names label = line (ascii "label=") (printedLabel (wordsOf names) (cou
 abbrev pub linesFrom : List ℕ → List ℕ → ℕ → Text
 linesFrom names labels i = labelLines (wordsOf names) (map countsOf (drop i labels))
 
-pub lines-step : (names labels : List ℕ) (i : ℕ) → i < length labels → linesFrom names labels i ≡ labelLine names (getD labels i 0) ++ linesFrom names labels (i + 1)
+pub lines-step : (names labels : List ℕ) (i : ℕ) → i < length labels →
+    linesFrom names labels i ≡ labelLine names (getD labels i 0) ++ linesFrom names labels (i + 1)
 unfolding labelLines
 lines-step names labels i h =
     let label = drop-cons labels i 0 h ∙ ap (λ (n : ℕ). getD labels i 0 ∷ drop n labels) (sym (add-one i)) in
@@ -33,7 +34,8 @@ pub length-lines : (names labels : List ℕ) (i : ℕ) → i < length labels →
     length (linesFrom names labels i) ≡ length (printedLabel (wordsOf names) (countsOf (getD labels i 0))) + 7 + length (linesFrom names labels (i + 1))
 length-lines names labels i h =
     let value = printedLabel (wordsOf names) (countsOf (getD labels i 0)) in
-    rw (lines-step names labels i h, length-append (line (ascii "label=") value) (linesFrom names labels (i + 1)), length-line (ascii "label=") value) (omega arith)
+    let rest = linesFrom names labels (i + 1) in
+    rw (lines-step names labels i h, length-append (line (ascii "label=") value) rest, length-line (ascii "label=") value) (omega arith)
 
 -- no line is longer than 151 bytes
 pub lines-short : (names labels : List ℕ) → length (labelLines (wordsOf names) (map countsOf labels)) ≤ 151 * length labels

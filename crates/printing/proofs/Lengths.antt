@@ -13,7 +13,8 @@ use Rattle.printing.proofs.Line.{length-head}
 use Rattle.printing.proofs.LabelLines.{lines-short}
 use Rattle.printing.proofs.Answers.{length-answer-head, length-joined}
 
-pub length-answer : (names : List ℕ) (rounds : ℕ) (labels : List ℕ) → length (answerText (wordsOf names) rounds (map countsOf labels)) ≤ 80 + 151 * length labels
+pub length-answer : (names : List ℕ) (rounds : ℕ) (labels : List ℕ) →
+    length (answerText (wordsOf names) rounds (map countsOf labels)) ≤ 80 + 151 * length labels
 length-answer names rounds labels =
     omega (arith, length-joined names rounds labels, length-answer-head rounds (length labels), lines-short names labels)
 

@@ -11,13 +11,14 @@ use Rattle.grammar.specs.Printed.{line}
 use Rattle.grammar.specs.Areas.{Written}
 use Rattle.printing.specs.Steps.{headText}
 use Rattle.grammar.proofs.Decimal.{length-decimal}
-use Rattle.marks.proofs.Writing.{Underway, first, lent, back, step, step-byte, end, kept, room, same-size}
+use Rattle.marks.proofs.Underway.{Underway, underway-first, lent, back, underway-step, underway-byte, underway-end, underway-kept, underway-room, written-length}
 
 pub length-line : (key value : Text) → length (line key value) ≡ length key + length value + 1
 length-line key value = rw (length-append (key ++ value) (10 ∷ []), length-append key value)
 
-pub keyed : (key value : Text) {before mid : Text} {k : ℕ} → length (line key value) ≤ length before → Written key before mid k → Underway (line key value) (value ++ (10 ∷ [])) before mid k
-keyed key value h u = first (sym (append-assoc key value (10 ∷ []))) h u
+pub keyed : (key value : Text) {before mid : Text} {k : ℕ} → length (line key value) ≤ length before → Written key before mid k →
+    Underway (line key value) (value ++ (10 ∷ [])) before mid k
+keyed key value h u = underway-first (sym (append-assoc key value (10 ∷ []))) h u
 
 -- A line whose key and value are written and whose end is stored behind them: what the writers of lines have to show.
 pub record Ended (key value before mid part : Text) (k r : ℕ) : Type 0 where
@@ -29,11 +30,13 @@ pub record Ended (key value before mid part : Text) (k r : ℕ) : Type 0 where
 pub ended : (key value : Text) {before mid part : Text} {k r : ℕ} → length (line key value) ≤ length before → Written key before mid k →
     Written value (lent k mid) part r → Ended key value before mid part k r
 ended key value h u v =
-    let w = step (keyed key value h u) v in
-    let e = end (step-byte w) in
-    record { below = omega (arith, room w, kept w); inside = omega (arith, room w); written = e; same = same-size h e }
+    let w = underway-step (keyed key value h u) v in
+    let e = underway-end (underway-byte w) in
+    record { below = omega (arith, underway-room w, underway-kept w); inside = omega (arith, underway-room w); written = e; same = written-length h e }
 
 pub length-head : (said key : Text) (n : ℕ) (next : Text) (m : ℕ) → length said + length key + length next ≤ 38 → length (headText said key n next m) ≤ 80
 length-head said key n next m h =
-    rw (length-append said (line key (decimal n) ++ line next (decimal m)), length-append (line key (decimal n)) (line next (decimal m)), length-line key (decimal n), length-line next (decimal m))
+    let one = line key (decimal n) in
+    let two = line next (decimal m) in
+    rw (length-append said (one ++ two), length-append one two, length-line key (decimal n), length-line next (decimal m))
     (omega (arith, length-decimal n, length-decimal m))

@@ -7,7 +7,7 @@ use lib.ListN.{length}
 use Rattle.meaning.specs.Bytes.{Text}
 use Rattle.grammar.specs.Areas.{Written}
 use Rattle.grammar.proofs.Areas.{test-fits, written→printed, unfitting→printed}
-use Rattle.marks.proofs.Writing.{Underway, first, back, last, room, lent-room, ends-within, same-size}
+use Rattle.marks.proofs.Underway.{Underway, underway-first, back, underway-last, underway-room, lent-room, written-within, written-length}
 use Rattle.printing.specs.Steps.{answerHead}
 use Rattle.printing.proofs.LabelLines.{linesFrom}
 use Rattle.printing.proofs.Answers.{packedAnswer, answer-joined, length-joined}
@@ -49,10 +49,11 @@ head-written : (c : tie.After-slice-known2) →
     Underway (text s) (lines s) (s .args .text .now) (w .last .0) (w .result)
 head-written c =
     let a = entry (tested c) .args in
-    first {s = head (entry (tested c))} (answer-joined (a .names) (a .rounds) (a .labels .now)) (fits (tested c)) (c .before .before .write-answer-head .ensures)
+    let joined = answer-joined (a .names) (a .rounds) (a .labels .now) in
+    underway-first {s = head (entry (tested c))} joined (fits (tested c)) (c .before .before .write-answer-head .ensures)
 
 sub-write-label-lines : tie.Need-sub-write-label-lines
-sub-write-label-lines c = omega (arith, room (head-written c))
+sub-write-label-lines c = omega (arith, underway-room (head-written c))
 
 part-write-label-lines-start : tie.Need-part-write-label-lines-start
 part-write-label-lines-start c = sub-write-label-lines c
@@ -70,13 +71,13 @@ text-written : (c : tie.After-slice-known3) →
     let w = h .before .before .write-answer-head in
     let l = c .before .before .write-label-lines in
     Written (text s) (s .args .text .now) (back (w .result) (w .last .0) (l .last .0)) (w .result + l .result)
-text-written c = last (head-written (c .before .before .before .before)) (c .before .before .write-label-lines .ensures)
+text-written c = underway-last (head-written (c .before .before .before .before)) (c .before .before .write-label-lines .ensures)
 
 add-result : tie.Need-add-result
-add-result c = omega (arith, ends-within (fits (tested (c .before .before .before .before))) (text-written c))
+add-result c = omega (arith, written-within (fits (tested (c .before .before .before .before))) (text-written c))
 
 same-length : tie.Need-same-length
-same-length c = same-size (fits (tested (c .before .before .before .before))) (text-written c)
+same-length c = written-length (fits (tested (c .before .before .before .before))) (text-written c)
 
 returns : tie.Need-returns
 returns c = written→printed (fits (tested (c .before .before .before .before))) (text-written c)

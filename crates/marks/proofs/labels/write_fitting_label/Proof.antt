@@ -6,7 +6,7 @@ use Rattle.meaning.specs.Bytes.{Text}
 use Rattle.grammar.specs.Marks.{labelText}
 use Rattle.grammar.specs.Printed.{printedLabel}
 use Rattle.marks.specs.Packed.{wordsOf, countsOf}
-use Rattle.marks.proofs.Writing.{copied}
+use Rattle.marks.proofs.Underway.{copied}
 use Rattle.marks.proofs.Tau.{parts-written, tau-written, parts-within, tau-length}
 use borrow.Author.Needs.{needs}
 use Rattle.marks.proofs.labels.write_fitting_label.Statement.{statement}

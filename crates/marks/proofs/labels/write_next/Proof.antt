@@ -7,7 +7,7 @@ use native.Mathlib.Omega.{arith}
 use Rattle.table.specs.Decoded.{nameOf}
 use Rattle.grammar.specs.Marks.{partText}
 use Rattle.marks.specs.Steps.{nextText}
-use Rattle.marks.proofs.Writing.{Underway, nothing, start, step-byte, last, room, lent-room, ends-within, same-size}
+use Rattle.marks.proofs.Underway.{Underway, written-nil, underway-start, underway-byte, underway-last, underway-room, lent-room, written-within, written-length}
 use Rattle.marks.proofs.Parts.{next-absent, next-first, next-later}
 use borrow.Author.Needs.{needs}
 use Rattle.marks.proofs.labels.write_next.Statement.{statement}
@@ -16,7 +16,7 @@ use Rattle.marks.proofs.labels.write_next.Tie as tie
 returns : tie.Need-returns
 returns c =
     let a = c .before .before .args in
-    rw (next-absent (a .written) (nameOf 8 (a .name)) (a .times) (c .if1 .taken)) (nothing (a .text .now))
+    rw (next-absent (a .written) (nameOf 8 (a .name)) (a .times) (c .if1 .taken)) (written-nil (a .text .now))
 
 write-part-requires : tie.Need-write-part-requires
 write-part-requires c κs =
@@ -41,13 +41,13 @@ pointed : (c : tie.Else2) →
     Underway (nextText (a .written) (nameOf 8 (a .name)) (a .times)) (46 ∷ partText (nameOf 8 (a .name)) (a .times)) (a .text .now) (a .text .now) 0
 pointed c =
     let a = entry c .args in
-    start (sym (next-later (a .written) (nameOf 8 (a .name)) (a .times) (c .before .if1 .left) (c .if2 .left))) (entry c .pre)
+    underway-start (sym (next-later (a .written) (nameOf 8 (a .name)) (a .times) (c .before .if1 .left) (c .if2 .left))) (entry c .pre)
 
 slice-write-text : tie.Need-slice-write-text
-slice-write-text c = omega (arith, room (pointed c))
+slice-write-text c = omega (arith, underway-room (pointed c))
 
 sub-write-part : tie.Need-sub-write-part
-sub-write-part c = omega (arith, room (step-byte (pointed c)))
+sub-write-part c = omega (arith, underway-room (underway-byte (pointed c)))
 
 part-write-part-start : tie.Need-part-write-part-start
 part-write-part-start c = sub-write-part c
@@ -56,16 +56,16 @@ part-write-part-end : tie.Need-part-write-part-end
 part-write-part-end c = le-refl _
 
 write-part-requires-2 : tie.Need-write-part-requires-2
-write-part-requires-2 c κs = lent-room (step-byte (pointed (c .before)))
+write-part-requires-2 c κs = lent-room (underway-byte (pointed (c .before)))
 
 returns-3 : tie.Need-returns-3
-returns-3 c = last (step-byte (pointed (c .before .before .before .before))) (c .before .before .write-part2 .ensures)
+returns-3 c = underway-last (underway-byte (pointed (c .before .before .before .before))) (c .before .before .write-part2 .ensures)
 
 add-result : tie.Need-add-result
-add-result c = omega (arith, ends-within (entry (c .before .before .before .before) .pre) (returns-3 c))
+add-result c = omega (arith, written-within (entry (c .before .before .before .before) .pre) (returns-3 c))
 
 same-length-2 : tie.Need-same-length-2
-same-length-2 c = same-size (entry (c .before .before .before .before) .pre) (returns-3 c)
+same-length-2 c = written-length (entry (c .before .before .before .before) .pre) (returns-3 c)
 
 pub write-next-spec : {M : Type 1} → statement M
 write-next-spec =

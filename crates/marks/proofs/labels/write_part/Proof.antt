@@ -6,7 +6,7 @@ use native.Mathlib.Nat.{le-refl}
 use native.Mathlib.Omega.{arith}
 use Rattle.table.specs.Decoded.{nameOf}
 use Rattle.grammar.specs.Marks.{decimal, partText}
-use Rattle.marks.proofs.Writing.{Underway, first, step-byte, last, kept, room, lent-room, ends-within, same-size}
+use Rattle.marks.proofs.Underway.{Underway, underway-first, underway-byte, underway-last, underway-kept, underway-room, lent-room, written-within, written-length}
 use Rattle.marks.proofs.Parts.{length-part}
 use Rattle.marks.proofs.labels.write_part.Statement.{statement}
 use Rattle.marks.proofs.labels.write_part.Tie as tie
@@ -24,25 +24,25 @@ named : (c : tie.After-slice-known2) →
     Underway (partText (nameOf 8 (a .name)) (a .times)) (58 ∷ decimal (a .times)) (a .text .now) (w .last .0) (w .result)
 named c =
     let a = entry c .args in
-    first {s = nameOf 8 (a .name)} refl (entry c .pre) (c .before .before .write-name .ensures)
+    underway-first {s = nameOf 8 (a .name)} refl (entry c .pre) (c .before .before .write-name .ensures)
 
 slice-write-text : tie.Need-slice-write-text
-slice-write-text c = omega (arith, room (named c))
+slice-write-text c = omega (arith, underway-room (named c))
 
 add-at : tie.Need-add-at
-add-at c = omega (arith, room (named c), kept (named c))
+add-at c = omega (arith, underway-room (named c), underway-kept (named c))
 
 returns : tie.Need-returns
-returns c = last (step-byte (named (c .before .before .before .before))) (c .before .before .write-digits .ensures)
+returns c = underway-last (underway-byte (named (c .before .before .before .before))) (c .before .before .write-digits .ensures)
 
 add-result : tie.Need-add-result
-add-result c = omega (arith, ends-within (entry (c .before .before .before .before) .pre) (returns c))
+add-result c = omega (arith, written-within (entry (c .before .before .before .before) .pre) (returns c))
 
 same-length : tie.Need-same-length
-same-length c = same-size (entry (c .before .before .before .before) .pre) (returns c)
+same-length c = written-length (entry (c .before .before .before .before) .pre) (returns c)
 
 sub-write-digits : tie.Need-sub-write-digits
-sub-write-digits c = omega (arith, room (step-byte (named c)))
+sub-write-digits c = omega (arith, underway-room (underway-byte (named c)))
 
 part-write-digits-start : tie.Need-part-write-digits-start
 part-write-digits-start c = sub-write-digits c
@@ -51,7 +51,7 @@ part-write-digits-end : tie.Need-part-write-digits-end
 part-write-digits-end c = le-refl _
 
 write-digits-requires : tie.Need-write-digits-requires
-write-digits-requires c κs = lent-room (step-byte (named (c .before)))
+write-digits-requires c κs = lent-room (underway-byte (named (c .before)))
 
 pub write-part-spec : {M : Type 1} → statement M
 write-part-spec =

@@ -6,7 +6,7 @@ use native.Mathlib.Nat.{le-refl}
 use native.Mathlib.Omega.{arith}
 use Rattle.grammar.specs.Marks.{partTexts, labelText}
 use Rattle.marks.specs.Packed.{wordsOf, countsOf}
-use Rattle.marks.proofs.Writing.{Underway, start, kept, room}
+use Rattle.marks.proofs.Underway.{Underway, underway-start, underway-kept, underway-room}
 use Rattle.marks.proofs.Parts.{onward, partsFrom, parts-start, parts-room, parts-again, parts-early, parts-end}
 use Rattle.marks.proofs.labels.write_parts.Statement.{statement}
 use Rattle.marks.proofs.labels.write_parts.Tie as tie
@@ -19,16 +19,18 @@ abbrev μ-loop : tie.MeasureT-loop
 μ-loop text₀ label names rest₀ at₀ i₀ text rest at i = 12 - i
 
 loop-holds : tie.Need-loop-holds Inv-loop μ-loop
-loop-holds c = (start (parts-start (partTexts (wordsOf (c .before .args .t2)) (countsOf (c .before .args .label)))) (c .before .pre), omega arith)
+loop-holds c = (underway-start (parts-start (partTexts (wordsOf (c .before .args .t2)) (countsOf (c .before .args .label)))) (c .before .pre), omega arith)
 
 same-length : tie.Need-same-length Inv-loop μ-loop
-same-length c = kept (c .before .before .loop .inv .0)
+same-length c = underway-kept (c .before .before .loop .inv .0)
 
 returns : tie.Need-returns Inv-loop μ-loop
-returns c = parts-early (c .before .before .before .before .args .t2) (c .before .before .loop .i) (c .before .before .loop .rest) (c .before .before .loop .inv .0) (c .if1 .taken)
+returns c =
+    let l = c .before .before .loop in
+    parts-early (c .before .before .before .before .args .t2) (l .i) (l .rest) (l .inv .0) (c .if1 .taken)
 
 sub-write-next : tie.Need-sub-write-next Inv-loop μ-loop
-sub-write-next c = omega (arith, room (c .before .before .loop .inv .0))
+sub-write-next c = omega (arith, underway-room (c .before .before .loop .inv .0))
 
 part-write-next-start : tie.Need-part-write-next-start Inv-loop μ-loop
 part-write-next-start c = sub-write-next c
@@ -49,11 +51,13 @@ write-next-requires c κs =
 
 loop-again : tie.Need-loop-again Inv-loop μ-loop
 loop-again c =
-    let l = c .before .before .before .before .before .before .loop in
-    (parts-again (c .before .before .before .before .before .before .before .before .args .t2) (l .i) (l .rest) (l .inv .0) (omega arith) (omega arith) (c .before .before .write-next .ensures), omega arith)
+    let turn = c .before .before .before .before .before .before in
+    let l = turn .loop in
+    let names = turn .before .before .args .t2 in
+    (parts-again names (l .i) (l .rest) (l .inv .0) (omega arith) (omega arith) (c .before .before .write-next .ensures), omega arith)
 
 add-at : tie.Need-add-at Inv-loop μ-loop
-add-at c = omega (arith, room (loop-again c .0), kept (loop-again c .0))
+add-at c = omega (arith, underway-room (loop-again c .0), underway-kept (loop-again c .0))
 
 add-i : tie.Need-add-i Inv-loop μ-loop
 add-i c = omega arith
@@ -62,7 +66,7 @@ loop-less : tie.Need-loop-less Inv-loop μ-loop
 loop-less c = omega arith
 
 same-length-2 : tie.Need-same-length-2 Inv-loop μ-loop
-same-length-2 c = kept (c .before .loop .inv .0)
+same-length-2 c = underway-kept (c .before .loop .inv .0)
 
 returns-2 : tie.Need-returns-2 Inv-loop μ-loop
 returns-2 c = parts-end (c .before .before .before .args .t2) (c .before .loop .i) (c .before .loop .rest) (c .before .loop .inv .0) (omega arith)

@@ -7,7 +7,7 @@ use native.Mathlib.Omega.{arith}
 use borrow.Fn.Kinds.{In}
 use borrow.Fn.PlainCycle.{Measures, is, falls, and}
 use lib.ListN.{length, length-set}
-use Rattle.marks.proofs.Writing.{nothing, behind-byte}
+use Rattle.marks.proofs.Underway.{written-nil, written-byte}
 use Rattle.grammar.proofs.Decimal.{decimal-digit, decimal-last, length-last}
 use Rattle.marks.proofs.numbers.write_digits.Reads as reads
 use Rattle.marks.proofs.numbers.write_digits.Kinds as kinds
@@ -41,7 +41,7 @@ module _ (t : ℕ) where
   returns : lts.Need-returns (asked t, reads.Post) (given t) reads.Post
   returns c =
       let a = c .before .before .args in
-      rw (decimal-digit (a .n) (c .if1 .taken)) (behind-byte (48 + a .n) (nothing (a .text .now)) (slice-write-text c))
+      rw (decimal-digit (a .n) (c .if1 .taken)) (written-byte (48 + a .n) (written-nil (a .text .now)) (slice-write-text c))
 
   write-digits-requires : lts.Need-write-digits-requires (asked t, reads.Post) (given t) reads.Post
   write-digits-requires c κs = (omega arith, omega (arith, length-last (c .before .before .before .args .n) (omega arith) (omega arith)))
@@ -64,7 +64,7 @@ module _ (t : ℕ) where
   returns-2 : lts.Need-returns-2 (asked t, reads.Post) (given t) reads.Post
   returns-2 c =
       let n = c .before .before .before .before .before .before .args .n in
-      rw (decimal-last n (omega arith) (omega arith)) (behind-byte (48 + n % 10) (c .before .before .write-digits .ensures) (slice-write-text-2 c))
+      rw (decimal-last n (omega arith) (omega arith)) (written-byte (48 + n % 10) (c .before .before .write-digits .ensures) (slice-write-text-2 c))
 
 pub +write-digits-spec : {M : Type 1} → statement M
 +write-digits-spec =

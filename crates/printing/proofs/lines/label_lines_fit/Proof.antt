@@ -37,7 +37,10 @@ label-length-requires : tie.Need-label-length-requires Inv-loop μ-loop
 label-length-requires c κs = tt
 
 add-size : tie.Need-add-size Inv-loop μ-loop
-add-size c = omega (arith, length-label (c .before .before .before .before .before .before .args .names) (getD (c .before .before .before .before .before .before .args .labels .now) (c .before .before .before .loop .i) 0))
+add-size c =
+    let turn = c .before .before .before in
+    let a = turn .before .before .before .args in
+    omega (arith, length-label (a .names) (getD (a .labels .now) (turn .loop .i) 0))
 
 returns-2 : tie.Need-returns-2 Inv-loop μ-loop
 returns-2 c =
@@ -60,7 +63,8 @@ loop-again c =
 returns-3 : tie.Need-returns-3 Inv-loop μ-loop
 returns-3 c =
     let a = c .before .before .before .before .args in
-    sym (le-leb (length (linesFrom (a .names) (a .labels .now) 0)) (a .room) (omega (arith, ap length (lines-end (a .names) (a .labels .now) (c .before .loop .i) (omega arith)))))
+    let none = lines-end (a .names) (a .labels .now) (c .before .loop .i) (omega arith) in
+    sym (le-leb (length (linesFrom (a .names) (a .labels .now) 0)) (a .room) (omega (arith, ap length none)))
 
 pub label-lines-fit-spec : {M : Type 1} → statement M
 label-lines-fit-spec =

@@ -9,7 +9,7 @@ use Rattle.meaning.specs.Bytes.{Text}
 use Rattle.grammar.specs.Marks.{decimal}
 use Rattle.grammar.specs.Printed.{line}
 use Rattle.grammar.proofs.Areas.{printed→written}
-use Rattle.marks.proofs.Writing.{Underway, lent, copied, room, next-room}
+use Rattle.marks.proofs.Underway.{Underway, lent, copied, underway-room, next-room}
 use Rattle.printing.proofs.Line.{length-line, keyed, Ended, ended}
 use Rattle.printing.proofs.lines.write_count_line.Statement.{statement}
 use Rattle.printing.proofs.lines.write_count_line.Tie as tie
@@ -34,7 +34,7 @@ key-written c =
     keyed (entry c .args .key .now) (value (entry c)) (entry c .pre) (copied (w .0) (w .1))
 
 sub-write-number : tie.Need-sub-write-number
-sub-write-number c = omega (arith, room (key-written c))
+sub-write-number c = omega (arith, underway-room (key-written c))
 
 part-write-number-start : tie.Need-part-write-number-start
 part-write-number-start c = sub-write-number c
@@ -57,7 +57,8 @@ line-written : (c : tie.After-slice-known3) →
 line-written c =
     let k = c .before .before .before .before in
     let w = k .before .before .copy .ensures in
-    ended (entry k .args .key .now) (value (entry k)) (entry k .pre) (copied (w .0) (w .1)) (printed→written (value-room k) (c .before .before .write-number .ensures))
+    let v = printed→written (value-room k) (c .before .before .write-number .ensures) in
+    ended (entry k .args .key .now) (value (entry k)) (entry k .pre) (copied (w .0) (w .1)) v
 
 add-end : tie.Need-add-end
 add-end c = omega (arith, line-written c .below)

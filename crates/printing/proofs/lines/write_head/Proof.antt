@@ -6,27 +6,44 @@ use Prim.Native.Nat.{_+_}
 use native.Mathlib.Nat.{le-refl}
 use native.Mathlib.Omega.{arith}
 use lib.ListN.{length-append}
+use Rattle.meaning.specs.Bytes.{Text}
 use Rattle.grammar.specs.Marks.{decimal}
 use Rattle.grammar.specs.Printed.{line}
 use Rattle.printing.specs.Steps.{headText}
-use Rattle.marks.proofs.Writing.{Underway, copied, first, back, step, last, kept, room, next-room, lent-room, ends-within}
-use borrow.Author.Needs.{needs}
+use Rattle.marks.proofs.Underway.{Underway, copied, underway-first, back, underway-step, underway-last, underway-kept, underway-room, next-room, lent-room, written-within, written-length}
 use Rattle.printing.proofs.lines.write_head.Statement.{statement}
 use Rattle.printing.proofs.lines.write_head.Tie as tie
 
+-- the two lines, and the whole head
+abbrev one : tie.Start → Text
+one s = line (s .args .key .now) (decimal (s .args .n))
+
+abbrev two : tie.Start → Text
+two s = line (s .args .next-key .now) (decimal (s .args .m))
+
+abbrev head : tie.Start → Text
+head s = headText (s .args .said .now) (s .args .key .now) (s .args .n) (s .args .next-key .now) (s .args .m)
+
 copy-requires : tie.Need-copy-requires
 copy-requires c κs =
-    let a = c .before .before .before .before .before .args in
-    omega (arith, length-append (a .said .now) (line (a .key .now) (decimal (a .n)) ++ line (a .next-key .now) (decimal (a .m))))
+    let s = c .before .before .before .before .before in
+    omega (arith, length-append (s .args .said .now) (one s ++ two s))
+
+-- what is said is written, and the lines are to come
+abbrev entry : tie.After-slice-known2 → tie.Start
+entry c = c .before .before .before .before .before .before .before .before
 
 said-written : (c : tie.After-slice-known2) →
-    let a = c .before .before .before .before .before .before .before .before .args in
-    Underway (headText (a .said .now) (a .key .now) (a .n) (a .next-key .now) (a .m)) (line (a .key .now) (decimal (a .n)) ++ line (a .next-key .now) (decimal (a .m)))
-    (a .text .now) (c .before .before .copy .last .1 .0) (c .before .before .copy .result)
-said-written c = first {s = c .before .before .before .before .before .before .before .before .args .said .now} refl (c .before .before .before .before .before .before .before .before .pre) (copied (c .before .before .copy .ensures .0) (c .before .before .copy .ensures .1))
+    let s = entry c in
+    let w = c .before .before .copy in
+    Underway (head s) (one s ++ two s) (s .args .text .now) (w .last .1 .0) (w .result)
+said-written c =
+    let s = entry c in
+    let w = c .before .before .copy .ensures in
+    underway-first {s = s .args .said .now} refl (s .pre) (copied (w .0) (w .1))
 
 sub-write-count-line : tie.Need-sub-write-count-line
-sub-write-count-line c = omega (arith, room (said-written c))
+sub-write-count-line c = omega (arith, underway-room (said-written c))
 
 part-write-count-line-start : tie.Need-part-write-count-line-start
 part-write-count-line-start c = sub-write-count-line c
@@ -35,23 +52,24 @@ part-write-count-line-end : tie.Need-part-write-count-line-end
 part-write-count-line-end c = le-refl _
 
 write-count-line-requires : tie.Need-write-count-line-requires
-write-count-line-requires c κs =
-    let a = c .before .before .before .before .before .before .before .before .before .args in
-    next-room (line (a .key .now) (decimal (a .n))) (line (a .next-key .now) (decimal (a .m))) (said-written (c .before))
+write-count-line-requires c κs = let s = entry (c .before) in next-room (one s) (two s) (said-written (c .before))
+
+-- the first line is written too
+abbrev said : tie.After-slice-known3 → tie.After-slice-known2
+said c = c .before .before .before .before
 
 line-written : (c : tie.After-slice-known3) →
-    let a = c .before .before .before .before .before .before .before .before .before .before .before .before .args in
-    let w = c .before .before .before .before .before .before .copy in
+    let s = entry (said c) in
+    let w = said c .before .before .copy in
     let l = c .before .before .write-count-line in
-    Underway (headText (a .said .now) (a .key .now) (a .n) (a .next-key .now) (a .m)) (line (a .next-key .now) (decimal (a .m)))
-    (a .text .now) (back (w .result) (w .last .1 .0) (l .last .0)) (w .result + l .result)
-line-written c = step (said-written (c .before .before .before .before)) (c .before .before .write-count-line .ensures)
+    Underway (head s) (two s) (s .args .text .now) (back (w .result) (w .last .1 .0) (l .last .0)) (w .result + l .result)
+line-written c = underway-step (said-written (said c)) (c .before .before .write-count-line .ensures)
 
 add-second : tie.Need-add-second
-add-second c = omega (arith, room (line-written c), kept (line-written c))
+add-second c = omega (arith, underway-room (line-written c), underway-kept (line-written c))
 
 sub-write-count-line-2 : tie.Need-sub-write-count-line-2
-sub-write-count-line-2 c = omega (arith, room (line-written c))
+sub-write-count-line-2 c = omega (arith, underway-room (line-written c))
 
 part-write-count-line-start-2 : tie.Need-part-write-count-line-start-2
 part-write-count-line-start-2 c = sub-write-count-line-2 c
@@ -63,13 +81,13 @@ write-count-line-requires-2 : tie.Need-write-count-line-requires-2
 write-count-line-requires-2 c κs = lent-room (line-written (c .before))
 
 returns : tie.Need-returns
-returns c = last (line-written (c .before .before .before .before)) (c .before .before .write-count-line2 .ensures)
+returns c = underway-last (line-written (c .before .before .before .before)) (c .before .before .write-count-line2 .ensures)
 
 add-result : tie.Need-add-result
-add-result c = omega (arith, ends-within (c .before .before .before .before .before .before .before .before .before .before .before .before .before .before .before .before .pre) (returns c))
+add-result c = omega (arith, written-within (entry (said (c .before .before .before .before)) .pre) (returns c))
 
 same-length : tie.Need-same-length
-same-length c = search needs
+same-length c = written-length (entry (said (c .before .before .before .before)) .pre) (returns c)
 
 pub write-head-spec : {M : Type 1} → statement M
 write-head-spec =

@@ -10,7 +10,7 @@ use Rattle.meaning.specs.Bytes.{Text, ascii}
 use Rattle.grammar.specs.Printed.{printedLabel, line}
 use Rattle.marks.specs.Packed.{wordsOf, countsOf}
 use Rattle.grammar.proofs.Areas.{printed→written}
-use Rattle.marks.proofs.Writing.{Underway, lent, copied, room, next-room}
+use Rattle.marks.proofs.Underway.{Underway, lent, copied, underway-room, next-room}
 use Rattle.printing.proofs.Line.{keyed, Ended, ended}
 use Rattle.printing.proofs.lines.write_label_line.Statement.{statement}
 use Rattle.printing.proofs.lines.write_label_line.Tie as tie
@@ -47,10 +47,11 @@ line-written : (c : tie.After-slice-known3) →
 line-written c =
     let k = c .before .before .before .before in
     let w = k .before .before .copy .ensures in
-    ended (ascii "label=") (value (entry k)) (entry k .pre) (copied (w .0) (w .1)) (printed→written (value-room k) (c .before .before .write-label .ensures))
+    let v = printed→written (value-room k) (c .before .before .write-label .ensures) in
+    ended (ascii "label=") (value (entry k)) (entry k .pre) (copied (w .0) (w .1)) v
 
 sub-write-label : tie.Need-sub-write-label
-sub-write-label c = omega (arith, room (key-written c))
+sub-write-label c = omega (arith, underway-room (key-written c))
 
 part-write-label-start : tie.Need-part-write-label-start
 part-write-label-start c = sub-write-label c

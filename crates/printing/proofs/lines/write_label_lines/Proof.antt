@@ -6,7 +6,7 @@ use Prim.Native.Nat.{_-_, _+_, _≤_}
 use native.Mathlib.Nat.{le-refl}
 use native.Mathlib.Omega.{arith}
 use lib.ListN.{length, getD}
-use Rattle.marks.proofs.Writing.{Underway, start, step, end, kept, room, next-room}
+use Rattle.marks.proofs.Underway.{Underway, underway-start, underway-step, underway-end, underway-kept, underway-room, next-room}
 use Rattle.printing.proofs.LabelLines.{labelLine, linesFrom, lines-step, lines-end}
 use Rattle.printing.proofs.lines.write_label_lines.Statement.{statement}
 use Rattle.printing.proofs.lines.write_label_lines.Tie as tie
@@ -18,10 +18,10 @@ abbrev μ-loop : tie.MeasureT-loop
 μ-loop text₀ names labels at₀ i₀ text at i = length labels - i
 
 loop-holds : tie.Need-loop-holds Inv-loop μ-loop
-loop-holds c = (start refl (c .before .before .pre), omega arith)
+loop-holds c = (underway-start refl (c .before .before .pre), omega arith)
 
 sub-write-label-line : tie.Need-sub-write-label-line Inv-loop μ-loop
-sub-write-label-line c = omega (arith, room (c .before .loop .inv .0))
+sub-write-label-line c = omega (arith, underway-room (c .before .loop .inv .0))
 
 part-write-label-line-start : tie.Need-part-write-label-line-start Inv-loop μ-loop
 part-write-label-line-start c = sub-write-label-line c
@@ -46,10 +46,11 @@ loop-again : tie.Need-loop-again Inv-loop μ-loop
 loop-again c =
     let a = c .before .before .before .before .before .before .before .before .before .args in
     let l = c .before .before .before .before .before .before .loop in
-    (step (rw (lines-step (a .names) (a .labels .now) (l .i) (omega arith)) at (l .inv .0)) (c .before .before .write-label-line .ensures), omega arith)
+    let next = rw (lines-step (a .names) (a .labels .now) (l .i) (omega arith)) at (l .inv .0) in
+    (underway-step next (c .before .before .write-label-line .ensures), omega arith)
 
 add-at : tie.Need-add-at Inv-loop μ-loop
-add-at c = omega (arith, room (loop-again c .0), kept (loop-again c .0))
+add-at c = omega (arith, underway-room (loop-again c .0), underway-kept (loop-again c .0))
 
 add-i : tie.Need-add-i Inv-loop μ-loop
 add-i c = omega arith
@@ -58,13 +59,13 @@ loop-less : tie.Need-loop-less Inv-loop μ-loop
 loop-less c = omega arith
 
 same-length : tie.Need-same-length Inv-loop μ-loop
-same-length c = kept (c .before .loop .inv .0)
+same-length c = underway-kept (c .before .loop .inv .0)
 
 returns : tie.Need-returns Inv-loop μ-loop
 returns c =
     let a = c .before .before .before .before .args in
     let l = c .before .loop in
-    end (rw (lines-end (a .names) (a .labels .now) (l .i) (omega arith)) at (l .inv .0))
+    underway-end (rw (lines-end (a .names) (a .labels .now) (l .i) (omega arith)) at (l .inv .0))
 
 pub write-label-lines-spec : {M : Type 1} → statement M
 write-label-lines-spec =
