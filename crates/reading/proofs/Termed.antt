@@ -22,7 +22,7 @@ use Rattle.faults.specs.declared.Fault as F
 use Rattle.faults.specs.declared.Found as G
 use Rattle.faults.specs.declared.Found.the-variants.{Fine, Faulty}
 use Rattle.forms.specs.Terms.{TermTaken}
-use Rattle.forms.specs.Orders.{OrderTaken}
+use Rattle.keyed.specs.Orders.{OrderTaken}
 use Rattle.grammar.specs.Reading.{Taken, taken, faulty, takenUnless, formed, takeTerm, takeOrder}
 
 pub part-short : (text : Text) (at k : ℕ) → length text ≤ 8192 → length (take k (drop at text)) ≤ 8192

@@ -1,7 +1,7 @@
 // Where a line of the text ends, and the lines with a number.
 use crate::Progress;
 use faults::Fault;
-use forms::lines::read_count;
+use keyed::read_count;
 use words::Step;
 ghost use Prim.Native.Nat.{_≤_};
 ghost use lib.ListN.{length, drop};

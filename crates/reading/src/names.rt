@@ -8,7 +8,7 @@ ghost use Rattle.reading.specs.Walks.{Spot, Walks, NamesTo};
 use crate::Progress;
 use crate::lines::line_end;
 use faults::Fault;
-use forms::lines::read_name_line;
+use keyed::read_name_line;
 use words::Step;
 use words::names::find_name;
 

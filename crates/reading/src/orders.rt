@@ -10,8 +10,8 @@ use crate::Progress;
 use crate::lines::line_end;
 use faults::Fault;
 use faults::Found;
-use forms::OrderStep;
-use forms::orders::read_order;
+use keyed::OrderStep;
+use keyed::orders::read_order;
 use table::Order;
 
 pub enum OrderProgress {

@@ -8,7 +8,7 @@ use native.Mathlib.Omega.{arith}
 use lib.ListN.{drop, take}
 use Rattle.table.specs.Decoded.{nameOf}
 use Rattle.grammar.specs.Faults.{orderSaid}
-use Rattle.forms.specs.Orders.{OrderRead}
+use Rattle.keyed.specs.Orders.{OrderRead}
 use Rattle.faults.proofs.Calls.{asks-nothing}
 use Rattle.reading.proofs.Walking.{line-lacks, line-there, line-taken, next-spot}
 use Rattle.reading.proofs.Termed.{found-fine, order-stuck, order-fine, order-faulty}
