@@ -1,8 +1,6 @@
 -- The laws that the readers' proofs cite, and the uniqueness of what is promised; each file after those that it cites.
 -- ended-none, ended-some, one-seen, two-seen, act-no-space, act-line: what follows a kind's word
 pub mod Operands
--- item-last, place-fits: a key, an item and the end of the line
-pub mod Ends
 -- wrap-stuck, wrap-went, no-operand, no-space, no-list, no-end, wrap-line: the kinds with a list
 pub mod Wraps
 -- join-stuck, join-more, key-passed, line-farther: the farthest place where a word was stuck
@@ -11,7 +9,5 @@ pub mod Farthest
 pub mod Kinded
 -- term-stays, term-taken: a term line after the terms before it
 pub mod Slotted
--- labels-stuck, labels-on, labels-taken, order-passed: the order's line
-pub mod Ordered
--- order-unique, term-unique: what is settled of any two results that meet a promise
+-- seen-unique, term-unique: what is settled of any two results that meet a promise
 pub mod Uniqueness

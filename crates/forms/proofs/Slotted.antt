@@ -24,7 +24,8 @@ use Rattle.table.proofs.Packed.{taken-out}
 use Rattle.grammar.specs.Forms.{Line, termLine}
 use Rattle.grammar.specs.Faults.{Found, fine, worse, unless, inRange, operandsFit, termSaid, wordsOfFault, termFault}
 use Rattle.faults.specs.CodedFaults.{foundOf}
-use Rattle.forms.specs.Terms.{LineTerm, LineRead, bareSlot, TermTaken, TermRead}
+use Rattle.operands.specs.Slots.{bareSlot}
+use Rattle.forms.specs.Terms.{LineTerm, LineRead, TermTaken, TermRead}
 use Rattle.faults.specs.declared.Found as G
 use Rattle.forms.specs.declared.TermStep.{TermStep}
 use Rattle.forms.specs.declared.TermStep.the-variants as T
@@ -98,22 +99,6 @@ fit-slots terms (D.merge t u) h = refl
 fit-slots terms (D.lmerge t u) h = refl
 fit-slots terms (D.sync t u) h = ap₂ {C = Bool} _&&_ (multi-slots 96 0 terms t h) (multi-slots 96 0 terms u h)
 fit-slots terms (D.wrap o t) h = refl
-
--- what is no sync asks nothing of its operands
-pub fit-other : (x : Term) (terms : List D.Term) → OneOf (0 ∷ 1 ∷ 2 ∷ 3 ∷ 4 ∷ 5 ∷ 6 ∷ 7 ∷ 8 ∷ 9 ∷ 10 ∷ 12 ∷ []) (tagOf TermType.the-type x) → true ≡ operandsFit terms (bareTerm x)
-fit-other Delta terms e = refl
-fit-other Tau terms e = refl
-fit-other (Act a) terms e = refl
-fit-other (Ref e′) terms e = refl
-fit-other (Sum t) terms e = refl
-fit-other (Cond t) terms e = refl
-fit-other (Choice t u) terms e = refl
-fit-other (IfElse t u) terms e = refl
-fit-other (Seq t u) terms e = refl
-fit-other (Merge t u) terms e = refl
-fit-other (LMerge t u) terms e = refl
-fit-other (Sync t u) terms e = absurd (miss (0 ∷ 1 ∷ 2 ∷ 3 ∷ 4 ∷ 5 ∷ 6 ∷ 7 ∷ 8 ∷ 9 ∷ 10 ∷ 12 ∷ []) 11 tt e)
-fit-other (Wrap o t) terms e = refl
 
 -- All faults of a line.
 module _ (words : List Text) (equations : ℕ) (terms : List D.Term) (slots : List ℕ) (few : length terms ≤ 96)

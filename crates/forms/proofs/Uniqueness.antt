@@ -9,23 +9,19 @@ use Rattle.meaning.specs.Bytes.{Text}
 use Rattle.meaning.specs.Descriptions as D
 use Rattle.meaning.proofs.Alike.{alike}
 use Rattle.table.specs.declared.Term.{Term}
-use Rattle.table.specs.declared.Order.{Order}
 use Rattle.table.specs.Decoded.{nameOf}
-use Rattle.table.specs.Encoded.{termWords, termFor, orderWords, orderFor, filled, slotsFrom}
+use Rattle.table.specs.Encoded.{termWords, termFor, filled, slotsFrom}
 use Rattle.grammar.specs.Text.{Past, past, stuck}
-use Rattle.grammar.specs.Forms.{termLine, orderLine}
-use Rattle.grammar.specs.Faults.{Found, fine, termSaid, termFault, orderSaid, orderFault}
+use Rattle.grammar.specs.Forms.{termLine}
+use Rattle.grammar.specs.Faults.{Found, fine, termSaid, termFault}
 use Rattle.faults.specs.CodedFaults.{foundOf}
 use Rattle.lists.specs.Lists.{over}
 use Rattle.forms.specs.Terms.{TermRead, TermAnswer}
-use Rattle.forms.specs.Orders.{OrderRead, OrderAnswer}
 use Rattle.faults.specs.declared.Found as G
 use Rattle.faults.specs.declared.Found.the-variants.{Fine}
 use Rattle.faults.proofs.Uniqueness.{found-unique}
 use Rattle.forms.specs.declared.TermStep.{TermStep}
 use Rattle.forms.specs.declared.TermStep.the-variants as T
-use Rattle.forms.specs.declared.OrderStep.{OrderStep}
-use Rattle.forms.specs.declared.OrderStep.the-variants as O
 use Rattle.words.proofs.Uniqueness.{apart}
 
 -- What the reader of a line that may have a list gives: a value with its fault, or the text that it is stuck at.
@@ -40,7 +36,7 @@ pub record Took {L X : Type 0} (due : Past L) (make : L → X) (faults : L → F
   pub found : foundOf f ≡ faults line
   pub stored : faults line ≡ fine → after ≡ words line
 
-pub Meets : {L X : Type 0} → Past L → (L → X) → (L → Found) → (L → List ℕ) → List ℕ → Seen X → Type 0
+unfoldable pub Meets : {L X : Type 0} → Past L → (L → X) → (L → Found) → (L → List ℕ) → List ℕ → Seen X → Type 0
 Meets due make faults words after (took x f) = Took due make faults words after x f
 Meets due make faults words after (stopped rest) = stuck rest ≡ due
 
@@ -75,29 +71,12 @@ module _ {L X : Type 0} (due : Past L) (make : L → X) (faults : L → Found) (
       other : {z : X} → stopped s ≡ took z Fine → ⊥
       other d = let z : _≡_ {A = ℕ} 0 1 = cc in omega arith
 
--- The order's line and a term's.
-abbrev pub orderSeen : Text → OrderStep → Seen Order
-orderSeen line (O.To x f) = took x f
-orderSeen line (O.Stuck p) = stopped (drop p line)
-
+-- A term's line.
 abbrev pub termSeen : Text → TermStep → Seen Term
 termSeen line (T.To x f) = took x f
 termSeen line (T.Stuck p) = stopped (drop p line)
 
 module _ (names : List ℕ) (line : Text) (before after₁ after₂ : List ℕ) where
-  order-meets : (words : List Text) (after : List ℕ) (r : OrderStep) → OrderRead words line before after r
-      → Meets (orderLine line) (λ l. orderFor (orderSaid words l)) (orderFault words) (λ l. over (orderWords (orderSaid words l)) before) after (orderSeen line r)
-  unfolding Meets
-  order-meets words after (O.To x f) p = record { line = p .line; says = p .says; made = p .order; found = p .faults; stored = p .stored }
-  order-meets words after (O.Stuck n) p = p
-
-  pub order-unique : (r s : OrderStep) → OrderAnswer names line before after₁ r → OrderAnswer names line before after₂ s → length names ≤ 12
-      → (orderSeen line r ≡ orderSeen line s) × ((x : Order) → orderSeen line r ≡ took x Fine → after₁ ≡ after₂)
-  order-unique r s p q few =
-      let ws = map (nameOf 8) names in
-      seen-unique (orderLine line) (λ l. orderFor (orderSaid ws l)) (orderFault ws) (λ l. over (orderWords (orderSaid ws l)) before) after₁ after₂
-      (orderSeen line r) (orderSeen line s) (order-meets ws after₁ r (p few)) (order-meets ws after₂ s (q few))
-
   term-meets : (words : List Text) (equations : ℕ) (terms : List D.Term) (after : List ℕ) (r : TermStep) → TermRead words equations terms line before after r
       → Meets (termLine line) (λ l. termFor (length terms) (termSaid words l)) (termFault words equations terms) (λ l. over (termWords (termSaid words l)) before) after (termSeen line r)
   unfolding Meets

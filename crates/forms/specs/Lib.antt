@@ -1,5 +1,3 @@
--- What the answers of the readers of one line stand for.
+-- What the answers of the readers of a term's line stand for.
 pub mod Terms
 pub mod Kinds
-pub mod Lines
-pub mod Orders

@@ -11,7 +11,7 @@ use Rattle.table.specs.declared.Term.{Term}
 use Rattle.grammar.specs.Text.{Past, past, stuck, separated}
 use Rattle.grammar.specs.Forms as F
 use Rattle.grammar.specs.Forms.{Line, plain, Listed, Parts, WordPair, WordRule, comma, wordList, pair, rule, labelList, termLine}
-use Rattle.table.specs.Packed.{plainOf, wordTerm}
+use Rattle.table.specs.Packed.{plainOf}
 use Rattle.lists.specs.declared.ListKind.{ListKind}
 use Rattle.lists.specs.declared.ListKind.the-variants.{Names, Pairs, Rules, Labels}
 use Rattle.table.specs.Encoded.{termWords, termFor, filled, slotsFrom}
@@ -87,10 +87,6 @@ listed Hide ws = F.hide ws
 listed Rename ps = F.rename ps
 listed Comm rs = F.comm rs
 listed Allow ls = F.allow ls
-
--- the term in a slot
-abbrev pub bareSlot : ℕ → D.Term
-bareSlot w = bareTerm (wordTerm w)
 
 -- A line after the terms before it: the term at its number, all faults of the line joined, and the list's words over the start
 -- of the store where there is none.

@@ -3,39 +3,31 @@ ghost use Prim.Native.Nat.{_≤_, _<_};
 ghost use mathlib.Core.Path.{_≡_};
 ghost use mathlib.Core.List.{map};
 ghost use Rattle.table.specs.Decoded.{nameOf};
-ghost use lib.ListN.{length, drop, getD};
+ghost use lib.ListN.{length, drop};
 ghost use Rattle.table.specs.Terms.{IsPlain, bareTerm};
-ghost use Rattle.meaning.specs.Legal.{isMultiAction};
 ghost use Rattle.grammar.specs.Text.{past, onward, ended, byte, number};
 ghost use Rattle.words.specs.Steps.{Steps};
 ghost use Rattle.grammar.specs.Forms.{space, plain, ofName, ofOne, ofTwo, ofList, termLine};
-ghost use Rattle.grammar.specs.Faults.{bothBelow, inRange, worse, unless, operandsFit};
-ghost use Rattle.forms.specs.Terms.{PlainRead, madeOf, LineRead, Storeless, listKind, contents, listed, bareSlot, TermAnswer};
-ghost use Rattle.meaning.specs.Answers.{range, operand};
-ghost use Rattle.meaning.specs.Descriptions.{delta};
-ghost use Rattle.faults.specs.CodedFaults.{foundOf};
+ghost use Rattle.forms.specs.Terms.{PlainRead, madeOf, LineRead, Storeless, listKind, contents, listed, TermAnswer};
 ghost use Rattle.forms.specs.Kinds.{restOf, wrapOf, fartherStep};
 use crate::TermStep;
 use crate::kinds::KindStep;
 use crate::kinds::find_kind;
 use crate::kinds::kind_stuck_at;
 use crate::kinds::most;
-use faults::Fault;
 use faults::Found;
-use faults::found_unless;
-use faults::worse_of;
 use lists::ListKind;
 use lists::SaidStep;
 use lists::read_name;
 use lists::read_whole;
 use lists::said_stuck_at;
+use operands::joined_fault;
 use table::NAMES;
 use table::Place;
 use table::TERMS;
 use table::Term;
 use table::packing::operator;
 use table::packing::plain;
-use table::packing::unpack;
 use words::Step;
 use words::literals::read_literal;
 use words::literals::sign_at;
@@ -159,39 +151,6 @@ fn read_wrap(
     TermStep::To(Term::Wrap(with_list, t as usize), fault)
 }
 
-fn both_below(t: usize, u: usize, n: usize) -> bool
-    ensures { λ r. ⌜ r ≡ bothBelow n t u ⌝ }
-{
-    t < n && u < n
-}
-
-// Operands have smaller numbers than the term, references one below the number of equations.
-fn in_range(x: Term, n: usize, equations: usize) -> bool
-    ensures { λ r. ⌜ r ≡ inRange equations n (bareTerm x) ⌝ }
-{
-    match x {
-        Term::Delta | Term::Tau | Term::Act(_) => true,
-        Term::Ref(e) => e < equations,
-        Term::Sum(t) | Term::Cond(t) | Term::Wrap(_, t) => t < n,
-        Term::Choice(t, u)
-        | Term::IfElse(t, u)
-        | Term::Seq(t, u)
-        | Term::Merge(t, u)
-        | Term::LMerge(t, u)
-        | Term::Sync(t, u) => both_below(t, u, n),
-    }
-}
-
-// An operand of sync is act, tau or such a sync.
-fn is_multi(x: Term) -> bool
-    ensures { λ r. ⌜ r ≡ isMultiAction (bareTerm x) ⌝ }
-{
-    match x {
-        Term::Tau | Term::Act(_) | Term::Sync(_, _) => true,
-        _ => false,
-    }
-}
-
 // What follows the word of the kind at a place among the kinds.
 fn read_kind(
     line: &[u8],
@@ -245,34 +204,6 @@ fn read_line(line: &[u8], names: &[u64], n: usize, store: &mut [u64]) -> TermSte
         return TermStep::Stuck(kind_stuck_at(kind));
     };
     farthest(read_kind(line, next, k, names, n, store), far)
-}
-
-// Whether the term at a number is a multi-action; past the slots there is none.
-fn multi_at(slots: &[u64], t: usize) -> bool
-    ensures { λ r. ⌜ r ≡ isMultiAction (getD (map bareSlot (now (slots .entry))) t delta) ⌝ }
-{
-    if slots.len() <= t {
-        return false;
-    }
-    is_multi(unpack(slots[t]))
-}
-
-fn operands_fit(x: Term, slots: &[u64]) -> bool
-    ensures { λ r. ⌜ r ≡ operandsFit (map bareSlot (now (slots .entry))) (bareTerm x) ⌝ }
-{
-    let Term::Sync(t, u) = x else {
-        return true;
-    };
-    multi_at(slots, t) && multi_at(slots, u)
-}
-
-// The fault of a term's names and list, of its numbers, and of its operands, joined.
-fn joined_fault(x: Term, found: Found, n: usize, equations: usize, slots: &[u64]) -> Found
-    ensures { λ r. ⌜ foundOf r ≡ worse (foundOf found) (worse (unless (inRange equations n (bareTerm x)) range) (unless (operandsFit (map bareSlot (now (slots .entry))) (bareTerm x)) operand)) ⌝ }
-{
-    let numbers = found_unless(in_range(x, n, equations), Fault::Range);
-    let operands = found_unless(operands_fit(x, slots), Fault::Operand);
-    worse_of(found, worse_of(numbers, operands))
 }
 
 // A term line, after the terms in the slots. The store is the part of the list store that belongs to the line.

@@ -22,7 +22,7 @@ use Rattle.faults.specs.declared.Fault as F
 use Rattle.faults.specs.declared.Found as G
 use Rattle.faults.specs.declared.Found.the-variants.{Fine, Faulty}
 use Rattle.forms.specs.Terms.{TermTaken}
-use Rattle.forms.specs.Orders.{OrderTaken}
+use Rattle.keyed.specs.Orders.{OrderTaken}
 use Rattle.grammar.specs.Reading.{Taken, taken, faulty, takenUnless, formed, takeTerm, takeOrder}
 
 -- by the fault that was found

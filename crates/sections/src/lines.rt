@@ -2,7 +2,7 @@
 use crate::Progress;
 use faults::Fault;
 use words::Step;
-use forms::lines::read_count;
+use keyed::read_count;
 ghost use Rattle.faults.specs.CodedFaults.{faultOf};
 ghost use Rattle.grammar.specs.Reading.{oneLine, takeNumber};
 ghost use Rattle.sections.specs.Lines.{LineEnd, between, NumberTo};

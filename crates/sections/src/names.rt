@@ -10,7 +10,7 @@ use crate::Progress;
 use crate::lines::line_end;
 use faults::Fault;
 use words::Step;
-use forms::lines::read_name_line;
+use keyed::read_name_line;
 use words::names::find_name;
 use table::NAMES;
 

@@ -1,0 +1,42 @@
+-- `keyed::at_end` meets its contract: by whether something was read, and whether more follows.
+-- Assumes nothing.
+use Prim.Native.Nat.{_+_}
+use native.Mathlib.Omega.{arith}
+use mathlib.Core.Path.{ap, sym}
+use lib.ListN.{length}
+use borrow.Author.Tests.{lt-ltb, le-ltb}
+use Rattle.faults.proofs.Calls.{asks-nothing}
+use Rattle.words.proofs.Steps.{stuck-there}
+use Rattle.words.specs.Steps.{placeOf}
+use Rattle.keyed.proofs.at_end.Statement.{statement}
+use Rattle.keyed.proofs.at_end.Tie as tie
+
+enum-known-s : tie.Need-enum-known-s
+enum-known-s c = c .match .keys1
+
+enum-told : tie.Need-enum-told
+enum-told c = c .match .keys2
+
+add-t8 : tie.Need-add-t8
+add-t8 c = omega (arith, c .stuck-at .ensures)
+
+returns : tie.Need-returns
+returns c = rw (stuck-there (c .before .enum-told .given .1) (c .stuck-at .ensures))
+
+add-next : tie.Need-add-next
+add-next c = omega (arith, ap placeOf (c .before .s .given .1))
+
+returns-2 : tie.Need-returns-2
+returns-2 c =
+    let s = c .before .before .s .given in
+    let a = c .before .before .before .before .before .args in
+    rw (s .1, lt-ltb (a .at + s .0 .1 .0) (length (a .line .now)) (c .if1 .taken))
+
+returns-3 : tie.Need-returns-3
+returns-3 c =
+    let s = c .before .before .s .given in
+    let a = c .before .before .before .before .before .args in
+    rw (s .1, le-ltb (a .at + s .0 .1 .0) (length (a .line .now)) (c .if1 .left))
+
+pub at-end-spec : {M : Type 1} → statement M
+at-end-spec = tie.close (tie.spec enum-known-s enum-told asks-nothing add-t8 returns add-next returns-2 returns-3)

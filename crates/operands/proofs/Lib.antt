@@ -1,0 +1,2 @@
+-- fit-other: the operands of any other term than sync fit
+pub mod Slots

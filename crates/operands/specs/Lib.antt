@@ -1,0 +1,2 @@
+-- What the slots of the terms stand for.
+pub mod Slots

@@ -1,0 +1,9 @@
+-- The term in a slot.
+-- Assumes nothing.
+use Prim.Native.Nat.{ℕ}
+use Rattle.meaning.specs.Descriptions.{Term}
+use Rattle.table.specs.Terms.{bareTerm}
+use Rattle.table.specs.Packed.{wordTerm}
+
+abbrev pub bareSlot : ℕ → Term
+bareSlot w = bareTerm (wordTerm w)
