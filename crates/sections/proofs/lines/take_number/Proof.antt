@@ -30,7 +30,7 @@ returns-2 c =
     let a = there .before .before .before .before .args in
     refuses
     (line-there _ (a .line) (there .before .line-end .ensures) (there .if1 .left)
-    (number-stuck (a .key .now) (a .low) (a .below) (faultOf (a .fault)) _ (says-stuck (c .before .before .read-count .ensures) (c .enum-told .given .1))))
+    (number-stuck (a .key .now) (a .low) (a .below) (faultOf (a .fault)) _ (stays (c .before .before .read-count .ensures) (c .enum-told .given .1) .says)))
 
 returns-3 : tie.Need-returns-3
 returns-3 c =

@@ -33,7 +33,7 @@ returns-2 c =
     record {
       says =
           line-there _ (a .line) (there .before .line-end .ensures) (there .if1 .left)
-          (name-stuck (map (nameOf 8) (a .names .now)) _ (says-stuck (c .before .before .read-name-line .ensures) (c .enum-told .given .1)));
+          (name-stuck (map (nameOf 8) (a .names .now)) _ (stays (c .before .before .read-name-line .ensures) (c .enum-told .given .1) .says));
       within = omega arith;
     }
 
