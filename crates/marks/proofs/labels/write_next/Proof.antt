@@ -43,6 +43,9 @@ pointed c =
     let a = entry c .args in
     underway-start (sym (next-later (a .written) (nameOf 8 (a .name)) (a .times) (c .before .if1 .left) (c .if2 .left))) (entry c .pre)
 
+returns-3 : tie.Need-returns-3
+returns-3 c = underway-last (underway-byte (pointed (c .before .before .before .before))) (c .before .before .write-part2 .ensures)
+
 slice-write-text : tie.Need-slice-write-text
 slice-write-text c = omega (arith, underway-room (pointed c))
 
@@ -57,9 +60,6 @@ part-write-part-end c = le-refl _
 
 write-part-requires-2 : tie.Need-write-part-requires-2
 write-part-requires-2 c κs = lent-room (underway-byte (pointed (c .before)))
-
-returns-3 : tie.Need-returns-3
-returns-3 c = underway-last (underway-byte (pointed (c .before .before .before .before))) (c .before .before .write-part2 .ensures)
 
 add-result : tie.Need-add-result
 add-result c = omega (arith, written-within (entry (c .before .before .before .before) .pre) (returns-3 c))
