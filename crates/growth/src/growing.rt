@@ -29,7 +29,10 @@ fn add_part(
     len: usize,
     most: usize,
 ) -> Built
-    ensures { λ r. ⌜ Grown (each (given (roomAt at most (length (now (work .entry)))) at (now (work .entry)) giving (now (list .entry))) (wordsOf at part (now (work .entry)))) at len (now (work .entry)) (now (work .exit)) r ⌝ }
+    ensures { λ r. ⌜ Grown
+        (each (given (roomAt at most (length (now (work .entry)))) at (now (work .entry)) giving (now (list .entry)))
+        (wordsOf at part (now (work .entry))))
+        at len (now (work .entry)) (now (work .exit)) r ⌝ }
 {
     match giving {
         Giving::Through(way) => add_image(work, part, way, list, Target { at, len, most }),

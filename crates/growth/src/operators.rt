@@ -26,7 +26,10 @@ pub fn through(
     len: usize,
     most: usize,
 ) -> Built
-    ensures { λ r. ⌜ Grown (throughBuilt (roomAt at most (length (now (work .entry)))) way (now (list .entry)) (newIn at set (now (work .entry)))) at len (now (work .entry)) (now (work .exit)) r ⌝ }
+    ensures { λ r. ⌜ Grown
+        (throughBuilt (roomAt at most (length (now (work .entry)))) way (now (list .entry))
+        (newIn at set (now (work .entry))))
+        at len (now (work .entry)) (now (work .exit)) r ⌝ }
 {
     add_new(work, set, Giving::Through(way), list, at, len, most)
 }
@@ -40,7 +43,10 @@ fn communicate(
     len: usize,
     most: usize,
 ) -> Built
-    ensures { λ r. ⌜ Grown (throughBuilt (roomAt at most (length (now (work .entry)))) Comm (ruleList (now (rules .entry))) (newIn at set (now (work .entry)))) at len (now (work .entry)) (now (work .exit)) r ⌝ }
+    ensures { λ r. ⌜ Grown
+        (throughBuilt (roomAt at most (length (now (work .entry)))) Comm (ruleList (now (rules .entry)))
+        (newIn at set (now (work .entry))))
+        at len (now (work .entry)) (now (work .exit)) r ⌝ }
 {
     let first = first_rules(rules);
     let end = first.len();
@@ -58,7 +64,10 @@ pub fn wrapped(
     len: usize,
     most: usize,
 ) -> Built
-    ensures { λ r. ⌜ Grown (throughBuilt (roomAt at most (length (now (work .entry)))) (wayFor operator) (wordsFor (now (store .entry)) operator) (newIn at set (now (work .entry)))) at len (now (work .entry)) (now (work .exit)) r ⌝ }
+    ensures { λ r. ⌜ Grown
+        (throughBuilt (roomAt at most (length (now (work .entry)))) (wayFor operator) (wordsFor (now (store .entry)) operator)
+        (newIn at set (now (work .entry))))
+        at len (now (work .entry)) (now (work .exit)) r ⌝ }
 {
     match operator {
         Operator::Block(p) => through(work, Way::Block, words_of(store, p), set, at, len, most),

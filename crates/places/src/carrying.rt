@@ -8,7 +8,8 @@ ghost use lib.ListN.{length, take, drop};
 // Words from a place on are copied to another place that they do not reach.
 pub fn carry(area: &mut [u64], from: usize, to: usize, count: usize)
     requires { ⌜ ((from + count ≤ to) ⊎ (to + count ≤ from)) × (from + count ≤ length (now area)) × (to + count ≤ length (now area)) ⌝ }
-    ensures { λ r. ⌜ now (area .exit) ≡ take to (now (area .entry)) ++ take count (drop from (now (area .entry))) ++ drop (to + count) (now (area .entry)) ⌝ }
+    ensures { λ r. ⌜ now (area .exit)
+        ≡ take to (now (area .entry)) ++ take count (drop from (now (area .entry))) ++ drop (to + count) (now (area .entry)) ⌝ }
 {
     let mut i = 0;
     while i < count {

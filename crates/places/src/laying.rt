@@ -11,7 +11,9 @@ ghost use Rattle.places.specs.Laying.{copyBuilt};
 
 // What of the part stands before the place is laid there, if there is room.
 pub fn lay(work: &mut [u64], part: Part, at: usize, most: usize) -> Built
-    ensures { λ r. ⌜ Grown (copyBuilt (roomAt at most (length (now (work .entry)))) (wordsOf at part (now (work .entry)))) at 0 (now (work .entry)) (now (work .exit)) r ⌝ }
+    ensures { λ r. ⌜ Grown
+        (copyBuilt (roomAt at most (length (now (work .entry)))) (wordsOf at part (now (work .entry))))
+        at 0 (now (work .entry)) (now (work .exit)) r ⌝ }
 {
     let from = part.from;
     let end = end_before(work, part.to, at);

@@ -22,8 +22,11 @@ pub fn pass(
     this: &mut [usize],
     work: &mut [u64],
 ) -> bool
-    requires { ⌜ (startIn (now this) 0 ≡ 0) × (length (now this) ≡ 97) × (length (now slots) ≡ 96) × (terms ≤ 96) × (4096 ≤ length (now work)) ⌝ }
-    ensures { λ r. ⌜ Passed (now (slots .entry)) (now (bodies .entry)) terms (now (store .entry)) (now (older .entry)) (now (before .entry)) (now (work .entry)) (now (this .exit)) (now (work .exit)) r ⌝ }
+    requires { ⌜ (startIn (now this) 0 ≡ 0) × (length (now this) ≡ 97) × (length (now slots) ≡ 96) × (terms ≤ 96)
+        × (4096 ≤ length (now work)) ⌝ }
+    ensures { λ r. ⌜ Passed
+        (now (slots .entry)) (now (bodies .entry)) terms (now (store .entry)) (now (older .entry)) (now (before .entry))
+        (now (work .entry)) (now (this .exit)) (now (work .exit)) r ⌝ }
 {
     let mut n = 0;
     while n < terms {

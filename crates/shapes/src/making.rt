@@ -17,7 +17,9 @@ ghost use Rattle.shapes.specs.Adding.{wholeOf};
 
 // One label.
 pub fn leaf(work: &mut [u64], label: Label, at: usize, most: usize) -> Built
-    ensures { λ r. ⌜ Grown (leafBuilt (roomAt at most (length (held (now (work .entry))))) (code label)) at 0 (held (now (work .entry))) (held (now (work .exit))) r ⌝ }
+    ensures { λ r. ⌜ Grown
+        (leafBuilt (roomAt at most (length (held (now (work .entry))))) (code label))
+        at 0 (held (now (work .entry))) (held (now (work .exit))) r ⌝ }
 {
     let answer = insert(work, Target { at, len: 0, most }, label);
     match answer {

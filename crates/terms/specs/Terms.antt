@@ -51,6 +51,19 @@ built room at store bodies before this work old (Two t u sums) = twoGrown sums r
 built room at store bodies before this work old (Joint t u) = jointBuilt room (partIn at half this t work) (partIn at half this u work)
 built room at store bodies before this work old (Through o t) = throughGrown room at store before this work old o t
 
+-- What is laid at a term's place, in the room that is left: what its shape says, or its set of the round before.
+abbrev pub ShapeBuilt : Shape → (store bodies : List ℕ) → ℕ → (before this work work′ : List ℕ) → Built → Type 0
+ShapeBuilt shape store bodies n before this work work′ r =
+    let at = placeIn this n in
+    let room = roomAt at (leftIn this n) (length work) in
+    Grown (built room at store bodies before this work (partIn at 0 before n work) shape) at 0 work work′ r
+
+abbrev pub OldLaid : ℕ → (before this work work′ : List ℕ) → Built → Type 0
+OldLaid n before this work work′ r =
+    let at = placeIn this n in
+    let room = roomAt at (leftIn this n) (length work) in
+    Grown (copyBuilt room (partIn at 0 before n work)) at 0 work work′ r
+
 -- The set of the round before where what it is built of stayed, and else what the shape says.
 abbrev pub renewed : (stayed : Bool) → (old new : List ℕ → Building) → List ℕ → Building
 renewed true old new = old

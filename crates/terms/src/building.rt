@@ -20,8 +20,8 @@ ghost use Rattle.sets.specs.Parts.{roomAt};
 ghost use Rattle.sets.specs.Building.{Grown};
 ghost use Rattle.places.specs.Laying.{copyBuilt};
 ghost use Rattle.shapes.specs.Making.{jointBuilt};
-ghost use Rattle.places.specs.Starts.{baseOf, partIn, placeIn, leftIn};
-ghost use Rattle.terms.specs.Terms.{twoGrown, throughGrown, built};
+ghost use Rattle.places.specs.Starts.{baseOf, partIn};
+ghost use Rattle.terms.specs.Terms.{twoGrown, throughGrown, ShapeBuilt};
 
 // The set of a term as it stands in a half of the work area.
 fn of_one(
@@ -32,7 +32,9 @@ fn of_one(
     at: usize,
     most: usize,
 ) -> Built
-    ensures { λ r. ⌜ Grown (copyBuilt (roomAt at most (length (now (work .entry)))) (partIn at (baseOf upper) (now (starts .entry)) t (now (work .entry)))) at 0 (now (work .entry)) (now (work .exit)) r ⌝ }
+    ensures { λ r. ⌜ Grown
+        (copyBuilt (roomAt at most (length (now (work .entry)))) (partIn at (baseOf upper) (now (starts .entry)) t (now (work .entry))))
+        at 0 (now (work .entry)) (now (work .exit)) r ⌝ }
 {
     lay(work, part_at(starts, t, upper), at, most)
 }
@@ -45,7 +47,9 @@ fn of_body(
     at: usize,
     most: usize,
 ) -> Built
-    ensures { λ r. ⌜ Grown (copyBuilt (roomAt at most (length (now (work .entry)))) (partIn at 0 (now (before .entry)) (getD (now (bodies .entry)) e 0) (now (work .entry)))) at 0 (now (work .entry)) (now (work .exit)) r ⌝ }
+    ensures { λ r. ⌜ Grown
+        (copyBuilt (roomAt at most (length (now (work .entry)))) (partIn at 0 (now (before .entry)) (getD (now (bodies .entry)) e 0) (now (work .entry))))
+        at 0 (now (work .entry)) (now (work .exit)) r ⌝ }
 {
     of_one(work, before, body_of(bodies, e), false, at, most)
 }
@@ -62,7 +66,10 @@ fn of_two(
     at: usize,
     most: usize,
 ) -> Built
-    ensures { λ r. ⌜ Grown (twoGrown sums (roomAt at most (length (now (work .entry)))) at (now (before .entry)) (now (this .entry)) (now (work .entry)) (partIn at 0 (now (before .entry)) n (now (work .entry))) t u) at 0 (now (work .entry)) (now (work .exit)) r ⌝ }
+    ensures { λ r. ⌜ Grown
+        (twoGrown sums (roomAt at most (length (now (work .entry)))) at (now (before .entry)) (now (this .entry)) (now (work .entry))
+        (partIn at 0 (now (before .entry)) n (now (work .entry))) t u)
+        at 0 (now (work .entry)) (now (work .exit)) r ⌝ }
 {
     let old = of_one(work, before, n, false, at, most);
     let Built::Holds(count) = old else {
@@ -77,7 +84,10 @@ fn of_two(
 }
 
 fn of_joint(work: &mut [u64], this: &[usize], t: usize, u: usize, at: usize, most: usize) -> Built
-    ensures { λ r. ⌜ Grown (jointBuilt (roomAt at most (length (now (work .entry)))) (partIn at 2048 (now (this .entry)) t (now (work .entry))) (partIn at 2048 (now (this .entry)) u (now (work .entry)))) at 0 (now (work .entry)) (now (work .exit)) r ⌝ }
+    ensures { λ r. ⌜ Grown
+        (jointBuilt (roomAt at most (length (now (work .entry))))
+        (partIn at 2048 (now (this .entry)) t (now (work .entry))) (partIn at 2048 (now (this .entry)) u (now (work .entry))))
+        at 0 (now (work .entry)) (now (work .exit)) r ⌝ }
 {
     let a = part_at(this, t, true);
     let b = part_at(this, u, true);
@@ -95,7 +105,10 @@ fn of_wrap(
     at: usize,
     most: usize,
 ) -> Built
-    ensures { λ r. ⌜ Grown (throughGrown (roomAt at most (length (now (work .entry)))) at (now (store .entry)) (now (before .entry)) (now (this .entry)) (now (work .entry)) (partIn at 0 (now (before .entry)) n (now (work .entry))) operator t) at 0 (now (work .entry)) (now (work .exit)) r ⌝ }
+    ensures { λ r. ⌜ Grown
+        (throughGrown (roomAt at most (length (now (work .entry)))) at (now (store .entry)) (now (before .entry)) (now (this .entry)) (now (work .entry))
+        (partIn at 0 (now (before .entry)) n (now (work .entry))) operator t)
+        at 0 (now (work .entry)) (now (work .exit)) r ⌝ }
 {
     let old = of_one(work, before, n, false, at, most);
     let Built::Holds(count) = old else {
@@ -115,7 +128,8 @@ pub fn work_out(
     this: &[usize],
     work: &mut [u64],
 ) -> Built
-    ensures { λ r. ⌜ Grown (built (roomAt (placeIn (now (this .entry)) n) (leftIn (now (this .entry)) n) (length (now (work .entry)))) (placeIn (now (this .entry)) n) (now (store .entry)) (now (bodies .entry)) (now (before .entry)) (now (this .entry)) (now (work .entry)) (partIn (placeIn (now (this .entry)) n) 0 (now (before .entry)) n (now (work .entry))) shape) (placeIn (now (this .entry)) n) 0 (now (work .entry)) (now (work .exit)) r ⌝ }
+    ensures { λ r. ⌜ ShapeBuilt
+        shape (now (store .entry)) (now (bodies .entry)) n (now (before .entry)) (now (this .entry)) (now (work .entry)) (now (work .exit)) r ⌝ }
 {
     let at = place_of(this, n);
     let most = left_of(this, n);

@@ -10,16 +10,11 @@ use sets::Built;
 use shapes::sameness::unchanged;
 use shapes::shaping::shape_of;
 use table::Term;
-ghost use lib.ListN.{length};
-ghost use Rattle.sets.specs.Parts.{roomAt};
-ghost use Rattle.sets.specs.Building.{Grown};
-ghost use Rattle.places.specs.Starts.{partIn, placeIn, leftIn};
-ghost use Rattle.places.specs.Laying.{copyBuilt};
-ghost use Rattle.terms.specs.Terms.{TermBuilt};
+ghost use Rattle.terms.specs.Terms.{OldLaid, TermBuilt};
 
 // The set of a term as it was in the round before.
 fn copied(n: usize, before: &[usize], this: &[usize], work: &mut [u64]) -> Built
-    ensures { λ r. ⌜ Grown (copyBuilt (roomAt (placeIn (now (this .entry)) n) (leftIn (now (this .entry)) n) (length (now (work .entry)))) (partIn (placeIn (now (this .entry)) n) 0 (now (before .entry)) n (now (work .entry)))) (placeIn (now (this .entry)) n) 0 (now (work .entry)) (now (work .exit)) r ⌝ }
+    ensures { λ r. ⌜ OldLaid n (now (before .entry)) (now (this .entry)) (now (work .entry)) (now (work .exit)) r ⌝ }
 {
     lay(
         work,
@@ -40,7 +35,9 @@ pub fn next_term(
     this: &[usize],
     work: &mut [u64],
 ) -> Built
-    ensures { λ r. ⌜ TermBuilt term (now (store .entry)) (now (bodies .entry)) n (now (older .entry)) (now (before .entry)) (now (this .entry)) (now (work .entry)) (now (work .exit)) r ⌝ }
+    ensures { λ r. ⌜ TermBuilt
+        term (now (store .entry)) (now (bodies .entry)) n (now (older .entry)) (now (before .entry)) (now (this .entry))
+        (now (work .entry)) (now (work .exit)) r ⌝ }
 {
     let shape = shape_of(term);
     if unchanged(shape, bodies, older, before, this) {

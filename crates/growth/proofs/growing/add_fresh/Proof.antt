@@ -32,7 +32,8 @@ add-next : tie.Need-add-next Inv-loop μ-loop
 add-next c =
     let a = c .before .before .before .before .before .before .before .before .args in
     let so-far = c .before .before .before .before .before .loop in
-    omega (arith, c .before .before .before .before .before .before .before .before .pre .knownWithin, stands-below (so-far .next) (a .known .to) (so-far .i) (so-far .work) (sym (c .before .stands-next .ensures) ∙ c .if2 .taken))
+    let below = stands-below (so-far .next) (a .known .to) (so-far .i) (so-far .work) (sym (c .before .stands-next .ensures) ∙ c .if2 .taken) in
+    omega (arith, c .before .before .before .before .before .before .before .before .pre .knownWithin)
 
 add-t19 : tie.Need-add-t19 Inv-loop μ-loop
 add-t19 c = omega (arith, c .before .before .before .before .before .before .before .before .pre .nowWithin, c .before .before .before .if1 .taken)
@@ -47,15 +48,21 @@ enum-told : tie.Need-enum-told Inv-loop μ-loop
 enum-told c = search needs
 
 same-length : tie.Need-same-length Inv-loop μ-loop
-same-length c = c .before .before .before .before .add-part .kept .0 ∙ going-length (c .before .before .before .before .before .before .before .before .before .before .before .loop .inv) .0
+same-length c =
+    let so-far = c .before .before .before .before .before .before .before .before .before .before .before .loop in
+    c .before .before .before .before .add-part .kept .0 ∙ going-length (so-far .inv) .0
 
 returns : tie.Need-returns Inv-loop μ-loop
 returns c =
     let a = c .before .before .before .before .before .before .before .before .before .before .before .before .before .before .args in
     let h = c .before .before .before .before .before .before .before .before .before .before .before .before .before .before .pre in
     let so-far = c .before .before .before .before .before .before .before .before .before .before .before .loop in
-    let p = renewal-large (a .most) (a .known .to) (so-far .next) (a .giving) (a .list .now) (so-far .inv) (h .knownBefore) (h .knownWithin) (h .nowBefore) (h .nowWithin) (c .before .before .before .before .before .before .before .before .before .if1 .taken)
-    (sym (c .before .before .before .before .before .before .before .stands-next .ensures) ∙ c .before .before .before .before .before .before .if2 .left) (c .before .before .before .before .add-part .ensures) (c .enum-told .given .1) in
+    let more = c .before .before .before .before .before .before .before .before .before .if1 .taken in
+    let new = sym (c .before .before .before .before .before .before .before .stands-next .ensures) ∙ c .before .before .before .before .before .before
+    .if2 .left in
+    let p = renewal-large (a .most) (a .known .to) (so-far .next) (a .giving) (a .list .now) (so-far .inv) (h .knownBefore) (h .knownWithin)
+    (h .nowBefore) (h .nowWithin) more new
+    (c .before .before .before .before .add-part .ensures) (c .enum-told .given .1) in
     record { answer = p .0; words = p .1 }
 
 add-i : tie.Need-add-i Inv-loop μ-loop
@@ -71,11 +78,16 @@ loop-again c =
     let so-far = c .before .before .before .before .before .loop in
     let more = c .before .before .before .if1 .taken in
     let test = c .before .stands-next .ensures in
+    let step =
+    given (roomAt (a .at) (a .most) (length (a .work .now))) (a .at) (a .work .now) (a .giving) (a .list .now) in
     ⊎-elim
-    (λ w. rw (w .1, w .2, w .3) (renewal-passes (a .known .to) (so-far .next) (given (roomAt (a .at) (a .most) (length (a .work .now))) (a .at) (a .work .now) (a .giving) (a .list .now)) (so-far .inv) (h .knownBefore) (h .knownWithin) (h .nowBefore) (h .nowWithin) more (sym test ∙ w .0 .taken)))
+    (λ w. rw (w .1, w .2, w .3)
+    (renewal-passes (a .known .to) (so-far .next) step (so-far .inv) (h .knownBefore) (h .knownWithin) (h .nowBefore) (h .nowWithin) more
+    (sym test ∙ w .0 .taken)))
     (λ w. rw (w .8, w .9, w .10)
-    (renewal-holds (a .most) (a .known .to) (so-far .next) (a .giving) (a .list .now) (so-far .inv) (h .knownBefore) (h .knownWithin) (h .nowBefore) (h .nowWithin) more (sym test ∙ w .0 .left)
-    (w .2 .ensures) (w .6 .given .0 .0) (w .6 .given .1)))
+    (renewal-holds (a .most) (a .known .to) (so-far .next) (a .giving) (a .list .now) (so-far .inv) (h .knownBefore) (h .knownWithin) (h .nowBefore)
+    (h .nowWithin) more
+    (sym test ∙ w .0 .left) (w .2 .ensures) (w .6 .given .0 .0) (w .6 .given .1)))
     (c .if2 .came)
 
 same-length-2 : tie.Need-same-length-2 Inv-loop μ-loop
@@ -85,7 +97,9 @@ returns-2 : tie.Need-returns-2 Inv-loop μ-loop
 returns-2 c =
     let a = c .before .before .before .before .before .args in
     let so-far = c .before .before .loop in
-    let p = renewal-end (a .known .to) (so-far .next) (given (roomAt (a .at) (a .most) (length (a .work .now))) (a .at) (a .work .now) (a .giving) (a .list .now)) (so-far .inv) (c .if1 .left) in
+    let step =
+    given (roomAt (a .at) (a .most) (length (a .work .now))) (a .at) (a .work .now) (a .giving) (a .list .now) in
+    let p = renewal-end (a .known .to) (so-far .next) step (so-far .inv) (c .if1 .left) in
     record { answer = p .0; words = p .1 }
 
 pub add-fresh-spec : {M : Type 1} → statement M

@@ -22,8 +22,11 @@ returns : tie.Need-returns
 returns c =
     let a = c .before .before .before .before .before .before .before .before .before .before .before .before .args in
     let end = c .before .before .before .before .before .before .end-before in
-    all-new (a .at) (a .len) (a .work .now) (a .set .known .from) (a .set .known .to) (end .result) (given (roomAt (a .at) (a .most) (length (a .work .now))) (a .at) (a .work .now) (a .giving) (a .list .now)) (end .ensures)
-    (partBefore (a .at) (a .set .part .from) (a .set .part .to) (a .work .now)) (c .before .before .before .before .if1 .taken) (c .before .before .add-part .ensures)
+    let step =
+    given (roomAt (a .at) (a .most) (length (a .work .now))) (a .at) (a .work .now) (a .giving) (a .list .now) in
+    all-new (a .at) (a .len) (a .work .now) (a .set .known .from) (a .set .known .to) (end .result) step (end .ensures)
+    (partBefore (a .at) (a .set .part .from) (a .set .part .to) (a .work .now)) (c .before .before .before .before .if1 .taken)
+    (c .before .before .add-part .ensures)
 
 end-before-requires-2 : tie.Need-end-before-requires-2
 end-before-requires-2 c κs = tt
@@ -47,7 +50,9 @@ returns-2 c =
     let end = c .before .before .before .before .before .before .before .before .before .before .end-before in
     let last = c .before .before .before .before .before .before .end-before2 in
     let held = c .before .before .before .before .reach in
-    some-new (a .at) (a .len) (a .work .now) (a .set .known .from) (a .set .known .to) (end .result) (given (roomAt (a .at) (a .most) (length (a .work .now))) (a .at) (a .work .now) (a .giving) (a .list .now)) (end .ensures)
+    let step =
+    given (roomAt (a .at) (a .most) (length (a .work .now))) (a .at) (a .work .now) (a .giving) (a .list .now) in
+    some-new (a .at) (a .len) (a .work .now) (a .set .known .from) (a .set .known .to) (end .result) step (end .ensures)
     (a .set .part .from) (a .set .part .to) (last .result) (held .result) (last .ensures) (held .ensures) (c .before .before .add-fresh .ensures)
 
 pub add-new-spec : {M : Type 1} → statement M

@@ -20,7 +20,9 @@ same-length : tie.Need-same-length
 same-length c = search needs
 
 returns-2 : tie.Need-returns-2
-returns-2 c = lower-carried (c .before .before .before .before .before .before .before .args .count) 2048 (c .before .before .before .before .before .before .before .args .work .now) _ (omega arith) (omega arith) (c .before .before .carry .ensures)
+returns-2 c =
+    let a = c .before .before .before .before .before .before .before .args in
+    lower-carried (a .count) 2048 (a .work .now) _ (omega arith) (omega arith) (c .before .before .carry .ensures)
 
 carry-requires-2 : tie.Need-carry-requires-2
 carry-requires-2 c κs = (inr (omega arith), omega arith, omega arith)
@@ -29,7 +31,9 @@ same-length-2 : tie.Need-same-length-2
 same-length-2 c = search needs
 
 returns-3 : tie.Need-returns-3
-returns-3 c = lower-carried (c .before .before .before .before .before .before .before .args .count) (c .before .before .before .before .before .before .before .args .count) (c .before .before .before .before .before .before .before .args .work .now) _ (omega arith) (omega arith) (c .before .before .carry2 .ensures)
+returns-3 c =
+    let a = c .before .before .before .before .before .before .before .args in
+    lower-carried (a .count) (a .count) (a .work .now) _ (omega arith) (omega arith) (c .before .before .carry2 .ensures)
 
 pub lower-spec : {M : Type 1} → statement M
 lower-spec =

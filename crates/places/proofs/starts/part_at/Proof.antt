@@ -17,10 +17,14 @@ end-of-requires : tie.Need-end-of-requires
 end-of-requires c κs = search needs
 
 add-t7 : tie.Need-add-t7
-add-t7 c = omega (arith, start-low (c .before .before .before .before .args .starts .now) (c .before .before .before .before .args .i), base-low (c .before .before .before .before .args .upper))
+add-t7 c =
+    let a = c .before .before .before .before .args in
+    omega (arith, start-low (a .starts .now) (a .i), base-low (a .upper))
 
 add-t8 : tie.Need-add-t8
-add-t8 c = omega (arith, start-low (c .before .before .before .before .args .starts .now) (suc (c .before .before .before .before .args .i)), base-low (c .before .before .before .before .args .upper))
+add-t8 c =
+    let a = c .before .before .before .before .args in
+    omega (arith, start-low (a .starts .now) (suc (a .i)), base-low (a .upper))
 
 returns : tie.Need-returns
 returns c = rw (c .before .before .base-of .ensures, c .before .start-of .ensures, c .end-of .ensures)

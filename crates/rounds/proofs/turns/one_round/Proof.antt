@@ -20,7 +20,9 @@ returns : tie.Need-returns
 returns c = let round = c .before .before .before .before .before .pass in rw (not-true (round .result) (c .if1 .taken)) at (round .ensures)
 
 slice-aggregate-all-stay : tie.Need-slice-aggregate-all-stay
-slice-aggregate-all-stay c = let a = c .before .before .before .before .before .before .before .before .before .before .before .before .before .before .before .before .before .args in sym (length-take-le (a .equations) (a .bodies .now) (c .before .before .before .before .before .before .before .before .before .before .before .before .before .before .before .before .before .pre .5))
+slice-aggregate-all-stay c =
+    let start = c .before .before .before .before .before .before .before .before .before .before .before .before .before .before .before .before .before in
+    sym (length-take-le (start .args .equations) (start .args .bodies .now) (start .pre .5))
 
 all-stay-requires : tie.Need-all-stay-requires
 all-stay-requires c κs = tt
@@ -54,10 +56,12 @@ same-length-6 c = search needs
 returns-3 : tie.Need-returns-3
 returns-3 c =
     let round = c .before .before .before .before .before .before .before .before .before .before .before .before .before .before .before .pass in
+    let fits = not-false (round .result) (c .before .before .before .before .before .before .before .before .before .before .if1 .left) in
+    let test = c .before .before .before .before .before .before .before .all-stay .ensures in
     record {
       worked = _;
-      passed = rw (not-false (round .result) (c .before .before .before .before .before .before .before .before .before .before .if1 .left)) at (round .ensures);
-      changed = sym (c .before .before .before .before .before .before .before .all-stay .ensures) ∙ c .before .before .before .before .before .before .if2 .left;
+      passed = rw fits at (round .ensures);
+      changed = sym test ∙ c .before .before .before .before .before .before .if2 .left;
       long = round .kept .1 .1 .1 .1 .1 .1 .1 .0;
       words = rw (c .before .before .before .start-of .ensures) at (c .before .before .lower .ensures);
     }

@@ -37,7 +37,8 @@ slice-aggregate-one-round-5 c = sym (c .before .before .before .before .before .
 one-round-requires : tie.Need-one-round-requires Inv-loop μ-loop
 one-round-requires c κs =
     let inv = c .before .before .before .before .before .before .before .loop .inv in
-    let e : length (c .before .before .before .before .before .before .before .before .before .before .before .before .args .table .bodies) ≡ 16 = search needs in
+    let bodies = c .before .before .before .before .before .before .before .before .before .before .before .before .args .table .bodies in
+    let e : length bodies ≡ 16 = search needs in
     (inv .first, inv .sizeThis, search needs, inv .few, omega (arith, inv .room, inv .long), omega (arith, inv .equations))
 
 add-k : tie.Need-add-k Inv-loop μ-loop
@@ -47,30 +48,41 @@ enum-told : tie.Need-enum-told Inv-loop μ-loop
 enum-told c = c .match .keys1
 
 same-length : tie.Need-same-length Inv-loop μ-loop
-same-length c = c .before .before .before .before .before .one-round .kept .1 .1 .1 .1 .1 .1 .1 .1 .0 ∙ c .before .before .before .before .before .before .before .before .before .before .before .before .before .loop .inv .long
+same-length c =
+    let round = c .before .before .before .before .before .one-round in
+    let inv = c .before .before .before .before .before .before .before .before .before .before .before .before .before .loop .inv in
+    round .kept .1 .1 .1 .1 .1 .1 .1 .1 .0 ∙ inv .long
 
 returns : tie.Need-returns Inv-loop μ-loop
 returns c =
-    turned-large _ _ _ _ _ _ _ _ (c .before .before .before .before .before .before .before .before .before .before .before .before .before .loop .inv) _ _ (rw (c .enum-told .given .1) at (c .before .before .before .before .before .one-round .ensures))
+    let round = c .before .before .before .before .before .one-round in
+    let inv = c .before .before .before .before .before .before .before .before .before .before .before .before .before .loop .inv in
+    turned-large _ _ _ _ _ _ _ _ inv _ _ (rw (c .enum-told .given .1) at (round .ensures))
 
 enum-told-2 : tie.Need-enum-told-2 Inv-loop μ-loop
 enum-told-2 c = c .match .keys2
 
 slice-aggregate-part-at : tie.Need-slice-aggregate-part-at Inv-loop μ-loop
 slice-aggregate-part-at c =
+    let round = c .before .before .before .before .before .before .one-round in
     let inv = c .before .before .before .before .before .before .before .before .before .before .before .before .before .before .loop .inv in
-    sym (omega (arith, inv .size, c .before .before .before .before .before .before .one-round .kept .1 .1 .1 .1 .1 .1 .1 .0 ∙ inv .sizeThis))
+    sym (omega (arith, inv .size, round .kept .1 .1 .1 .1 .1 .1 .1 .0 ∙ inv .sizeThis))
 
 part-at-requires : tie.Need-part-at-requires Inv-loop μ-loop
 part-at-requires c κs = tt
 
 same-length-2 : tie.Need-same-length-2 Inv-loop μ-loop
-same-length-2 c = c .before .before .before .before .before .before .before .one-round .kept .1 .1 .1 .1 .1 .1 .1 .1 .0 ∙ c .before .before .before .before .before .before .before .before .before .before .before .before .before .before .before .loop .inv .long
+same-length-2 c =
+    let round = c .before .before .before .before .before .before .before .one-round in
+    let inv = c .before .before .before .before .before .before .before .before .before .before .before .before .before .before .before .loop .inv in
+    round .kept .1 .1 .1 .1 .1 .1 .1 .1 .0 ∙ inv .long
 
 returns-2 : tie.Need-returns-2 Inv-loop μ-loop
 returns-2 c =
-    let rest = rw (c .before .before .enum-told2 .given .1) at (c .before .before .before .before .before .before .before .one-round .ensures) in
-    rw (c .part-at .ensures) (turned-stable _ _ _ _ _ _ _ _ (c .before .before .before .before .before .before .before .before .before .before .before .before .before .before .before .loop .inv) _ _ (rest .passed) (rest .same))
+    let round = c .before .before .before .before .before .before .before .one-round in
+    let inv = c .before .before .before .before .before .before .before .before .before .before .before .before .before .before .before .loop .inv in
+    let rest = rw (c .before .before .enum-told2 .given .1) at (round .ensures) in
+    rw (c .part-at .ensures) (turned-stable _ _ _ _ _ _ _ _ inv _ _ (rest .passed) (rest .same))
 
 enum-told-3 : tie.Need-enum-told-3 Inv-loop μ-loop
 enum-told-3 c = c .match .keys3
@@ -81,8 +93,10 @@ loop-less c = omega arith
 loop-again : tie.Need-loop-again Inv-loop μ-loop
 loop-again c =
     let round = c .before .before .before .before .before .one-round in
+    let inv = c .before .before .before .before .before .before .before .before .before .before .before .before .before .loop .inv in
     let went = rw (c .enum-told3 .given .1) at (round .ensures) in
-    turned-step _ _ _ _ _ _ _ _ (c .before .before .before .before .before .before .before .before .before .before .before .before .before .loop .inv) _ _ (went .passed) _ (went .changed) (round .kept .1 .1 .1 .1 .1 .1 .1 .0) (went .long) (round .kept .1 .1 .1 .1 .1 .1 .1 .1 .0) (went .words)
+    turned-step _ _ _ _ _ _ _ _ inv _ _ (went .passed) _ (went .changed) (round .kept .1 .1 .1 .1 .1 .1 .1 .0) (went .long)
+    (round .kept .1 .1 .1 .1 .1 .1 .1 .1 .0) (went .words)
 
 same-length-3 : tie.Need-same-length-3 Inv-loop μ-loop
 same-length-3 c = c .before .loop .inv .long

@@ -47,9 +47,12 @@ same-length-2 c = search needs
 returns-2 : tie.Need-returns-2
 returns-2 c =
     let a = c .before .before .before .before .before .before .before .before .before .before .before .before .before .before .args in
-    let first = c .before .before .before .before .before .before .before .before .before .before .add-new in
-    pair-last (a .at) (a .len) (a .most) (addBy (a .a) (a .by-a)) (addBy (a .b) (a .by-b)) (a .work .now) _ (steady-by (a .a) (a .by-a)) (steady-by (a .b) (a .by-b)) _ _ _
-    (added-by (roomAt (a .at) (a .most) (length (a .work .now))) (a .at) (a .len) (a .a) (a .by-a) (a .work .now) (rw (c .before .before .before .before .before .before .first .given .1) at (first .ensures)))
+    let room = roomAt (a .at) (a .most) (length (a .work .now)) in
+    let first = rw (c .before .before .before .before .before .before .first .given .1) at
+    (c .before .before .before .before .before .before .before .before .before .before .add-new .ensures) in
+    pair-last (a .at) (a .len) (a .most) (addBy (a .a) (a .by-a)) (addBy (a .b) (a .by-b)) (a .work .now) _
+    (steady-by (a .a) (a .by-a)) (steady-by (a .b) (a .by-b)) _ _ _
+    (added-by room (a .at) (a .len) (a .a) (a .by-a) (a .work .now) first)
     (added-by _ (a .at) _ (a .b) (a .by-b) _ (c .before .before .add-new2 .ensures))
 
 pub add-each-spec : {M : Type 1} → statement M

@@ -43,9 +43,11 @@ same-length-3 c = search needs
 returns-3 : tie.Need-returns-3
 returns-3 c =
     let a = c .before .before .before .before .before .before .before .before .before .before .before .before .before .before .before .args in
+    let labels = rw (c .before .before .before .before .before .before .before .labels .given .1) at
+    (c .before .before .before .before .before .before .before .before .before .before .before .before .add-each .ensures) in
     rw (not-false (a .sums) (c .before .before .before .before .before .before .before .before .before .if1 .left))
-    (pair-last (a .at) (a .len) (a .most) (addEither (a .a) (a .b)) (addJoint (a .a) (a .b)) (a .work .now) _ (steady-either (a .a) (a .b)) (steady-joint (a .a) (a .b)) _ _ _
-    (rw (c .before .before .before .before .before .before .before .labels .given .1) at (c .before .before .before .before .before .before .before .before .before .before .before .before .add-each .ensures)) (c .before .before .add-each2 .ensures))
+    (pair-last (a .at) (a .len) (a .most) (addEither (a .a) (a .b)) (addJoint (a .a) (a .b)) (a .work .now) _
+    (steady-either (a .a) (a .b)) (steady-joint (a .a) (a .b)) _ _ _ labels (c .before .before .add-each2 .ensures))
 
 pub add-two-spec : {M : Type 1} → statement M
 add-two-spec =

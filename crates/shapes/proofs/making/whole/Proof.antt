@@ -27,8 +27,9 @@ same-length-2 c = search needs
 returns-2 : tie.Need-returns-2
 returns-2 c =
     let a = c .before .before .before .before .before .before .before .before .args in
+    let union = rw (c .enum-told .given .1) at (c .before .before .before .before .before .union .ensures) in
     rw (not-false (a .sums) (c .before .before .if1 .left))
-    (both-large (a .at) (a .most) (a .a .from) (a .a .to) (a .b .from) (a .b .to) (a .work .now) _ (rw (c .enum-told .given .1) at (c .before .before .before .before .before .union .ensures)))
+    (both-large (a .at) (a .most) (a .a .from) (a .a .to) (a .b .from) (a .b .to) (a .work .now) _ union)
 
 add-product-requires : tie.Need-add-product-requires
 add-product-requires c κs = tt
@@ -39,9 +40,11 @@ same-length-3 c = search needs
 returns-3 : tie.Need-returns-3
 returns-3 c =
     let a = c .before .before .before .before .before .before .before .before .before .before .before .before .before .args in
+    let held = c .before .before .before .before .before .first .given in
+    let union = rw (held .1) at (c .before .before .before .before .before .before .before .before .before .before .union .ensures) in
     rw (not-false (a .sums) (c .before .before .before .before .before .before .before .if1 .left))
-    (both-last (a .at) (a .most) (a .a .from) (a .a .to) (a .b .from) (a .b .to) (a .work .now) _ (c .before .before .before .before .before .first .given .0 .0) _ _
-    (rw (c .before .before .before .before .before .first .given .1) at (c .before .before .before .before .before .before .before .before .before .before .union .ensures)) (c .before .before .add-product .ensures))
+    (both-last (a .at) (a .most) (a .a .from) (a .a .to) (a .b .from) (a .b .to) (a .work .now) _ (held .0 .0) _ _ union
+    (c .before .before .add-product .ensures))
 
 pub whole-spec : {M : Type 1} → statement M
 whole-spec =
