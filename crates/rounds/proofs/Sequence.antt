@@ -11,7 +11,8 @@ use Rattle.sets.specs.declared.Built.the-variants.{TooLarge, Holds}
 use Rattle.ways.specs.declared.Way.{Way}
 use Rattle.ways.specs.declared.Way.the-variants.{Copy}
 use Rattle.sets.specs.Parts.{setAt, laid, part, roomAt}
-use Rattle.sets.specs.Building.{Building, answerOf, goesOn, next, multiplied, Grown}
+use Rattle.sets.specs.Building.{Building, answerOf, goesOn, next, Grown}
+use Rattle.merging.specs.Multiplying.{multiplied}
 use Rattle.ways.specs.Imaging.{imaged}
 use Rattle.sets.proofs.Laid.{length-setAt, take-laid}
 use Rattle.sets.proofs.Steps.{Steady, steady-each, steady-next, Going, going-last, grown-as, next-holds, next-large, built-holds}

@@ -10,7 +10,8 @@ use Rattle.table.specs.declared.Term.{Term}
 use Rattle.table.specs.declared.Term.the-variants.{Delta, Tau, Act, Ref, Sum, Cond, Choice, IfElse, Seq, Merge, LMerge, Sync, Wrap}
 use Rattle.ways.specs.declared.Way.the-variants.{Copy}
 use Rattle.sets.specs.Parts.{partBefore}
-use Rattle.sets.specs.Building.{Building, done, stopped, next, multiplied}
+use Rattle.sets.specs.Building.{Building, done, stopped, next}
+use Rattle.merging.specs.Multiplying.{multiplied}
 use Rattle.sets.specs.declared.Part.{Part}
 use Rattle.table.specs.declared.Operator.{Operator}
 use Rattle.shapes.specs.Fresh.{fresh}

@@ -5,7 +5,8 @@ use mathlib.Core.List.{List, [], _∷_}
 use Prim.Native.Nat.{ℕ}
 use lib.Dec.{eqb}
 pub use Rattle.sets.specs.Parts.{wordsOf}
-use Rattle.sets.specs.Building.{Building, each, row}
+use Rattle.sets.specs.Building.{Building, each}
+use Rattle.merging.specs.Multiplying.{row}
 use Rattle.ways.specs.Imaging.{imaged}
 use Rattle.shapes.specs.declared.Growth.{Growth}
 use Rattle.shapes.specs.declared.Giving.{Giving}

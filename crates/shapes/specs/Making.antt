@@ -3,9 +3,10 @@
 use mathlib.Core.List.{List}
 use Prim.Native.Nat.{ℕ}
 use Rattle.ways.specs.declared.Way.{Way}
-use Rattle.sets.specs.Building.{Building, next, each, enter, multiplied}
+use Rattle.sets.specs.Building.{Building, next, each, enter}
+use Rattle.merging.specs.Multiplying.{multiplied}
 use Rattle.ways.specs.Imaging.{imaged}
-use Rattle.sets.specs.Joining.{united}
+use Rattle.merging.specs.Joining.{united}
 
 abbrev pub leafBuilt : ℕ → ℕ → List ℕ → Building
 leafBuilt room w s = enter room w s

@@ -1,12 +1,12 @@
 // The set of a term, built at a place of the work area from parts that stand before it, by the shape of the term.
 use labels::Label;
+use merging::joining::union;
+use merging::multiplying::add_product;
 use sets::Built;
 use sets::Inserted;
 use sets::Part;
 use sets::Target;
 use sets::inserting::insert;
-use sets::joining::union;
-use sets::multiplying::add_product;
 ghost use lib.ListN.{length};
 ghost use Rattle.labels.specs.Packing.{held, code};
 ghost use Rattle.sets.specs.Parts.{wordsOf, roomAt};
@@ -27,7 +27,10 @@ pub fn leaf(work: &mut [u64], label: Label, at: usize, most: usize) -> Built
 
 // Both of two parts, and their product.
 pub fn both(work: &mut [u64], part: Part, by: Part, at: usize, most: usize) -> Built
-    ensures { λ r. ⌜ Grown (bothBuilt (roomAt at most (length (held (now (work .entry))))) (wordsOf at part (held (now (work .entry)))) (wordsOf at by (held (now (work .entry))))) at 0 (held (now (work .entry))) (held (now (work .exit))) r ⌝ }
+    ensures { λ r. ⌜ Grown
+        (bothBuilt (roomAt at most (length (held (now (work .entry)))))
+        (wordsOf at part (held (now (work .entry)))) (wordsOf at by (held (now (work .entry)))))
+        at 0 (held (now (work .entry))) (held (now (work .exit))) r ⌝ }
 {
     let first = union(work, part, by, at, most);
     let Built::Holds(n) = first else {
