@@ -18,9 +18,9 @@ use Rattle.sets.specs.declared.Offer.the-variants.{Nothing, TooLong, Next}
 use Rattle.sets.specs.Parts.{setAt, roomAt, reachOf}
 use Rattle.sets.specs.Inserting.{inserted, Entered}
 use Rattle.sets.specs.Building.{Building, done, next, followed, enter, taken, Grown}
+use Rattle.sets.proofs.Steps.{Steady, steady-done, steady-next, steady-followed, steady-taken, steady-enter, Going, going-start, going-length, going-end, going-stop, going-as, going-holds, going-large, going-last, grown-as, followed-stops, followed-stays, followed-going, followed-ends, insertedThen}
 use Rattle.comm.specs.Following.{eachRule, closed}
 use Rattle.comm.specs.Rules.{Exchange, exchangesIn, exchangeOf}
-use Rattle.sets.proofs.Steps.{Steady, steady-done, steady-next, steady-followed, steady-taken, steady-enter, Going, going-start, going-length, going-end, going-stop, going-as, going-holds, going-large, going-last, grown-as, followed-stops, followed-stays, followed-going, followed-ends, insertedThen}
 
 -- What follows never shortens a set and never takes it past the room.
 module _ (room : ℕ) where
@@ -34,7 +34,8 @@ module _ (room : ℕ) where
   pub steady-closed : (rs : List Exchange) (depth w : ℕ) → Steady room (closed room rs depth w)
   unfolding closed
   steady-closed rs zero w = steady-enter room w
-  steady-closed rs (suc depth) w = steady-followed room w (eachRule (closed room rs depth) rs w) (steady-eachRule (closed room rs depth) rs w (steady-closed rs depth))
+  steady-closed rs (suc depth) w =
+      steady-followed room w (eachRule (closed room rs depth) rs w) (steady-eachRule (closed room rs depth) rs w (steady-closed rs depth))
 
 -- The rules from a label of the list on.
 exchanges-more : (ls : List ℕ) (i : ℕ) → i + 1 < length ls
@@ -151,5 +152,6 @@ module _ {at len most w : ℕ} {ls after : List ℕ} {o : Inserted} (x : Entered
         grown-as (λ s. deeper s d) (record { answer = p .0; words = p .1 })
       where
         deeper : (s : List ℕ) → depth ≡ suc (depth - 1)
-            → insertedThen (roomAt at most (length ls)) w (eachRule (closed (roomAt at most (length ls)) rs (depth - 1)) rs w) s ≡ closed (roomAt at most (length ls)) rs depth w s
+            → insertedThen (roomAt at most (length ls)) w (eachRule (closed (roomAt at most (length ls)) rs (depth - 1)) rs w) s
+            ≡ closed (roomAt at most (length ls)) rs depth w s
         deeper s d = closed-is (roomAt at most (length ls)) rs (suc (depth - 1)) w s ∙ ap (λ (k : ℕ). closed (roomAt at most (length ls)) rs k w s) (sym d)

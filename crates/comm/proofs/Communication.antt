@@ -8,7 +8,7 @@ use mathlib.Core.List.{List, [], _∷_, _++_, map}
 use Prim.Native.Nat.{ℕ, zero, suc, _+_, _≤_, _<_}
 use native.Mathlib.Nat.{le-refl}
 use native.Mathlib.Omega.{arith}
-use borrow.Author.Tests.{le-ltb}
+use borrow.Author.Tests.{le-ltb, ltb-false}
 use lib.Dec.{T, ltb}
 use lib.ListN.{length, length-map}
 use Rattle.meaning.specs.Labels.{Label, size, number, single, minus, inside}
@@ -27,15 +27,13 @@ use Rattle.labels.proofs.Meant.{Packs, packs-small, inside-number, difference-n
 use Rattle.sets.specs.declared.Inserted.{Inserted}
 use Rattle.sets.specs.declared.Inserted.the-variants.{Full, Present, Added}
 use Rattle.sets.specs.declared.Offer.the-variants.{Next}
-use Rattle.sets.specs.Inserting.{present, putIn, pickInserted, inserted}
+use Rattle.sets.specs.Inserting.{present, putIn, pickInserted, inserted, insertNumber}
 use Rattle.sets.specs.Building.{Building, done, goesOn, next, each, followed, taken}
-use Rattle.comm.specs.Following.{eachRule, closed}
-use Rattle.comm.specs.Rules.{Exchange, exchangesIn, pickOffer, exchangeOf}
-use Rattle.sets.specs.Joining.{insertNumber}
 use Rattle.sets.proofs.Sorting.{insert-present, insert-absent}
 use Rattle.sets.proofs.Steps.{length-putIn}
 use Rattle.sets.proofs.Meant.{AllPack, insert-number, numbers-rising, ascending-same, TooMuch, too-much-more, Outcome, each-outcome}
-use borrow.Author.Tests.{ltb-false}
+use Rattle.comm.specs.Following.{eachRule, closed}
+use Rattle.comm.specs.Rules.{Exchange, exchangesIn, pickOffer, exchangeOf}
 
 -- Rules are read as they are stored.
 abbrev exchange : ℕ → Rule → Exchange

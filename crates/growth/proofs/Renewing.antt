@@ -14,9 +14,11 @@ use lib.Seq.{take-take, slice-cons, slice-empty}
 use Rattle.sets.specs.declared.Built.{Built}
 use Rattle.sets.specs.declared.Built.the-variants.{TooLarge, Holds}
 use Rattle.sets.specs.Parts.{part, setAt, laid, partBefore, roomAt, reachOf}
-use Rattle.sets.specs.Building.{Building, done, next, answerOf, each, row, Grown}
+use Rattle.sets.specs.Building.{Building, done, next, answerOf, each, Grown}
+use Rattle.merging.specs.Multiplying.{row}
 use Rattle.sets.proofs.Laid.{setAt-reach}
-use Rattle.sets.proofs.Steps.{Steady, steady-row, Going, going-start, going-length, going-end, going-as, going-holds, going-large, grown-as}
+use Rattle.sets.proofs.Steps.{Steady, Going, going-start, going-length, going-end, going-as, going-holds, going-large, grown-as}
+use Rattle.merging.proofs.Products.{steady-row}
 use Rattle.ways.proofs.Images.{steady-imaged}
 use Rattle.sets.proofs.Walking.{part-end, part-stays}
 use Rattle.growth.specs.declared.Giving.{Giving}

@@ -6,7 +6,8 @@ use Prim.Native.Nat.{ℕ, _-_, _≤_}
 use lib.Dec.{eqb}
 use lib.ListN.{length}
 use Rattle.sets.specs.Parts.{part}
-use Rattle.sets.specs.Building.{Building, row}
+use Rattle.sets.specs.Building.{Building}
+use Rattle.merging.specs.Multiplying.{row}
 use Rattle.ways.specs.Imaging.{imaged}
 use Rattle.sets.specs.declared.Part.{Part}
 use Rattle.places.specs.declared.Growth.{Growth}

@@ -7,7 +7,6 @@ use places::Growth;
 use sets::Built;
 use sets::Part;
 use sets::Target;
-use sets::multiplying::add_product;
 use sets::placing::end_before;
 use sets::placing::reach;
 use ways::imaging::add_image;

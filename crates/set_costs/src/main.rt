@@ -3,12 +3,12 @@
 use labels::Label;
 use labels::bags::single;
 use libc::STDOUT_FILENO;
+use merging::joining::union;
+use merging::multiplying::add_product;
 use sets::Built;
 use sets::Part;
 use sets::Target;
 use sets::inserting::insert;
-use sets::joining::union;
-use sets::multiplying::add_product;
 use ways::Way;
 use ways::imaging::add_image;
 

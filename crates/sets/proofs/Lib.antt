@@ -5,8 +5,6 @@ pub mod Insertion
 pub mod Steps
 pub mod Walking
 pub mod Sorting
-pub mod Parts
-pub mod Uniting
 pub mod Meant
 pub mod Outcomes
 pub mod Uniqueness

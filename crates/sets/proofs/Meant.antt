@@ -18,7 +18,7 @@ use Rattle.meaning.proofs.Limits.{Long}
 use Rattle.meaning.proofs.Members.{in-append, in-ascending, ascending-ascends, ascending-unique}
 use Rattle.labels.proofs.Meant.{Packs, packs-small}
 use Rattle.sets.specs.Building.{Building, done, goesOn, next, each, enter}
-use Rattle.sets.specs.Joining.{placedBy, insertNumber}
+use Rattle.sets.specs.Inserting.{placedBy, insertNumber}
 use Rattle.sets.proofs.Sorting.{compare-lt, compare-gt, compare-eq, rising-insert, Entering, rising-enter}
 
 -- The numbers of labels are ordered as the labels are.

@@ -10,7 +10,6 @@ use borrow.Author.Tests.{ltb-true}
 use lib.Dec.{ltb}
 use lib.ListN.{length, length-append, length-take, length-drop}
 use Rattle.labels.specs.Packing.{code}
-use Rattle.labels.specs.Bags.{sumOf}
 use Rattle.sets.specs.declared.Inserted.{Inserted}
 use Rattle.sets.specs.declared.Inserted.the-variants.{Full, Present, Added}
 use Rattle.sets.specs.declared.Built.{Built}
@@ -19,7 +18,7 @@ use Rattle.sets.specs.declared.Offer.{Offer}
 use Rattle.sets.specs.declared.Offer.the-variants.{Nothing, TooLong, Next}
 use Rattle.sets.specs.Parts.{setAt, laid, roomAt, reachOf}
 use Rattle.sets.specs.Inserting.{present, putIn, pickInserted, inserted, Entered}
-use Rattle.sets.specs.Building.{Building, done, stopped, pickBuilt, answerOf, goesOn, next, each, followed, enter, taken, summed, added, row, Grown}
+use Rattle.sets.specs.Building.{Building, done, stopped, pickBuilt, answerOf, goesOn, next, each, followed, enter, taken, Grown}
 use Rattle.sets.proofs.Laid.{Fits, length-setAt, laid-self, length-laid, setAt-laid, laid-laid}
 
 -- The length of a set under each step.
@@ -73,12 +72,6 @@ module _ (room : ℕ) where
 
   pub steady-enter : (w : ℕ) → Steady room (enter room w)
   steady-enter w = steady-followed w done steady-done
-
-  pub steady-added : (a w : ℕ) → Steady room (added room a w)
-  steady-added a w = steady-taken (enter room) (summed (sumOf a w)) steady-enter
-
-  pub steady-row : (b : List ℕ) (a : ℕ) → Steady room (row room b a)
-  steady-row b a = steady-each (added room a) b (steady-added a)
 
 -- What an answer says of the set.
 pub built-holds : (t : Bool) (m n : ℕ) → Holds n ≡ pickBuilt t m → (t ≡ true) × (n ≡ m)
@@ -193,7 +186,8 @@ module _ {at len most w : ℕ} {ls after : List ℕ} {o : Inserted} (x : Entered
         record { answer = rw i (ap Holds l); words = x .words ∙ rw (e, i) }
 
     -- a label was put in: what goes on from there
-    pub followed-going : (more : List ℕ → Building) → o ≡ Added → Going at ls after (count + 1) more (insertedThen (roomAt at most (length ls)) w more (setAt at len ls))
+    pub followed-going : (more : List ℕ → Building) → o ≡ Added
+        → Going at ls after (count + 1) more (insertedThen (roomAt at most (length ls)) w more (setAt at len ls))
     followed-going more e =
         let i = sym (x .answer) ∙ e in
         let k = length-putIn (setAt at len ls) w in

@@ -41,7 +41,10 @@ module _ (step : ℕ → ℕ → List ℕ → Building) (at most : ℕ) (before 
         (each (step (roomAt at most (length before))) (drop from (take end before)) (setAt at start before))
 
   pub walk-start : (start ≤ length before - at) × (end ≤ at) × (end ≤ length before) → Walk before start from
-  walk-start h = record { within = (h .1, h .2); going = going-start at before start (each (step (roomAt at most (length before))) (drop from (take end before))) (h .0) }
+  walk-start h = record {
+    within = (h .1, h .2);
+    going = going-start at before start (each (step (roomAt at most (length before))) (drop from (take end before))) (h .0);
+  }
 
 module _ {step : ℕ → ℕ → List ℕ → Building} {at most : ℕ} {before : List ℕ} {start end from : ℕ} {now : List ℕ} {count i : ℕ}
     (x : Walk step at most before start end from now count i) where
@@ -50,6 +53,10 @@ module _ {step : ℕ → ℕ → List ℕ → Building} {at most : ℕ} {before 
 
   pub walk-length : (length now ≡ length before) × (count ≤ length now - at)
   walk-length = going-length (x .going)
+
+  -- the parts before the set stay
+  pub walk-words : (p : Part) → wordsOf at p now ≡ wordsOf at p before
+  walk-words p = part-stays (p .from) (p .to) (x .going)
 
   pub walk-end : end ≤ i → Walked now (Holds count)
   unfolding each

@@ -8,7 +8,6 @@ use lib.ListN.{length}
 use Rattle.labels.specs.declared.Sum.{Sum}
 use Rattle.labels.specs.declared.Sum.the-variants.{Over, Of}
 use Rattle.labels.specs.Packing.{code}
-use Rattle.labels.specs.Bags.{sumOf}
 use Rattle.sets.specs.declared.Inserted.{Inserted}
 use Rattle.sets.specs.declared.Inserted.the-variants.{Full, Present, Added}
 use Rattle.sets.specs.declared.Built.{Built}
@@ -67,16 +66,6 @@ taken step (Next a) s = step (code a) s
 abbrev pub summed : Sum → Offer
 summed Over = TooLong
 summed (Of a) = Next a
-
--- The product of two lists: each label of the first added to each of the second.
-abbrev pub added : ℕ → ℕ → ℕ → List ℕ → Building
-added room a w = taken (enter room) (summed (sumOf a w))
-
-abbrev pub row : ℕ → List ℕ → ℕ → List ℕ → Building
-row room bs a = each (added room a) bs
-
-abbrev pub multiplied : ℕ → List ℕ → List ℕ → List ℕ → Building
-multiplied room ls bs = each (row room bs) ls
 
 -- A function that builds a set of `len` labels at a place on: what it answers, and the words after it.
 pub record Grown (build : List ℕ → Building) (at len : ℕ) (before after : List ℕ) (r : Built) : Type 0 where

@@ -2,4 +2,3 @@
 pub mod Parts
 pub mod Inserting
 pub mod Building
-pub mod Joining

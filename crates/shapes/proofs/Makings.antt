@@ -12,9 +12,11 @@ use lib.Seq.{paste-zero}
 use Rattle.sets.specs.declared.Built.{Built}
 use Rattle.sets.specs.declared.Built.the-variants.{TooLarge, Holds}
 use Rattle.sets.specs.Parts.{setAt, laid, partBefore, roomAt}
-use Rattle.sets.specs.Building.{Building, done, answerOf, row, multiplied, Grown}
-use Rattle.sets.specs.Joining.{joined, ascent, fitting, united}
-use Rattle.sets.proofs.Steps.{Steady, steady-each, steady-row, Going, going-last, grown-as, next-holds, next-large, built-holds}
+use Rattle.sets.specs.Building.{Building, done, answerOf, Grown}
+use Rattle.merging.specs.Multiplying.{row, multiplied}
+use Rattle.merging.specs.Joining.{joined, ascent, fitting, united}
+use Rattle.sets.proofs.Steps.{Steady, steady-each, Going, going-last, grown-as, next-holds, next-large, built-holds}
+use Rattle.merging.proofs.Products.{steady-row}
 use Rattle.sets.proofs.Walking.{part-stays}
 use Rattle.shapes.specs.Making.{bothBuilt}
 

@@ -5,7 +5,8 @@ use mathlib.Core.List.{List, []}
 use Prim.Native.Nat.{ℕ}
 use Rattle.ways.specs.declared.Way.the-variants.{Copy}
 use Rattle.sets.specs.Parts.{part}
-use Rattle.sets.specs.Building.{Building, next, each, row, multiplied}
+use Rattle.sets.specs.Building.{Building, next, each}
+use Rattle.merging.specs.Multiplying.{row, multiplied}
 use Rattle.ways.specs.Imaging.{imaged}
 use Rattle.sets.specs.declared.Part.{Part}
 use Rattle.places.specs.declared.Growth.{Growth}

@@ -2,8 +2,9 @@
 -- Assumes nothing.
 use mathlib.Core.List.{List}
 use Prim.Native.Nat.{ℕ}
-use Rattle.sets.specs.Building.{Building, next, enter, multiplied}
-use Rattle.sets.specs.Joining.{united}
+use Rattle.sets.specs.Building.{Building, next, enter}
+use Rattle.merging.specs.Multiplying.{multiplied}
+use Rattle.merging.specs.Joining.{united}
 
 abbrev pub leafBuilt : ℕ → ℕ → List ℕ → Building
 leafBuilt room w s = enter room w s

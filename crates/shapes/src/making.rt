@@ -1,12 +1,12 @@
 // The set of a term, built at a place of the work area from parts that stand before it, by the shape of the term.
 use labels::Label;
+use merging::joining::union;
+use merging::multiplying::add_product;
 use sets::Built;
 use sets::Inserted;
 use sets::Part;
 use sets::Target;
 use sets::inserting::insert;
-use sets::joining::union;
-use sets::multiplying::add_product;
 ghost use lib.ListN.{length};
 ghost use Rattle.labels.specs.Packing.{held, code};
 ghost use Rattle.sets.specs.Parts.{roomAt};

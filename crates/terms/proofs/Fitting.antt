@@ -10,10 +10,12 @@ use lib.ListN.{length}
 use borrow.Author.Tests.{leb-true}
 use Rattle.ways.specs.declared.Way.{Way}
 use Rattle.ways.specs.declared.Way.the-variants.{Copy}
-use Rattle.sets.specs.Building.{Building, goesOn, next, row, multiplied}
+use Rattle.sets.specs.Building.{Building, goesOn, next}
+use Rattle.merging.specs.Multiplying.{row, multiplied}
 use Rattle.ways.specs.Imaging.{imaged}
-use Rattle.sets.specs.Joining.{joined, ascent, fitting, united}
-use Rattle.sets.proofs.Steps.{Steady, steady-each, steady-enter, steady-row}
+use Rattle.merging.specs.Joining.{joined, ascent, fitting, united}
+use Rattle.sets.proofs.Steps.{Steady, steady-each, steady-enter}
+use Rattle.merging.proofs.Products.{steady-row}
 use Rattle.ways.proofs.Images.{steady-imaged}
 use Rattle.shapes.specs.Making.{leafBuilt, eitherBuilt, jointBuilt, bothBuilt}
 use Rattle.growth.specs.Ways.{throughBuilt}

@@ -26,7 +26,8 @@ use Rattle.meaning.proofs.Growth.{round-grows, round-length, at-body}
 use Rattle.labels.proofs.Meant.{packs-small}
 use Rattle.sets.specs.declared.Built.{Built}
 use Rattle.ways.specs.declared.Way.the-variants.{Copy}
-use Rattle.sets.specs.Building.{Building, next, Grown, multiplied}
+use Rattle.sets.specs.Building.{Building, next, Grown}
+use Rattle.merging.specs.Multiplying.{multiplied}
 use Rattle.comm.proofs.Communication.{rule-legal}
 use Rattle.sets.proofs.Meant.{AllPack}
 use Rattle.growth.specs.Fresh.{fresh}

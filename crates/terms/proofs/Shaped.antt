@@ -21,10 +21,13 @@ use Rattle.labels.proofs.Stored.{pairWords, labelWords, ruleLabels}
 use Rattle.labels.proofs.Meant.{Packs}
 use Rattle.ways.specs.declared.Way.{Way}
 use Rattle.ways.specs.declared.Way.the-variants.{Copy, Block, Hide, Rename, Comm, Allow}
-use Rattle.sets.specs.Building.{Building, done, stopped, goesOn, next, enter, multiplied}
-use Rattle.sets.specs.Joining.{united}
+use Rattle.sets.specs.Building.{Building, done, stopped, goesOn, next, enter}
+use Rattle.merging.specs.Multiplying.{multiplied}
+use Rattle.merging.specs.Joining.{united}
 use Rattle.sets.proofs.Meant.{AllPack, ascending-same, TooMuch, too-much-more, Outcome, enter-outcome}
-use Rattle.sets.proofs.Outcomes.{Result, Anything, product-outcome, union-outcome}
+use Rattle.sets.proofs.Outcomes.{Result, Anything}
+use Rattle.merging.proofs.Unions.{union-outcome}
+use Rattle.merging.proofs.Products.{product-outcome}
 use Rattle.ways.proofs.Refinement.{way-outcome, copy-offers, block-offers, hide-offers, rename-offers, allow-offers}
 use Rattle.comm.proofs.Communication.{Closed, closed-moves, comm-outcome}
 use Rattle.shapes.specs.Making.{leafBuilt, eitherBuilt, jointBuilt, bothBuilt}

@@ -8,7 +8,7 @@ use places::starts::part_at;
 use places::starts::place_of;
 use sets::Built;
 use sets::Target;
-use sets::multiplying::add_product;
+use merging::multiplying::add_product;
 use shapes::Shape;
 use shapes::adding::add_two;
 use shapes::making::leaf;

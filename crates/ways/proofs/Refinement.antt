@@ -17,19 +17,19 @@ use Rattle.meaning.specs.Legal.{Each, LegalPair}
 use Rattle.meaning.proofs.Bags.{size-without, size-renamed, length-without, length-renamed}
 use Rattle.labels.specs.Packing.{packed}
 use Rattle.labels.proofs.Sizes.{number-zero}
-use Rattle.sets.proofs.Outcomes.{Offered, none, one, Anything, Result, taken-outcome}
 use Rattle.labels.proofs.Stored.{labelWords, pairWords, pairs-read}
 use Rattle.labels.proofs.Meant.{Packs}
 use Rattle.names.proofs.Refinement.{clear-number, without-number, renamed-number}
 use Rattle.sets.specs.declared.Offer.{Offer}
 use Rattle.sets.specs.declared.Offer.the-variants.{Nothing, TooLong, Next}
-use Rattle.ways.specs.declared.Way.{Way}
-use Rattle.ways.specs.declared.Way.the-variants.{Copy, Block, Hide, Rename, Allow}
 use Rattle.sets.specs.Building.{each, enter, taken}
-use Rattle.ways.specs.Imaging.{listedIn, offerOf, depthOf, imaged}
+use Rattle.sets.proofs.Outcomes.{Offered, none, one, Anything, Result, taken-outcome}
+use Rattle.sets.proofs.Meant.{AllPack, compare-number, each-outcome}
 use Rattle.comm.specs.Following.{closed}
 use Rattle.comm.specs.Rules.{pickOffer, Exchange, exchangesIn}
-use Rattle.sets.proofs.Meant.{AllPack, compare-number, each-outcome}
+use Rattle.ways.specs.declared.Way.{Way}
+use Rattle.ways.specs.declared.Way.the-variants.{Copy, Block, Hide, Rename, Allow}
+use Rattle.ways.specs.Imaging.{listedIn, offerOf, depthOf, imaged}
 
 -- A way that follows no rules.
 taken-alone : (room : ℕ) (rs : List Exchange) (o : Offer) (s : List ℕ) → taken (enter room) o s ≡ taken (closed room rs 0) o s

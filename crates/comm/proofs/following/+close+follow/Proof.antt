@@ -176,7 +176,8 @@ module _ (t : ℕ) where
   follow-loop-again : follow-lts.Need-loop-again (follow-calls t) (follow-at t) follow.Post follow-Inv-loop follow-μ-loop
   follow-loop-again c =
       let tested = c .before .before .before in
-      following-nothing (tested .before .before .loop .inv) (rw (tested .before .labels-in .ensures) at (tested .if1 .taken)) (c .before .before .offer .ensures) (c .enum-told .given .1)
+      following-nothing (tested .before .before .loop .inv) (rw (tested .before .labels-in .ensures) at (tested .if1 .taken))
+      (c .before .before .offer .ensures) (c .enum-told .given .1)
 
   follow-enum-told-2 : follow-lts.Need-enum-told-2 (follow-calls t) (follow-at t) follow.Post follow-Inv-loop follow-μ-loop
   follow-enum-told-2 c = search needs
@@ -187,7 +188,8 @@ module _ (t : ℕ) where
   follow-returns : follow-lts.Need-returns (follow-calls t) (follow-at t) follow.Post follow-Inv-loop follow-μ-loop
   follow-returns c =
       let tested = c .before .before .before in
-      following-long (tested .before .before .loop .inv) (rw (tested .before .labels-in .ensures) at (tested .if1 .taken)) (c .before .before .offer .ensures) (c .enum-told2 .given .1)
+      following-long (tested .before .before .loop .inv) (rw (tested .before .labels-in .ensures) at (tested .if1 .taken))
+      (c .before .before .offer .ensures) (c .enum-told2 .given .1)
 
   follow-enum-known-made : follow-lts.Need-enum-known-made (follow-calls t) (follow-at t) follow.Post follow-Inv-loop follow-μ-loop
   follow-enum-known-made c = search needs
@@ -208,7 +210,8 @@ module _ (t : ℕ) where
   follow-returns-2 c =
       let next = c .before .before .before .before .before .before .before .made .given in
       let tested = c .before .before .before .before .before .before .before .before .before .before in
-      following-large (tested .before .before .loop .inv) (rw (tested .before .labels-in .ensures) at (tested .if1 .taken)) (c .before .before .before .before .before .before .before .before .before .offer .ensures) (next .0 .0) (next .1)
+      following-large (tested .before .before .loop .inv) (rw (tested .before .labels-in .ensures) at (tested .if1 .taken))
+      (c .before .before .before .before .before .before .before .before .before .offer .ensures) (next .0 .0) (next .1)
       (c .before .before .before .before .close .ensures) (c .enum-told3 .given .1)
 
   follow-loop-less-2 : follow-lts.Need-loop-less-2 (follow-calls t) (follow-at t) follow.Post follow-Inv-loop follow-μ-loop
@@ -218,7 +221,8 @@ module _ (t : ℕ) where
   follow-loop-again-2 c =
       let next = c .before .before .before .before .before .before .before .before .made .given in
       let tested = c .before .before .before .before .before .before .before .before .before .before .before in
-      following-next (tested .before .before .loop .inv) (rw (tested .before .labels-in .ensures) at (tested .if1 .taken)) (c .before .before .before .before .before .before .before .before .before .before .offer .ensures) (next .0 .0) (next .1)
+      following-next (tested .before .before .loop .inv) (rw (tested .before .labels-in .ensures) at (tested .if1 .taken))
+      (c .before .before .before .before .before .before .before .before .before .before .offer .ensures) (next .0 .0) (next .1)
       (c .before .before .before .before .before .close .ensures) (c .before .step .given .0 .0) (c .before .step .given .1)
 
   follow-same-length-3 : follow-lts.Need-same-length-3 (follow-calls t) (follow-at t) follow.Post follow-Inv-loop follow-μ-loop

@@ -47,16 +47,22 @@ enum-told : tie.Need-enum-told Inv-loop μ-loop
 enum-told c = search needs
 
 same-length : tie.Need-same-length Inv-loop μ-loop
-same-length c = c .before .before .before .before .take .kept .0 ∙ walk-length (c .before .before .before .before .before .before .before .before .before .before .before .loop .inv) .0
+same-length c =
+    let looped = c .before .before .before .before .before .before .before .before .before .before .before in
+    c .before .before .before .before .take .kept .0 ∙ walk-length (looped .loop .inv) .0
 
 returns : tie.Need-returns Inv-loop μ-loop
 returns c =
     let read = c .before .before .before .before .before .before .before .before in
     let looped = read .before .before .before in
     let a = looped .before .before .before .before .before .before .before .before .args in
-    walked (λ room. imaged room (a .way) (a .list .now)) (a .target) (a .part) (looped .before .before .before .before .reach .ensures) (looped .before .before .end-before .ensures)
-    (walk-large (looped .loop .inv) (λ room. steady-imaged room (a .way) (a .list .now)) (read .before .before .loop-test .taken) (read .read-label .result .word)
-    (ap (λ x. x .word) (read .read-label .ensures)) (rw (c .before .before .before .before .before .before .before .made .ensures, c .before .before .before .before .before .depth .ensures) at (c .before .before .before .before .take .ensures)) (c .enum-told .given .1))
+    let taken = c .before .before .before .before in
+    let grown = rw (taken .before .before .before .made .ensures, taken .before .depth .ensures) at (taken .take .ensures) in
+    walked (λ room. imaged room (a .way) (a .list .now)) (a .target) (a .part)
+    (looped .before .before .before .before .reach .ensures) (looped .before .before .end-before .ensures)
+    (walk-large (looped .loop .inv) (λ room. steady-imaged room (a .way) (a .list .now)) (read .before .before .loop-test .taken)
+    (read .read-label .result .word)
+    (ap (λ x. x .word) (read .read-label .ensures)) grown (c .enum-told .given .1))
 
 add-i : tie.Need-add-i Inv-loop μ-loop
 add-i c = omega arith
@@ -69,9 +75,11 @@ loop-again c =
     let read = c .before .before .before .before .before .before .before .before .before in
     let looped = read .before .before .before in
     let a = looped .before .before .before .before .before .before .before .before .args in
-    walk-holds (looped .loop .inv) (λ room. steady-imaged room (a .way) (a .list .now)) (read .before .before .loop-test .taken) (read .read-label .result .word)
-    (ap (λ x. x .word) (read .read-label .ensures)) (rw (c .before .before .before .before .before .before .before .before .made .ensures, c .before .before .before .before .before .before .depth .ensures) at (c .before .before .before .before .before .take .ensures))
-    (c .before .step .given .0 .0) (c .before .step .given .1)
+    let taken = c .before .before .before .before .before in
+    let grown = rw (taken .before .before .before .made .ensures, taken .before .depth .ensures) at (taken .take .ensures) in
+    walk-holds (looped .loop .inv) (λ room. steady-imaged room (a .way) (a .list .now)) (read .before .before .loop-test .taken)
+    (read .read-label .result .word)
+    (ap (λ x. x .word) (read .read-label .ensures)) grown (c .before .step .given .0 .0) (c .before .step .given .1)
 
 same-length-2 : tie.Need-same-length-2 Inv-loop μ-loop
 same-length-2 c = walk-length (c .before .loop .inv) .0
@@ -80,7 +88,8 @@ returns-2 : tie.Need-returns-2 Inv-loop μ-loop
 returns-2 c =
     let looped = c .before in
     let a = looped .before .before .before .before .before .before .before .before .args in
-    walked (λ room. imaged room (a .way) (a .list .now)) (a .target) (a .part) (looped .before .before .before .before .reach .ensures) (looped .before .before .end-before .ensures)
+    walked (λ room. imaged room (a .way) (a .list .now)) (a .target) (a .part)
+    (looped .before .before .before .before .reach .ensures) (looped .before .before .end-before .ensures)
     (walk-end (looped .loop .inv) (c .loop-test .left))
 
 pub add-image-spec : {M : Type 1} → statement M

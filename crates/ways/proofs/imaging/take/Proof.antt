@@ -45,7 +45,8 @@ returns-3 c =
     let offered = c .before .before .before .before .before .before .offer .given in
     let a = c .before .before .before .before .before .before .before .before .before .before .args in
     let space = roomAt (a .target .at) (a .target .most) (length (a .words .now)) in
-    rw (offered .1) (grown-as (closed-alone space (exchangesIn (a .rules .now)) (a .depth) (offered .0 .0 .word) (c .before .before .before .before .if1 .taken)) (c .before .before .enter .ensures))
+    let alone = closed-alone space (exchangesIn (a .rules .now)) (a .depth) (offered .0 .0 .word) (c .before .before .before .before .if1 .taken) in
+    rw (offered .1) (grown-as alone (c .before .before .enter .ensures))
 
 same-length-2 : tie.Need-same-length-2
 same-length-2 c = search needs
