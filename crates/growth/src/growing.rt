@@ -3,6 +3,7 @@
 use crate::Giving;
 use labels::packing::read_label;
 use labels::packing::same;
+use merging::multiplying::add_product;
 use places::Growth;
 use sets::Built;
 use sets::Part;

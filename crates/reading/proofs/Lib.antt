@@ -1,4 +1,3 @@
 -- The laws that the readers' proofs cite; each file after those that it cites.
-pub mod Termed
 pub mod Wholes
 pub mod Stores

@@ -35,7 +35,7 @@ use Rattle.reading.specs.declared.Answer.the-variants as N
 use Rattle.reading.specs.declared.Read.{Read}
 use Rattle.sections.specs.declared.Progress.{Progress}
 use Rattle.sections.specs.declared.Progress.the-variants.{Bad}
-use Rattle.reading.proofs.Termed.{over-free}
+use Rattle.termlines.proofs.Lines.{over-free}
 
 pub fault-back : (f : Fault) → faultFor (faultOf f) ≡ f
 fault-back Form = refl

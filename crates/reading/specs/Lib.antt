@@ -1,4 +1,2 @@
--- What the lines of terms and the order's give, and what reading leaves in a table and its list store.
-pub mod Terms
-pub mod Orders
+-- What reading leaves in a table and its list store.
 pub mod Stored

@@ -1,6 +1,4 @@
 // Bytes to a checked table, or the refusal with its number and line.
-mod orders;
-mod terms;
 mod whole;
 
 ghost use Rattle.reading.specs.Stored.{Stored};

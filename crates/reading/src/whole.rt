@@ -10,8 +10,6 @@ ghost use Rattle.grammar.specs.Reading.{fromOrder, fromRoot, fromBodies, fromTe
 ghost use Rattle.reading.specs.Stored.{refusing, badAnswer, FitsAfter, Ended, Named, Sized, HeldTerms, Held};
 use crate::Answer;
 use crate::Read;
-use crate::orders::take_order;
-use crate::terms::take_terms;
 use faults::Fault;
 use sections::Progress;
 use sections::bodies::take_bodies;
@@ -20,6 +18,8 @@ use sections::names::take_names;
 use table::Order;
 use table::Table;
 use table::empty;
+use termlines::orders::take_order;
+use termlines::terms::take_terms;
 
 pub fn refused(answer: Answer) -> Read
     ensures { λ r. ⌜ r ≡ refusing answer ⌝ }

@@ -51,13 +51,13 @@ fault-unique : (f g : F.Fault) → faultOf f ≡ faultOf g → f ≡ g
 fault-unique f g e = let k = found-unique (Faulty f) (Faulty g) (fault (faultOf g)) (ap fault e) refl in cc
 
 -- How far reading has come: the bytes are settled by the text behind them, the number by what it says.
-abbrev Telling : {A : Type 0} → (f g : ℕ → A) → Progress → Progress → Type 0
+abbrev pub Telling : {A : Type 0} → (f g : ℕ → A) → Progress → Progress → Type 0
 Telling f g (To v t) (To w u) = f v ≡ g w → v ≡ w
 Telling f g (To v t) (Bad y m) = Unit {0}
 Telling f g (Bad x l) (To w u) = Unit {0}
 Telling f g (Bad x l) (Bad y m) = Unit {0}
 
-walk-unique : {A : Type 0} (f g : ℕ → A) (text : Text) (next : ℕ) (r s : Progress) → walkOf f text next r ≡ walkOf g text next s
+pub walk-unique : {A : Type 0} (f g : ℕ → A) (text : Text) (next : ℕ) (r s : Progress) → walkOf f text next r ≡ walkOf g text next s
     → TookOf text next r → TookOf text next s → Telling f g r s → r ≡ s
 walk-unique f g text next (To v t) (To w u) e p q tells =
     let x : f v ≡ g w = cc in

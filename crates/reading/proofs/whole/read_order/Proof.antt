@@ -30,9 +30,6 @@ part-take-order-start c = omega (arith, c .before .before .before .before .pre .
 part-take-order-end : tie.Need-part-take-order-end
 part-take-order-end c = omega arith
 
-take-order-requires : tie.Need-take-order-requires
-take-order-requires c κs = let start = c .before .before .before .before .before in (rw length-take (omega (arith, start .pre .few)), start .pre .short)
-
 enum-known-progress : tie.Need-enum-known-progress
 enum-known-progress c = c .match .keys1
 
@@ -41,18 +38,20 @@ enum-told c = c .match .keys2
 
 bad-requires : tie.Need-bad-requires
 bad-requires c κs =
-    let t = c .before .before .before .before .take-order .ensures in
+    let start = c .before .before .before .before .before .before .before .before .before .before in
+    let t = c .before .before .before .before .take-order .ensures (rw length-take (omega (arith, start .pre .few))) (start .pre .short) in
     let k = rw (c .enum-told .given .1) at t in
-    fits-after 0 (c .enum-told .given .1) (omega (arith, k .1, c .before .before .before .before .before .before .before .before .before .before .pre .low))
+    fits-after 0 (c .enum-told .given .1) (omega (arith, k .here, start .pre .low))
 
 same-length : tie.Need-same-length
 same-length c = c .before .before .before .before .store .given .1
 
 returns : tie.Need-returns
 returns c = λ d h.
-    let t = c .before .before .before .before .before .take-order .ensures in
+    let start = c .before .before .before .before .before .before .before .before .before .before .before in
+    let t = c .before .before .before .before .before .take-order .ensures (rw length-take (omega (arith, start .pre .few))) (start .pre .short) in
     let k = rw (h .named) at (rw (c .before .enum-told .given .1) at t) in
-    ends-bad _ 0 (c .before .enum-told .given .1) (omega arith) (k .0) (c .bad .ensures)
+    ends-bad _ 0 (c .before .enum-told .given .1) (omega arith) (k .says) (c .bad .ensures)
 
 add-t19 : tie.Need-add-t19
 add-t19 c = omega (arith, c .before .before .before .before .before .before .before .before .before .before .before .before .pre .low)
@@ -62,8 +61,9 @@ same-length-2 c = c .before .before .before .before .before .before .store .give
 
 returns-2 : tie.Need-returns-2
 returns-2 c = λ d h.
-    let a = c .before .before .before .before .before .before .before .before .before .before .before .before .before .args in
-    let t = c .before .before .before .before .before .before .before .take-order .ensures in
+    let start = c .before .before .before .before .before .before .before .before .before .before .before .before .before in
+    let a = start .args in
+    let t = c .before .before .before .before .before .before .before .take-order .ensures (rw length-take (omega (arith, start .pre .few))) (start .pre .short) in
     let k = rw (h .named) at (rw (c .before .before .before .progress .given .1) at t) in
     ends-on _ (k .says)
     (ends-short (record { given = d; order = k .order }) (suc (a .line)) _ (a .text .now) (c .before .if1 .taken) (rw (add-one (a .line)) at (c .refused .ensures)))
@@ -73,8 +73,9 @@ same-length-3 c = c .before .before .before .before .before .store .given .1
 
 returns-3 : tie.Need-returns-3
 returns-3 c = λ d h.
-    let a = c .before .before .before .before .before .before .before .before .before .before .before .before .args in
-    let t = c .before .before .before .before .before .before .take-order .ensures in
+    let start = c .before .before .before .before .before .before .before .before .before .before .before .before in
+    let a = start .args in
+    let t = c .before .before .before .before .before .before .take-order .ensures (rw length-take (omega (arith, start .pre .few))) (start .pre .short) in
     let k = rw (h .named) at (rw (c .before .before .progress .given .1) at t) in
     ends-on _ (k .says)
     (ends-whole (record { given = d; order = k .order }) (suc (a .line)) _ (a .text .now) (c .if1 .left)
@@ -83,5 +84,5 @@ returns-3 c = λ d h.
 pub read-order-spec : {M : Type 1} → statement M
 read-order-spec =
     tie.close
-    (tie.spec array-share-prefix-names slice-aggregate-take-order sub-take-order part-take-order-start part-take-order-end take-order-requires
+    (tie.spec array-share-prefix-names slice-aggregate-take-order sub-take-order part-take-order-start part-take-order-end asks-nothing
     enum-known-progress enum-told bad-requires same-length returns add-t19 asks-nothing same-length-2 returns-2 same-length-3 returns-3)

@@ -10,9 +10,9 @@ use lib.Seq.{length-take-le}
 use Rattle.table.specs.Decoded.{nameOf}
 use Rattle.table.specs.Encoded.{filled, termsWords}
 use Rattle.table.proofs.Filled.{filled-length}
-use Rattle.grammar.specs.Reading.{takeTerm}
+use Rattle.grammar.specs.Reading.{takeTerm, lines}
 use Rattle.faults.proofs.Calls.{asks-nothing}
-use Rattle.sections.proofs.Walking.{padded-length, rest-lent, rest-length, later-to, later-bad}
+use Rattle.sections.proofs.Walking.{padded-length, rest-lent, rest-length, later-to, later-bad, room-there}
 use Rattle.reading.proofs.Wholes.{front-free, rest-free, ends-bad, ends-on, fits-after, held-length}
 use Rattle.reading.proofs.whole.read_terms.Statement.{statement}
 use Rattle.reading.proofs.whole.read_terms.Tie as tie
@@ -32,11 +32,6 @@ array-share-prefix-names c = let named = c .before .before .before .pre .1 in le
 slice-aggregate-take-terms : tie.Need-slice-aggregate-take-terms
 slice-aggregate-take-terms c = let named = c .before .before .before .before .pre .1 in let e = padded-length (named .laid) in sym (length-take-le _ _ (omega (arith, named .few)))
 
-take-terms-requires : tie.Need-take-terms-requires
-take-terms-requires c κs =
-    let start = c .before .before .before .before in
-    (start .pre .3, rw length-take (omega (arith, start .pre .1 .few)), start .pre .0, front-free 3104 3072 32 (start .pre .4) refl)
-
 enum-known-progress : tie.Need-enum-known-progress
 enum-known-progress c = c .match .keys1
 
@@ -49,27 +44,38 @@ add-bad c = omega (arith, c .before .before .before .before .before .before .bef
 bad-requires : tie.Need-bad-requires
 bad-requires c κs =
     let start = c .before .before .before .before .before .before .before .before .before in
-    let t = c .before .before .before .before .take-terms .ensures in
+    let t = c .before .before .before .before .take-terms .ensures (record { few = rw length-take (omega (arith, start .pre .1 .few)); short = start .pre .0; free = front-free 3104 3072 32 (start .pre .4) refl }) in
     let k = rw (c .enum-told .given .1) at t in
-    fits-after (4 + start .args .named) (c .enum-told .given .1) (omega (arith, k .1, start .pre .1 .few, start .pre .3))
+    fits-after (4 + start .args .named) (c .enum-told .given .1) (omega (arith, k .within, start .pre .1 .few, start .pre .3))
 
 same-length : tie.Need-same-length
 same-length c = search needs
 
 returns : tie.Need-returns
 returns c =
-    let a = c .before .before .before .before .before .before .before .before .before .before .args in
-    let t = c .before .before .before .before .before .take-terms .ensures in
+    let start = c .before .before .before .before .before .before .before .before .before .before in
+    let a = start .args in
+    let step = takeTerm (map (nameOf 8) (take (a .named) (a .t2))) (a .equations) in
+    let due = lines step (a .count) [] 0 (a .text .now) in
+    let t = c .before .before .before .before .before .take-terms .ensures (record { few = rw length-take (omega (arith, start .pre .1 .few)); short = start .pre .0; free = front-free 3104 3072 32 (start .pre .4) refl }) in
     let k = rw (c .before .enum-told .given .1) at t in
     ends-bad _ (4 + a .named) (c .before .enum-told .given .1) refl
-    (later-bad (4 + a .named) (takeTerm (map (nameOf 8) (take (a .named) (a .t2))) (a .equations)) (a .count) [] (a .text .now) (k .0))
+    (later-bad (4 + a .named) step (a .count) [] (a .text .now) (k .says ∙ room-there due (start .pre .3)))
     (c .bad .ensures)
 
 sub-read-bodies : tie.Need-sub-read-bodies
-sub-read-bodies c = let t = c .before .before .before .before .before .before .take-terms .ensures in let k = rw (c .before .before .progress .given .1) at t in k .within
+sub-read-bodies c =
+    let start = c .before .before .before .before .before .before .before .before .before .before .before in
+    let t = c .before .before .before .before .before .before .take-terms .ensures (record { few = rw length-take (omega (arith, start .pre .1 .few)); short = start .pre .0; free = front-free 3104 3072 32 (start .pre .4) refl }) in
+    let k = rw (c .before .before .progress .given .1) at t in
+    k .within
 
 part-read-bodies-start : tie.Need-part-read-bodies-start
-part-read-bodies-start c = let t = c .before .before .before .before .before .before .take-terms .ensures in let k = rw (c .before .before .progress .given .1) at t in k .within
+part-read-bodies-start c =
+    let start = c .before .before .before .before .before .before .before .before .before .before .before in
+    let t = c .before .before .before .before .before .before .take-terms .ensures (record { few = rw length-take (omega (arith, start .pre .1 .few)); short = start .pre .0; free = front-free 3104 3072 32 (start .pre .4) refl }) in
+    let k = rw (c .before .before .progress .given .1) at t in
+    k .within
 
 part-read-bodies-end : tie.Need-part-read-bodies-end
 part-read-bodies-end c = omega arith
@@ -77,7 +83,7 @@ part-read-bodies-end c = omega arith
 read-bodies-requires : tie.Need-read-bodies-requires
 read-bodies-requires c κs =
     let start = c .before .before .before .before .before .before .before .before .before .before .before .before .before in
-    let t = c .before .before .before .before .before .before .before .before .take-terms .ensures in
+    let t = c .before .before .before .before .before .before .before .before .take-terms .ensures (record { few = rw length-take (omega (arith, start .pre .1 .few)); short = start .pre .0; free = front-free 3104 3072 32 (start .pre .4) refl }) in
     let k = rw (c .before .before .before .before .progress .given .1) at t in
     let l = rest-length (start .args .text .now) (c .before .before .before .before .progress .given .0 .1 .0) in (
       record {
@@ -99,7 +105,9 @@ returns-2 c =
     let start = c .before .before .before .before .before .before .before .before .before .before .before .before .before .before .before .before in
     let a = start .args in
     let to = c .before .before .before .before .before .before .before .progress .given in
-    let t = c .before .before .before .before .before .before .before .before .before .before .before .take-terms .ensures in
+    let step = takeTerm (map (nameOf 8) (take (a .named) (a .t2))) (a .equations) in
+    let due = lines step (a .count) [] 0 (a .text .now) in
+    let t = c .before .before .before .before .before .before .before .before .before .before .before .take-terms .ensures (record { few = rw length-take (omega (arith, start .pre .1 .few)); short = start .pre .0; free = front-free 3104 3072 32 (start .pre .4) refl }) in
     let k = rw (to .1) at t in
     let h =
     c .before .before .read-bodies .ensures (k .terms)
@@ -108,12 +116,12 @@ returns-2 c =
       kept = k .termed .kept;
       stored = ap₂ {C = List ℕ} _++_ (k .termed .stored) (rest-free 3104 3072 32 (start .pre .4) refl);
     }) in
-    ends-on _ (later-to (4 + a .named) (takeTerm (map (nameOf 8) (take (a .named) (a .t2))) (a .equations)) (a .count) [] (a .text .now) (k .says))
+    ends-on _ (later-to (4 + a .named) step (a .count) [] (a .text .now) (k .says ∙ room-there due (start .pre .3)))
     (rw (rest-lent (a .text .now) (to .0 .1 .0)) at h)
 
 pub read-terms-spec : {M : Type 1} → statement M
 read-terms-spec =
     tie.close
-    (tie.spec slice-relend-prefix-part slice-aggregate-part array-share-prefix-names slice-aggregate-take-terms take-terms-requires
+    (tie.spec slice-relend-prefix-part slice-aggregate-part array-share-prefix-names slice-aggregate-take-terms asks-nothing
     enum-known-progress enum-told add-bad bad-requires same-length returns sub-read-bodies part-read-bodies-start part-read-bodies-end
     read-bodies-requires same-length-2 returns-2)

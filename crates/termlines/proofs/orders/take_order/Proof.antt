@@ -1,4 +1,4 @@
--- `reading::orders::take_order` meets its contract: the line, its order, and its fault.
+-- `termlines::orders::take_order` meets its contract: the line, its order, and its fault.
 -- Assumes nothing.
 use borrow.Author.Needs.{needs}
 use mathlib.Core.Path.{refl, sym}
@@ -9,12 +9,12 @@ use Rattle.table.specs.Decoded.{nameOf}
 use Rattle.grammar.specs.Faults.{orderSaid}
 use Rattle.faults.proofs.Calls.{asks-nothing}
 use Rattle.sections.proofs.Walking.{line-lacks, line-there}
-use Rattle.reading.proofs.Termed.{found-fine, order-stuck, order-fine, order-faulty}
-use Rattle.reading.proofs.orders.take_order.Statement.{statement}
-use Rattle.reading.proofs.orders.take_order.Tie as tie
+use Rattle.termlines.proofs.Lines.{found-fine, order-stuck, order-fine, order-faulty}
+use Rattle.termlines.proofs.orders.take_order.Statement.{statement}
+use Rattle.termlines.proofs.orders.take_order.Tie as tie
 
 returns : tie.Need-returns
-returns c = (line-lacks _ (c .before .before .before .before .before .args .line) (c .before .line-end .ensures) (c .if1 .taken), refl)
+returns c = λ few short. record { says = line-lacks _ (c .before .before .before .before .before .args .line) (c .before .line-end .ensures) (c .if1 .taken); here = refl; none = refl }
 
 slice-aggregate-read-order : tie.Need-slice-aggregate-read-order
 slice-aggregate-read-order c = sym (length-take-le _ _ (c .before .before .line-end .ensures .within))
@@ -29,13 +29,17 @@ same-length : tie.Need-same-length
 same-length c = search needs
 
 returns-2 : tie.Need-returns-2
-returns-2 c =
+returns-2 c = λ few short.
     let there = c .before .before .before .before .before .before .before in
     let start = there .before .before .before .before .before in
     let a = start .args in
-    let t = c .before .before .before .before .read-order .ensures (start .pre .0) in
+    let t = c .before .before .before .before .read-order .ensures few in
     let k = rw (c .enum-told .given .1) at t in
-    (line-there _ (a .line) (there .before .line-end .ensures) (there .if1 .left) (order-stuck (map (nameOf 8) (a .names .now)) _ k), refl)
+    record {
+      says = line-there _ (a .line) (there .before .line-end .ensures) (there .if1 .left) (order-stuck (map (nameOf 8) (a .names .now)) _ k);
+      here = refl;
+      none = refl;
+    }
 
 add-took : tie.Need-add-took
 add-took c = omega arith
@@ -50,13 +54,14 @@ same-length-2 : tie.Need-same-length-2
 same-length-2 c = search needs
 
 returns-3 : tie.Need-returns-3
-returns-3 c =
+returns-3 c = λ few short.
     let there = c .before .before .before .before .before .before .before .before .before .before in
     let start = there .before .before .before .before .before in
     let a = start .args in
-    let t = c .before .before .before .before .before .before .before .read-order .ensures (start .pre .0) in
+    let t = c .before .before .before .before .before .before .before .read-order .ensures few in
     let k = rw (c .before .before .before .step .given .1) at t in
     record {
+      plain = refl;
       order = orderSaid (map (nameOf 8) (a .names .now)) (k .line);
       says =
           line-there _ (a .line) (there .before .line-end .ensures) (there .if1 .left)
@@ -70,16 +75,19 @@ same-length-3 : tie.Need-same-length-3
 same-length-3 c = search needs
 
 returns-4 : tie.Need-returns-4
-returns-4 c =
+returns-4 c = λ few short.
     let there = c .before .before .before .before .before .before .before .before .before .before .before in
     let start = there .before .before .before .before .before in
     let a = start .args in
-    let t = c .before .before .before .before .before .before .before .before .read-order .ensures (start .pre .0) in
-    let k = rw (c .before .before .before .before .step .given .1) at t in (
-      line-there _ (a .line) (there .before .line-end .ensures) (there .if1 .left)
-          (order-faulty (map (nameOf 8) (a .names .now)) _ k (c .before .found .given .1)),
-      refl,
-    )
+    let t = c .before .before .before .before .before .before .before .before .read-order .ensures few in
+    let k = rw (c .before .before .before .before .step .given .1) at t in
+    record {
+      says =
+          line-there _ (a .line) (there .before .line-end .ensures) (there .if1 .left)
+          (order-faulty (map (nameOf 8) (a .names .now)) _ k (c .before .found .given .1));
+      here = refl;
+      none = refl;
+    }
 
 pub take-order-spec : {M : Type 1} → statement M
 take-order-spec =

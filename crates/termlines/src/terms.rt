@@ -1,18 +1,12 @@
 // The lines of terms.
-ghost use mathlib.Core.Path.{_≡_};
-ghost use mathlib.Core.List.{List, [], map};
-ghost use Prim.Native.Nat.{_≤_};
-ghost use lib.ListN.{length};
-ghost use Rattle.table.specs.Decoded.{nameOf};
-ghost use Rattle.table.specs.Encoded.{filled};
-ghost use Rattle.grammar.specs.Reading.{takeTerm, lines};
-ghost use Rattle.reading.specs.Terms.{TermAt, TermLine, TermsWalk};
+ghost use Rattle.termlines.specs.Terms.{TermLine, TermsAnswer};
 use faults::Fault;
 use faults::Found;
 use forms::TermStep;
 use forms::terms::read_term;
 use sections::Progress;
 use sections::lines::line_end;
+use table::TERMS;
 use table::packing::pack;
 
 // The line's number is the term's; its number after reading is its packed term.
@@ -24,8 +18,7 @@ fn take_term(
     n: usize,
     store: &mut [u64],
 ) -> Progress
-    requires { ⌜ TermAt (now text) (now names) n ⌝ }
-    ensures { λ r. ⌜ TermLine (now (text .entry)) (map (nameOf 8) (now (names .entry))) equations (now (slots .entry)) n
+    ensures { λ r. ⌜ TermLine (now (text .entry)) (now (names .entry)) equations (now (slots .entry)) n
         (now (store .entry)) (now (store .exit)) r ⌝ }
 {
     let end = line_end(text);
@@ -43,12 +36,13 @@ fn take_term(
     }
 }
 
+// Packed terms in their array, with 0 behind them; all 0 after a bad line.
 pub struct Terms {
     pub progress: Progress,
     pub slots: [u64; 96],
 }
 
-// So many lines of terms, numbered from 0 on, their lists in the store.
+// So many lines of terms, numbered from 0 on; the list of each goes to its 32 words of the store. Over 96 are a fault of the first.
 pub fn take_terms(
     text: &[u8],
     names: &[u64],
@@ -56,11 +50,21 @@ pub fn take_terms(
     count: usize,
     store: &mut [u64],
 ) -> Terms
-    requires { ⌜ (count ≤ 96) × (length (now names) ≤ 12) × (length (now text) ≤ 8192) × (now store ≡ filled 3072 0 []) ⌝ }
-    ensures { λ r. ⌜ TermsWalk (now (text .entry)) (lines (takeTerm (map (nameOf 8) (now (names .entry))) equations) count [] 0 (now (text .entry)))
-        count (now (store .exit)) (r .slots) (r .progress) ⌝ }
+    ensures { λ r. ⌜ TermsAnswer (now (text .entry)) (now (names .entry)) equations count (now (store .entry)) (now (store .exit)) (r .slots) (r .progress) ⌝ }
 {
     let mut slots = [0u64; 96];
+    if TERMS < count {
+        return Terms {
+            progress: Progress::Bad(Fault::Form, 0),
+            slots,
+        };
+    }
+    if store.len() < 3072 {
+        return Terms {
+            progress: Progress::Bad(Fault::Form, 0),
+            slots,
+        };
+    }
     let mut from = 0;
     let mut n = 0;
     while n < count {
@@ -71,7 +75,7 @@ pub fn take_terms(
         let Progress::To(w, took) = step else {
             return Terms {
                 progress: step,
-                slots,
+                slots: [0u64; 96],
             };
         };
         slots[n] = w;

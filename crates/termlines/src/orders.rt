@@ -1,10 +1,5 @@
 // The order's line.
-ghost use mathlib.Core.List.{map};
-ghost use Prim.Native.Nat.{_≤_};
-ghost use lib.ListN.{length};
-ghost use Rattle.table.specs.Decoded.{nameOf};
-ghost use Rattle.grammar.specs.Reading.{takeOrder, oneLine};
-ghost use Rattle.reading.specs.Orders.{OrderWalks};
+ghost use Rattle.termlines.specs.Orders.{OrderAnswerLine};
 use faults::Fault;
 use faults::Found;
 use keyed::OrderStep;
@@ -19,10 +14,9 @@ pub struct Ordered {
     pub order: Order,
 }
 
+// The order's labels go to the start of the store that is lent.
 pub fn take_order(text: &[u8], line: usize, names: &[u64], store: &mut [u64]) -> Ordered
-    requires { ⌜ (length (now names) ≤ 12) × (length (now text) ≤ 8192) ⌝ }
-    ensures { λ r. ⌜ OrderWalks (now (text .entry)) line (oneLine (takeOrder (map (nameOf 8) (now (names .entry)))) line (now (text .entry)))
-        (now (store .entry)) (now (store .exit)) (r .order) (r .progress) ⌝ }
+    ensures { λ r. ⌜ OrderAnswerLine (now (text .entry)) line (now (names .entry)) (now (store .entry)) (now (store .exit)) (r .order) (r .progress) ⌝ }
 {
     let end = line_end(text);
     if text.len() <= end {

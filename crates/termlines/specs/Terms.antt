@@ -1,16 +1,19 @@
 -- The lines of terms: what one gives after those before it, and what all give in the slots and in the store.
 -- Assumes nothing.
 use mathlib.Core.Path.{_≡_}
-use mathlib.Core.List.{List, [], _∷_, _++_}
+use mathlib.Core.List.{List, [], _∷_, _++_, map}
 use Prim.Native.Nat.{ℕ, suc, _≤_, _<_}
 use lib.ListN.{length, drop}
 use Rattle.meaning.specs.Bytes.{Text}
 use Rattle.meaning.specs.Descriptions as D
+use Rattle.meaning.specs.Answers.{Fault}
+use Rattle.table.specs.Decoded.{nameOf}
 use Rattle.table.specs.Encoded.{filled, termWords, termFor, slotsFrom, termsWords}
 use Rattle.table.specs.Packed.{termWord}
 use Rattle.faults.specs.CodedFaults.{faultOf}
 use Rattle.lists.specs.Lists.{over}
-use Rattle.grammar.specs.Reading.{Walk, reached, halted, oneLine, takeTerm}
+use Rattle.grammar.specs.Reading.{Walk, reached, halted, oneLine, lines, takeTerm}
+use Rattle.sections.specs.Walks.{TookOf, inRoom}
 use Rattle.sections.specs.declared.Progress.{Progress}
 use Rattle.sections.specs.declared.Progress.the-variants.{To, Bad}
 
@@ -24,33 +27,48 @@ pub record TermAt (text names : List ℕ) (n : ℕ) : Type 0 where
 pub record TermTo (terms : List D.Term) (text : Text) (n : ℕ) (due : Walk (List D.Term)) (before after : List ℕ) (w took : ℕ) : Type 0 where
   pub term : D.Term
   pub says : reached (terms ++ (term ∷ [])) (suc n) (drop took text) ≡ due
-  pub within : took ≤ length text
   pub kept : w ≡ termWord (termFor (length terms) term)
   pub stored : after ≡ over (termWords term) before
 
 abbrev pub TermWalks : List D.Term → Text → ℕ → Walk (List D.Term) → List ℕ → List ℕ → Progress → Type 0
 TermWalks terms text n due before after (To w took) = TermTo terms text n due before after w took
-TermWalks terms text n due before after (Bad f line) = (halted (faultOf f) line ≡ due) × (line ≤ n)
+TermWalks terms text n due before after (Bad f line) = halted (faultOf f) line ≡ due
 
 -- The same after the terms before it, which are those of the slots.
-abbrev pub TermLine : Text → List Text → ℕ → List ℕ → ℕ → List ℕ → List ℕ → Progress → Type 0
-TermLine text words equations slots n before after r =
-    (terms : List D.Term) → slots ≡ filled 96 0 (slotsFrom 0 terms) → n ≡ length terms
-    → TermWalks terms text n (oneLine (takeTerm words equations terms) n text) before after r
+pub record TermLine (text : Text) (names : List ℕ) (equations : ℕ) (slots : List ℕ) (n : ℕ) (before after : List ℕ) (r : Progress) : Type 0 where
+  pub within : TookOf text (suc n) r
+  pub said : (terms : List D.Term) → slots ≡ filled 96 0 (slotsFrom 0 terms) → n ≡ length terms → TermAt text names n
+      → TermWalks terms text n (oneLine (takeTerm (map (nameOf 8) names) equations terms) n text) before after r
 
 -- Some terms, as they stand in the table and in the store.
 pub record Termed (terms : List D.Term) (slots : List ℕ) (store : List ℕ) : Type 0 where
   pub kept : slots ≡ filled 96 0 (slotsFrom 0 terms)
   pub stored : store ≡ filled 3072 0 (termsWords terms)
 
--- All terms that were asked for.
-pub record TermsTo (text : Text) (due : Walk (List D.Term)) (count : ℕ) (after : List ℕ) (slots : List ℕ) (took : ℕ) : Type 0 where
+-- All terms that were asked for; none where a line is bad.
+pub record TermsTo (text : Text) (due : Walk (List D.Term)) (count : ℕ) (after : List ℕ) (slots : List ℕ) (v took : ℕ) : Type 0 where
+  pub plain : v ≡ 0
   pub terms : List D.Term
   pub says : reached terms count (drop took text) ≡ due
   pub within : took ≤ length text
   pub counted : length terms ≡ count
   pub termed : Termed terms slots after
 
+pub record TermsBad (due : Walk (List D.Term)) (count : ℕ) (slots : List ℕ) (f : Fault) (line : ℕ) : Type 0 where
+  pub says : halted f line ≡ due
+  pub within : line < count
+  pub cleared : slots ≡ filled 96 0 []
+
 abbrev pub TermsWalk : Text → Walk (List D.Term) → ℕ → List ℕ → List ℕ → Progress → Type 0
-TermsWalk text due count after slots (To v took) = TermsTo text due count after slots took
-TermsWalk text due count after slots (Bad f line) = (halted (faultOf f) line ≡ due) × (line < count)
+TermsWalk text due count after slots (To v took) = TermsTo text due count after slots v took
+TermsWalk text due count after slots (Bad f line) = TermsBad due count slots (faultOf f) line
+
+-- Every text that is short enough, with few enough names and a store of 3,072 words that are 0.
+pub record TermsAt (text names store : List ℕ) : Type 0 where
+  pub few : length names ≤ 12
+  pub short : length text ≤ 8192
+  pub free : store ≡ filled 3072 0 []
+
+abbrev pub TermsAnswer : Text → List ℕ → (equations count : ℕ) → List ℕ → List ℕ → List ℕ → Progress → Type 0
+TermsAnswer text names equations count before after slots r =
+    TermsAt text names before → TermsWalk text (inRoom 96 count (lines (takeTerm (map (nameOf 8) names) equations) count [] 0 text)) count after slots r
