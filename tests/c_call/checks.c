@@ -16,7 +16,7 @@
 
 enum { GUARD = 256, FILLER = 0xA5 };
 
-/* The listing of document 01. */
+/* The listing of README.md. */
 static const char listing[] =
     "names=2\nname=done\nname=close\nequations=1\nterms=5\nterm=act done\nterm=ref 0\nterm=seq 0 1\nterm=merge 1 1\n"
     "term=comm 3 done:2>close\nequation=2\nroot=4\norder=all\n";

@@ -8,7 +8,7 @@ from support.programs import TOP, Failed
 
 MOST_COLUMNS = 160
 # The rooms whose code, definitions and proofs have no wider line.
-ROOMS = "meaning labels rimecutter rimecutter_c alphabet set_costs".split()
+ROOMS = "meaning labels marks printing rimecutter rimecutter_c alphabet set_costs".split()
 IMPORT = re.compile(r"^(ghost )?use ")
 FUNCTION = re.compile(r'^\s*pub (?:extern "C" )?fn (\w+)')
 

@@ -1,4 +1,4 @@
--- Which fault of document 01 each fault of the code is. Every demand about a refused description rests on this: the number that is
+-- Which fault of `meaning` each fault of the code is. Every demand about a refused description rests on this: the number that is
 -- printed is `faultNumber` of it.
 -- Assumes nothing.
 use Rattle.meaning.specs.Answers.{Fault, form, name, range, amount, operand}

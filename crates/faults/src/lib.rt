@@ -17,7 +17,7 @@ pub enum Fault {
     Operand,
 }
 
-// Its number in document 01.
+// Its number in docs/FORMAT.md.
 pub fn number_of(f: Fault) -> usize
     ensures { λ r. ⌜ r ≡ faultNumber (faultOf f) ⌝ }
 {

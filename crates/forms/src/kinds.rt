@@ -45,6 +45,7 @@ pub fn kind_stuck_at(s: KindStep) -> usize
     }
 }
 
+// The larger of two places.
 pub fn most(a: usize, b: usize) -> usize
     ensures { λ r. ⌜ r ≡ max a b ⌝ }
 {

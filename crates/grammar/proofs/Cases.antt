@@ -1,4 +1,4 @@
--- What is printed, as one table of cases that the checker computes over the definitions: the listing of document 01, an answer without
+-- What is printed, as one table of cases that the checker computes over the definitions: the listing of README.md, an answer without
 -- labels, one with the empty label, a refusal.
 -- Assumes nothing.
 use mathlib.Core.Path.{_≡_, refl}

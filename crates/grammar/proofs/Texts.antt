@@ -1,4 +1,4 @@
--- Document 01's listing, which reads as the description itself, and texts for each refusal number, as one table of cases that
+-- The listing of README.md, which reads as the description itself, and texts for each refusal number, as one table of cases that
 -- the checker computes.
 -- Assumes nothing.
 use mathlib.Core.Path.{_≡_, refl, subst⁻¹}

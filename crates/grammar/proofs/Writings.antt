@@ -1,4 +1,4 @@
--- The writing of document 01's listing and of descriptions with every kind of list, computed and compared byte by byte.
+-- The writing of the listing of README.md and of descriptions with every kind of list, computed and compared byte by byte.
 -- Assumes nothing.
 use mathlib.Core.Bool.{Bool, true, _&&_}
 use mathlib.Core.List.{List, [], _∷_}

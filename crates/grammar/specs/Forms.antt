@@ -1,4 +1,4 @@
--- The form of each line (document 01, "The description, line by line"): what can be seen without knowing the names, the counts
+-- The form of each line (docs/FORMAT.md, "The lines"): what can be seen without knowing the names, the counts
 -- or the other terms.
 -- Assumes nothing.
 use mathlib.Core.Bool.{Bool, true, false}

@@ -1,4 +1,4 @@
--- Numbers and labels as they are written, in a description and in an answer (document 01, "Labels").
+-- Numbers and labels as they are written, in a description and in an answer (docs/FORMAT.md, "Labels").
 -- Assumes nothing.
 use mathlib.Core.Bool.{true, false}
 use mathlib.Core.List.{List, [], _∷_, _++_}

@@ -1,4 +1,4 @@
--- The text that the program prints (document 01, "Labels" and "One listing in full").
+-- The text that the program prints (docs/FORMAT.md, "What is printed").
 -- Assumes nothing.
 use mathlib.Core.List.{List, [], _∷_, _++_}
 use Prim.Native.Nat.{ℕ}

@@ -1,4 +1,4 @@
--- Writing a description: the lines that document 01 asks for, from what they say. A second view of the text, made without
+-- Writing a description: the lines that docs/FORMAT.md asks for, from what they say. A second view of the text, made without
 -- the reading.
 -- Assumes nothing.
 use mathlib.Core.Path.{_≡_}

@@ -73,6 +73,7 @@ fn read_rule(rest: &[u8], names: &[u64]) -> SaidStep
     with_right(two_or_more(label), rest, names)
 }
 
+// An entry of a list of that kind.
 pub fn read_entry(kind: ListKind, rest: &[u8], names: &[u64]) -> SaidStep
     requires { ⌜ length (now names) ≤ 12 ⌝ }
     ensures { λ r. ⌜ Says (now (rest .entry)) r (entryOf (map (nameOf 8) (now (names .entry))) kind (now (rest .entry))) ⌝ }

@@ -21,6 +21,7 @@ pub struct Shape {
     pub limit: u64,
 }
 
+// How many words an entry of the kind takes in the store, how much it counts, and how much a list may count.
 pub fn shape_of(kind: ListKind) -> Shape
     ensures { λ r. ⌜ (r .size ≡ wordCount kind) × (r .weight ≡ weightFor kind) × (r .limit ≡ limitFor kind) ⌝ }
 {

@@ -1,5 +1,5 @@
--- P1 to P8 of document 01, as one table of cases that the checker computes over the definitions: each description is legal,
--- and its answer has the round count and the labels that the row gives. The last rows are no P of document 01: an allow list and
+-- P1 to P8, the examples that the order asks to be proved, as one table of cases that the checker computes over the definitions: each description is legal,
+-- and its answer has the round count and the labels that the row gives. The last rows are no P: an allow list and
 -- an order that list nothing both leave tau; and `order=all` widened to an order that names every label of one name.
 -- Assumes nothing.
 use mathlib.Core.Logic.{Dec·and}

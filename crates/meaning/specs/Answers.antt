@@ -1,4 +1,4 @@
--- Answers and refusals (document 01, "The sets", last paragraph, and "Limits and refusal numbers").
+-- Answers and refusals (docs/FORMAT.md, "What is printed").
 -- Assumes nothing.
 use mathlib.Core.Path.{_≡_}
 use mathlib.Core.Logic.{_↔_, _⊎_}

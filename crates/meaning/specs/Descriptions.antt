@@ -1,4 +1,4 @@
--- Descriptions and orders (document 01, "The description, line by line").
+-- Descriptions and orders (docs/FORMAT.md, "The lines" and "The terms").
 -- Names, equations and terms are meant by their numbers; the words of the names are kept for the text.
 -- Assumes nothing.
 use mathlib.Core.List.{List}

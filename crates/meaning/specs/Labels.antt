@@ -1,4 +1,4 @@
--- Labels: bags of action names (document 01, "Labels").
+-- Labels: bags of action names (docs/FORMAT.md, "Labels").
 -- A label is the list of its counts, one for each name in the order of the names' numbers; a place past its end counts 0.
 -- Assumes nothing.
 use Prim.Native.Nat.{ℕ, zero, suc, _+_, _*_, _-_, _/_, _%_, compare, Ordering, Ordering·lt, Ordering·eq, Ordering·gt}

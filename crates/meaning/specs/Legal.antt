@@ -1,5 +1,5 @@
--- Legal descriptions: what refusals 4, 5 and 6 leave, with every name known and every count in range (document 01,
--- "The description, line by line").
+-- Legal descriptions: what refusals 4, 5 and 6 leave, with every name known and every count in range (docs/FORMAT.md,
+-- "The lines" and "The lists").
 -- Assumes nothing.
 use mathlib.Core.Path.{_≡_}
 use mathlib.Core.Bool.{Bool, true, false}

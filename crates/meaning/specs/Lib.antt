@@ -1,4 +1,4 @@
--- What a description means, in the order of document 01. Who has read these files knows what is promised; proofs/ shows
+-- What a description means, in the order of docs/FORMAT.md. Who has read these files knows what is promised; proofs/ shows
 -- that it hangs together.
 pub mod Bytes
 pub mod Labels

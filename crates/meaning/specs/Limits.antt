@@ -1,4 +1,4 @@
--- Limits (document 01, "Limits and refusal numbers").
+-- Limits (docs/FORMAT.md, "Limits").
 -- Assumes nothing.
 use mathlib.Core.Bool.{Bool, false, _||_}
 use mathlib.Core.List.{List, [], _∷_}

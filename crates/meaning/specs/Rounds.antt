@@ -1,4 +1,4 @@
--- The sets of all terms, round by round (document 01, "The sets").
+-- The sets of all terms, round by round (docs/FORMAT.md, "The terms").
 -- Assumes nothing.
 use mathlib.Core.Path.{_≡_}
 use mathlib.Core.Bool.{Bool, true, false, _||_}

@@ -1,4 +1,4 @@
--- Runs: what a description does, step by step (document 01, "Runs").
+-- Runs: what a description does, step by step (docs/FORMAT.md, "Runs").
 -- Assumes nothing.
 use mathlib.Core.Path.{_≡_}
 use mathlib.Core.Logic.{_⊎_}

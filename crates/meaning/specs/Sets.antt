@@ -1,4 +1,4 @@
--- Sets of labels, as lists (document 01, "The sets").
+-- Sets of labels, as lists (docs/FORMAT.md, "The terms").
 -- What is put together from sets is a list; `ascending` puts it in order, each label once.
 -- Assumes nothing.
 use mathlib.Core.Path.{_≡_}

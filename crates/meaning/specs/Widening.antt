@@ -1,4 +1,4 @@
--- Widening (document 01, "Runs", the paragraph on well-formed descriptions).
+-- Widening (docs/FORMAT.md, "Widening").
 -- Assumes nothing.
 use mathlib.Core.Path.{_≡_}
 use mathlib.Core.List.{List, [], _∷_}

@@ -1,4 +1,4 @@
--- The listing of document 01 is printed the same over packed names and labels, which the checker computes.
+-- The listing of README.md is printed the same over packed names and labels, which the checker computes.
 -- Assumes nothing.
 use mathlib.Core.Path.{_≡_, refl}
 use mathlib.Core.List.{[], _∷_, map}

@@ -44,7 +44,7 @@ fault-back Range = refl
 fault-back Amount = refl
 fault-back Operand = refl
 
--- Numbers by the tests that document 01 gives, and by those of the code.
+-- Numbers by the tests that the definitions give, and by those of the code.
 module _ (key : Text) (f g : ℕ → Bool) (same : (n : ℕ) → f n ≡ g n) (x : A.Fault) (line : ℕ) where
   pub other-test : (s : Text) → oneLine (takeNumber key f x) line s ≡ oneLine (takeNumber key g x) line s
   unfolding takeNumber

@@ -21,6 +21,7 @@ use table::empty;
 use termlines::orders::take_order;
 use termlines::terms::take_terms;
 
+// What is returned of a text that is refused: the answer, with a table of nothing.
 pub fn refused(answer: Answer) -> Read
     ensures { λ r. ⌜ r ≡ refusing answer ⌝ }
 {
@@ -178,6 +179,7 @@ fn read_names(text: &[u8], named: usize, store: &mut [u64]) -> Read
     read_counts(&text[at..], names, named, store)
 }
 
+// All lines of a text of at most 8,192 bytes, into a store that is 0.
 pub fn read_lines(text: &[u8], store: &mut [u64]) -> Read
     requires { ⌜ (length (now text) ≤ 8192) × (now store ≡ filled 3104 0 []) ⌝ }
     ensures { λ r. ⌜ Ended (described (wholeText (now (text .entry)))) (now (store .exit)) r ⌝ }

@@ -12,7 +12,7 @@ use Rattle.rimecutter.specs.declared.Answer.the-variants.{Listed, TooLon
 use Rattle.rimecutter.specs.declared.calls.Response.{Response}
 use Rattle.rimecutter.specs.Calls.{Call, refusing, answering, verdictOf, answerAfter, workAfter}
 
--- Document 01's number and values for each case: number 0 for an answer, its rounds and its number of labels.
+-- The number and the values of each case (docs/FORMAT.md, "What is printed"): number 0 for an answer, its rounds and its number of labels.
 abbrev pub verdictFor : Answer → Verdict
 verdictFor (Listed rounds labels) = record { reason = 0; line = 0; rounds = rounds; labels = labels }
 verdictFor TooLong = A.refused tooLong

@@ -1,4 +1,4 @@
--- What a call comes to (document 01, "Limits and refusal numbers"): from the description's bytes and how long the lent areas are.
+-- What a call comes to (docs/FORMAT.md, "Limits" and "What is printed"): from the description's bytes and how long the lent areas are.
 -- Assumes nothing.
 use mathlib.Core.Bool.{Bool, true, false, _||_}
 use mathlib.Core.List.{List, _++_, map}

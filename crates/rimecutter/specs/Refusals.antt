@@ -1,4 +1,4 @@
--- Which refusal is due (document 01, "Limits and refusal numbers"), told from the input alone: 1 comes first, then the first bad line
+-- Which refusal is due (docs/FORMAT.md, "What is printed"), told from the input alone: 1 comes first, then the first bad line
 -- decides and in it the smallest number, 7 is last.
 -- Assumes nothing.
 use mathlib.Core.Path.{_≡_}

@@ -55,6 +55,7 @@ fn one_round(
     Turn::Goes
 }
 
+// Round after round, until one is stable or a limit is passed. A table goes by value, and what each round needs of it is lent.
 pub fn until_stable(table: Table, store: &[u64], work: &mut [u64]) -> Found
     requires { ⌜ (4096 ≤ length (now work)) × (table .terms ≤ 96) × (table .equations ≤ 16) ⌝ }
     ensures { λ r. ⌜ Reached table (now (store .entry)) (now (work .entry)) (now (work .exit)) r ⌝ }

@@ -1,8 +1,8 @@
 // Where the first line of a text ends, and the lines with a number.
 use crate::Progress;
 use faults::Fault;
-use words::Step;
 use keyed::read_count;
+use words::Step;
 ghost use Rattle.faults.specs.CodedFaults.{faultOf};
 ghost use Rattle.grammar.specs.Reading.{oneLine, takeNumber};
 ghost use Rattle.sections.specs.Lines.{LineEnd, between, NumberTo};

@@ -9,10 +9,10 @@ ghost use Rattle.sections.specs.Names.{NamesRead};
 use crate::Progress;
 use crate::lines::line_end;
 use faults::Fault;
-use words::Step;
 use keyed::read_name_line;
-use words::names::find_name;
 use table::NAMES;
+use words::Step;
+use words::names::find_name;
 
 // Names in their array, with 0 behind them; all 0 after a bad line.
 pub struct Names {

@@ -31,6 +31,7 @@ fn pack_operator(o: Operator, u: usize) -> u64
     }
 }
 
+// The word of a term.
 pub fn pack(x: Term) -> u64
     ensures { λ r. ⌜ r ≡ termWord x ⌝ }
 {
@@ -84,6 +85,7 @@ pub fn operator(k: usize, place: Place) -> Operator
     }
 }
 
+// The term of a word: its kind and numbers, wherever they come from.
 pub fn unpack(w: u64) -> Term
     ensures { λ r. ⌜ r ≡ wordTerm w ⌝ }
 {

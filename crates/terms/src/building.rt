@@ -1,6 +1,7 @@
 // The set of a term, worked out from the sets of its operands, which stand before it in this round's half, or from that of an
 // equation's body in the round before.
 use growth::operators::wrapped;
+use merging::multiplying::add_product;
 use places::laying::lay;
 use places::starts::growth_of;
 use places::starts::left_of;
@@ -8,7 +9,6 @@ use places::starts::part_at;
 use places::starts::place_of;
 use sets::Built;
 use sets::Target;
-use merging::multiplying::add_product;
 use shapes::Shape;
 use shapes::adding::add_two;
 use shapes::making::leaf;
