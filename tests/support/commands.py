@@ -15,10 +15,12 @@ OTHER_COMPILER = "x86_64-linux-gnu-gcc" if platform.machine() == "x86_64" else "
 
 
 def blocks(page):
-    """The indented blocks of a page, each as its lines."""
-    found, block = [], []
+    """The indented blocks of a page, each as its lines; a picture between
+    fences is none."""
+    found, block, fenced = [], [], False
     for line in [*page.splitlines(), ""]:
-        if line.startswith("    "):
+        fenced ^= line.startswith("```")
+        if line.startswith("    ") and not fenced:
             block.append(line.strip())
         elif block:
             found.append(block)
