@@ -107,7 +107,8 @@ module _ (words : List Text) (line : Text) (at : ℕ) where
     beyond e = e ∙ ap (λ d. onward d (λ _ r. onward (word r) (λ w q. onward (ended q) (λ _ p. past (acts w) p)))) (literal-more space [] line at f)
 
     pub act-no-name : {t : Text} {p : ℕ} → Stands line p (stuck t) (seen (nameEntry words) word (drop (at + 1) line)) → stuck t ≡ ofName (drop at line)
-    act-no-name s = beyond (ap (λ d. onward d (λ w q. onward (ended q) (λ _ p. past (acts w) p))) (back-stuck (nameEntry words) (word (drop (at + 1) line)) (s .says)))
+    act-no-name s =
+        beyond (ap (λ d. onward d (λ w q. onward (ended q) (λ _ p. past (acts w) p))) (back-stuck (nameEntry words) (word (drop (at + 1) line)) (s .says)))
 
     module _ (e : C.Said) {next : ℕ} (s : Stands line next (past (saidOf e) (drop next line)) (seen (nameEntry words) word (drop (at + 1) line))) where
       name : (w : Text) × (past w (drop next line) ≡ word (drop (at + 1) line)) × (saidOf e ≡ nameEntry words w)

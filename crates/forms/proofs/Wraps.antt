@@ -127,7 +127,8 @@ module _ (w : WrapKind) (words : List Text) (line : Text) (from : ℕ) (i : from
   wrap-went {e} g =
       let s = shifted (past (saidOf e)) i (said-went (h .read) g) in
       let b = back-past (λ c. listEntry (listKind w) (entries w words c)) (contents w (drop from line)) (s .says ∙ flat) in
-      (b .0, b .1, b .2, h .stored (entries w words (b .0)) _ (ap (λ d. onward d (λ c o. past (entries w words c) o)) (b .1) ∙ sym (listed-entries w words (drop from line))))
+      let all = ap (λ d. onward d (λ c o. past (entries w words c) o)) (b .1) ∙ sym (listed-entries w words (drop from line)) in
+      (b .0, b .1, b .2, h .stored (entries w words (b .0)) _ all)
 
 -- What follows the word.
 module _ (w : WrapKind) where
@@ -159,7 +160,8 @@ module _ (w : WrapKind) (words : List Text) (line : Text) (at : ℕ) where
     pub no-space : starts space (drop from line) ≡ false → stuck (drop from line) ≡ Due
     no-space f = reach (ap (λ d. onward d (after-space w t)) (literal-other space [] (drop from line) f))
 
-    module _ (f : starts space (drop from line) ≡ true) {kind : ListKind} (j : kind ≡ listKind w) (i : from + 1 ≤ length line) {before after : List ℕ} {l : SaidStep}
+    module _ (f : starts space (drop from line) ≡ true) {kind : ListKind} (j : kind ≡ listKind w) (i : from + 1 ≤ length line)
+        {before after : List ℕ} {l : SaidStep}
         (h : ListRead kind (drop (from + 1) line) (wholeList words kind (drop (from + 1) line)) before after l) where
       list : ListRead (listKind w) (drop (from + 1) line) (wholeList words (listKind w) (drop (from + 1) line)) before after l
       list = rw j at h
@@ -175,7 +177,9 @@ module _ (w : WrapKind) (words : List Text) (line : Text) (at : ℕ) where
         pub no-end : from + 1 + n < length line → stuck (drop (from + 1 + n) line) ≡ Due
         no-end k =
             let c = wrap-went w words line (from + 1) i list g in
-            beyond (ap (λ d. onward d (λ _ m. past (wraps (listed w (c .0)) t) m)) (ended-some line (from + 1 + n) k) ∙ ap (λ d. onward d (after-list w t)) (c .1))
+            beyond
+            (ap (λ d. onward d (λ _ m. past (wraps (listed w (c .0)) t) m)) (ended-some line (from + 1 + n) k)
+            ∙ ap (λ d. onward d (after-list w t)) (c .1))
 
         pub wrap-line : (number : ℕ) {o : Operator} → length line ≤ from + 1 + n → o ≡ wrappedOf w (record { at = 32 * number; entries = said .first })
             → LineTerm words number Due before after (Wrap o t) (said .fault)
@@ -185,7 +189,9 @@ module _ (w : WrapKind) (words : List Text) (line : Text) (at : ℕ) where
             record {
               line = wraps (listed w (c .0)) t;
               says =
-                  beyond (ap (λ d. onward d (λ _ m. past (wraps (listed w (c .0)) t) m)) (ended-none line (from + 1 + n) k) ∙ ap (λ d. onward d (after-list w t)) (c .1));
+                  beyond
+                  (ap (λ d. onward d (λ _ m. past (wraps (listed w (c .0)) t) m)) (ended-none line (from + 1 + n) k)
+                  ∙ ap (λ d. onward d (after-list w t)) (c .1));
               term =
                   ap (λ p. Wrap p t)
                   (o ∙ ap (λ i. wrappedOf w (record { at = 32 * number; entries = i })) (ap (λ d. d .first) (c .2)) ∙ listed-operator w words number (c .0));

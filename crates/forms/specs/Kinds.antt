@@ -2,13 +2,15 @@
 -- Assumes nothing.
 use mathlib.Core.Path.{_≡_}
 use mathlib.Core.List.{[]}
-use Prim.Native.Nat.{ℕ, zero, suc, _≤_, _<_, max}
+use Prim.Native.Nat.{ℕ, zero, suc, _*_, _≤_, _<_, max}
 use lib.ListN.{length, getD, drop}
 use lib.Dec.{eqb}
 use Rattle.meaning.specs.Bytes.{Text}
 use Rattle.grammar.specs.Text.{Past, stuck}
 use Rattle.grammar.specs.Forms.{Line, Kind, kinds, farther}
-use Rattle.table.specs.Packed.{either}
+use Rattle.table.specs.Packed.{either, operatorAt}
+use Rattle.table.specs.declared.Term.the-variants.{Wrap}
+use Rattle.lists.specs.declared.Said.{Said}
 use Rattle.forms.specs.Terms.{WrapKind, Block, Hide, Rename, Comm, Allow}
 use Rattle.forms.specs.declared.TermStep.{TermStep}
 use Rattle.forms.specs.declared.TermStep.the-variants as T
@@ -45,6 +47,10 @@ KindRead line due (Stuck p) = stuck (drop p line) ≡ due
 -- the kinds with a list
 abbrev pub wrapOf : ℕ → WrapKind
 wrapOf k = either (eqb k 12) Block (either (eqb k 13) Hide (either (eqb k 14) Rename (either (eqb k 15) Comm Allow)))
+
+-- the term of a kind with a list, at its number, with the list's fault
+abbrev pub wrapStep : ℕ → ℕ → ℕ → Said → TermStep
+wrapStep k t n said = T.To (Wrap (operatorAt k (record { at = 32 * n; entries = said .first })) t) (said .fault)
 
 -- an answer joined to that place
 abbrev pub fartherStep : ℕ → TermStep → TermStep

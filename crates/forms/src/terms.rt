@@ -9,7 +9,7 @@ ghost use Rattle.grammar.specs.Text.{past, onward, ended, byte, number};
 ghost use Rattle.words.specs.Steps.{Steps};
 ghost use Rattle.grammar.specs.Forms.{space, plain, ofName, ofOne, ofTwo, ofList, termLine};
 ghost use Rattle.forms.specs.Terms.{PlainRead, madeOf, LineRead, Storeless, listKind, contents, listed, TermAnswer};
-ghost use Rattle.forms.specs.Kinds.{restOf, wrapOf, fartherStep};
+ghost use Rattle.forms.specs.Kinds.{restOf, wrapOf, wrapStep, fartherStep};
 use crate::TermStep;
 use crate::kinds::KindStep;
 use crate::kinds::find_kind;
@@ -17,6 +17,7 @@ use crate::kinds::kind_stuck_at;
 use crate::kinds::most;
 use faults::Found;
 use lists::ListKind;
+use lists::Said;
 use lists::SaidStep;
 use lists::read_name;
 use lists::read_whole;
@@ -113,6 +114,22 @@ fn list_kind(k: usize) -> ListKind
     }
 }
 
+// The term of a kind with a list, at its number: the list has the words at 32 times the number.
+fn wrapped(k: usize, t: usize, n: usize, said: Said) -> TermStep
+    requires { ⌜ n < 96 ⌝ }
+    ensures { λ r. ⌜ r ≡ wrapStep k t n said ⌝ }
+{
+    let first = 32 * n;
+    let place = Place {
+        at: first,
+        entries: said.first as usize,
+    };
+    let fault = said.fault;
+    let with_list = operator(k, place);
+    TermStep::To(Term::Wrap(with_list, t), fault)
+}
+
+// What follows the word of a kind with a list: an operand, the list and the end of the line.
 fn read_wrap(
     k: usize,
     line: &[u8],
@@ -122,7 +139,8 @@ fn read_wrap(
     store: &mut [u64],
 ) -> TermStep
     requires { ⌜ (at ≤ length (now line)) × (length (now names) ≤ 12) × (n < 96) ⌝ }
-    ensures { λ r. ⌜ LineRead (map (nameOf 8) (now (names .entry))) n (now (line .entry)) (ofList (contents (wrapOf k)) (listed (wrapOf k)) (drop at (now (line .entry)))) (now (store .entry)) (now (store .exit)) r ⌝ }
+    ensures { λ r. ⌜ LineRead (map (nameOf 8) (now (names .entry))) n (now (line .entry))
+        (ofList (contents (wrapOf k)) (listed (wrapOf k)) (drop at (now (line .entry)))) (now (store .entry)) (now (store .exit)) r ⌝ }
 {
     let operand = read_operand(line, at);
     let Step::To(t, after) = operand else {
@@ -141,14 +159,7 @@ fn read_wrap(
     if next < line.len() {
         return TermStep::Stuck(next);
     }
-    let first = 32 * n;
-    let place = Place {
-        at: first,
-        entries: said.first as usize,
-    };
-    let fault = said.fault;
-    let with_list = operator(k, place);
-    TermStep::To(Term::Wrap(with_list, t as usize), fault)
+    wrapped(k, t as usize, n, said)
 }
 
 // What follows the word of the kind at a place among the kinds.
@@ -161,7 +172,8 @@ fn read_kind(
     store: &mut [u64],
 ) -> TermStep
     requires { ⌜ (at ≤ length (now line)) × (length (now names) ≤ 12) × (n < 96) × (k < 17) ⌝ }
-    ensures { λ r. ⌜ LineRead (map (nameOf 8) (now (names .entry))) n (now (line .entry)) (restOf k (drop at (now (line .entry)))) (now (store .entry)) (now (store .exit)) r ⌝ }
+    ensures { λ r. ⌜ LineRead (map (nameOf 8) (now (names .entry))) n (now (line .entry))
+        (restOf k (drop at (now (line .entry)))) (now (store .entry)) (now (store .exit)) r ⌝ }
 {
     if k < 1 {
         return read_act(line, at, names, n);
@@ -193,7 +205,8 @@ fn farthest(x: TermStep, far: usize) -> TermStep
 
 fn read_line(line: &[u8], names: &[u64], n: usize, store: &mut [u64]) -> TermStep
     requires { ⌜ (length (now names) ≤ 12) × (n < 96) ⌝ }
-    ensures { λ r. ⌜ LineRead (map (nameOf 8) (now (names .entry))) n (now (line .entry)) (termLine (now (line .entry))) (now (store .entry)) (now (store .exit)) r ⌝ }
+    ensures { λ r. ⌜ LineRead (map (nameOf 8) (now (names .entry))) n (now (line .entry))
+        (termLine (now (line .entry))) (now (store .entry)) (now (store .exit)) r ⌝ }
 {
     let key = read_literal(line, b"term=");
     let Step::To(_, at) = key else {

@@ -58,7 +58,8 @@ module _ {A : Type 0} (f : ℕ → A) (item : Text → Past A) (key line : Text)
   item-last {s} t e = rw e (last s t)
 
 -- The place of a step of the rest fits a word where the line's length does.
-pub place-fits : {A : Type 0} {f : ℕ → A} (line : Text) (at : ℕ) {r : Step} {due : Past A} → at ≤ length line → Steps f (restAt line at) r due → at + placeOf r ≤ length line
+pub place-fits : {A : Type 0} {f : ℕ → A} (line : Text) (at : ℕ) {r : Step} {due : Past A} → at ≤ length line
+    → Steps f (restAt line at) r due → at + placeOf r ≤ length line
 place-fits line at h s = omega (arith, s .stands .within, length-rest line at h)
   where
     length-rest : (line : Text) (at : ℕ) → at ≤ length line → length (restAt line at) ≡ length line - at

@@ -23,7 +23,8 @@ const ORDER_AT: usize = 3072;
 
 fn read_labels(line: &[u8], at: usize, names: &[u64], store: &mut [u64]) -> OrderStep
     requires { ⌜ (at ≤ length (now line)) × (length (now names) ≤ 12) ⌝ }
-    ensures { λ r. ⌜ OrderDue (map (nameOf 8) (now (names .entry))) (now (line .entry)) (onlyThese (drop at (now (line .entry)))) (now (store .entry)) (now (store .exit)) r ⌝ }
+    ensures { λ r. ⌜ OrderDue (map (nameOf 8) (now (names .entry))) (now (line .entry))
+        (onlyThese (drop at (now (line .entry)))) (now (store .entry)) (now (store .exit)) r ⌝ }
 {
     let list = read_whole(ListKind::Labels, &line[at..], names, store);
     let SaidStep::To(said, bytes) = list else {

@@ -50,7 +50,8 @@ module _ (form : Text → Past Said) (line : Text) (at : ℕ) {r : SaidStep} (h 
   said-stays-on g = shifted stuck h (said-stays there g)
 
 -- The place of a step of the rest lies in the line.
-pub said-within : (line : Text) (at : ℕ) {q : ℕ} {r : SaidStep} {due : Past Said} → at ≤ length line → Says (drop at line) r due → q ≡ saidPlace r → at + q ≤ length line
+pub said-within : (line : Text) (at : ℕ) {q : ℕ} {r : SaidStep} {due : Past Said} → at ≤ length line → Says (drop at line) r due → q ≡ saidPlace r
+    → at + q ≤ length line
 said-within line at h s e = omega (arith, s .stands .within, length-drop at line, e)
 
 -- A part, a sign and a second part, the last two read as one.

@@ -12,7 +12,8 @@ use Rattle.table.specs.declared.Term.{Term}
 use Rattle.table.specs.declared.Term.the-variants.{Delta, Tau, Act, Ref, Sum, Cond, Choice, IfElse, Seq, Merge, LMerge, Sync, Wrap}
 use Rattle.grammar.specs.Faults.{operandsFit}
 
-pub fit-other : (x : Term) (terms : List D.Term) → OneOf (0 ∷ 1 ∷ 2 ∷ 3 ∷ 4 ∷ 5 ∷ 6 ∷ 7 ∷ 8 ∷ 9 ∷ 10 ∷ 12 ∷ []) (tagOf TermType.the-type x) → true ≡ operandsFit terms (bareTerm x)
+pub fit-other : (x : Term) (terms : List D.Term) → OneOf (0 ∷ 1 ∷ 2 ∷ 3 ∷ 4 ∷ 5 ∷ 6 ∷ 7 ∷ 8 ∷ 9 ∷ 10 ∷ 12 ∷ []) (tagOf TermType.the-type x)
+    → true ≡ operandsFit terms (bareTerm x)
 fit-other Delta terms e = refl
 fit-other Tau terms e = refl
 fit-other (Act a) terms e = refl

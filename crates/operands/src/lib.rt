@@ -71,7 +71,8 @@ fn operands_fit(x: Term, slots: &[u64]) -> bool
 // The fault of a term's names and list, of its numbers, and of its operands, joined.
 pub fn joined_fault(x: Term, found: Found, n: usize, equations: usize, slots: &[u64]) -> Found
     ensures { λ r. ⌜ foundOf r
-        ≡ worse (foundOf found) (worse (unless (inRange equations n (bareTerm x)) range) (unless (operandsFit (map bareSlot (now (slots .entry))) (bareTerm x)) operand)) ⌝ }
+        ≡ worse (foundOf found) (worse (unless (inRange equations n (bareTerm x)) range)
+        (unless (operandsFit (map bareSlot (now (slots .entry))) (bareTerm x)) operand)) ⌝ }
 {
     let numbers = found_unless(in_range(x, n, equations), Fault::Range);
     let operands = found_unless(operands_fit(x, slots), Fault::Operand);

@@ -76,7 +76,8 @@ module _ {B : Type 0} (sign : ℕ) (line : Text) (at : ℕ) (k : Unit {0} → Te
   past-sign f s = record { says = s .says ∙ ap (λ d. onward d k) (literal-more sign [] line at f); within = s .within }
 
 -- the same step, its number read in another way
-pub otherwise : {A : Type 0} {line : Text} {next : ℕ} {t : Text} {a b : A} {due : Past A} → Stands line next (past a t) due → b ≡ a → Stands line next (past b t) due
+pub otherwise : {A : Type 0} {line : Text} {next : ℕ} {t : Text} {a b : A} {due : Past A} → Stands line next (past a t) due → b ≡ a
+    → Stands line next (past b t) due
 otherwise s h = rw h s
 
 -- what is due, in another form

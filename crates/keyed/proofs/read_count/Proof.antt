@@ -32,7 +32,8 @@ part-read-number-end c = search needs
 at-end-requires : tie.Need-at-end-requires
 at-end-requires c κs =
     let started = c .before .before .before in
-    let w = place-fits (started .before .before .before .before .before .args .line .now) (started .start .given .0 .1 .0) (part-read-number-start (c .before .before)) (c .read-number .ensures) in
+    let line = started .before .before .before .before .before .args .line .now in
+    let w = place-fits line (started .start .given .0 .1 .0) (part-read-number-start (c .before .before)) (c .read-number .ensures) in
     omega arith
 
 returns-2 : tie.Need-returns-2
@@ -46,4 +47,5 @@ returns-2 c =
 pub read-count-spec : {M : Type 1} → statement M
 read-count-spec =
     tie.close
-    (tie.spec asks-nothing enum-known-start enum-told returns sub-read-number part-read-number-start part-read-number-end asks-nothing at-end-requires returns-2)
+    (tie.spec asks-nothing enum-known-start enum-told returns sub-read-number part-read-number-start part-read-number-end asks-nothing
+    at-end-requires returns-2)

@@ -38,7 +38,8 @@ part-read-word-end c = search needs
 at-end-requires : tie.Need-at-end-requires
 at-end-requires c κs =
     let started = c .before .before .before in
-    let w = place-fits (started .before .before .before .before .before .args .line .now) (started .start .given .0 .1 .0) (part-read-word-start (c .before .before)) (c .read-word .ensures) in
+    let line = started .before .before .before .before .before .args .line .now in
+    let w = place-fits line (started .start .given .0 .1 .0) (part-read-word-start (c .before .before)) (c .read-word .ensures) in
     omega arith
 
 returns-2 : tie.Need-returns-2
@@ -52,4 +53,5 @@ returns-2 c =
 pub read-name-line-spec : {M : Type 1} → statement M
 read-name-line-spec =
     tie.close
-    (tie.spec slice-aggregate-read-literal asks-nothing enum-known-start enum-told returns sub-read-word part-read-word-start part-read-word-end asks-nothing at-end-requires returns-2)
+    (tie.spec slice-aggregate-read-literal asks-nothing enum-known-start enum-told returns sub-read-word part-read-word-start part-read-word-end asks-nothing
+    at-end-requires returns-2)

@@ -45,7 +45,8 @@ found : (c : tie.After-known-told Inv-loop μ-loop)
     → let turn = c .before .before .before .before .before in
     let a = turn .before .before .before .args in
     let next = a .at + c .before .word .given .0 .1 .0 in
-    Stands (a .line .now) next (past tt (drop next (a .line .now))) (literal (nameOf 8 (getD packedKinds (turn .before .loop .k) 0)) (drop (a .at) (a .line .now)))
+    Stands (a .line .now) next (past tt (drop next (a .line .now)))
+    (literal (nameOf 8 (getD packedKinds (turn .before .loop .k) 0)) (drop (a .at) (a .line .now)))
 found c =
     let read = c .before .before .before in
     let turn = read .before .before in
@@ -91,7 +92,8 @@ loop-less c = omega arith
 loop-again : tie.Need-loop-again Inv-loop μ-loop
 loop-again c =
     let turn = c .before .before .before .before .before .before in
-    sought-more _ _ _ _ (turn .before .loop .inv) (turn .loop-test .taken) (turn .before .before .before .pre .0) (omega arith) (missed (c .before)) (c .most .ensures)
+    sought-more _ _ _ _ (turn .before .loop .inv) (turn .loop-test .taken) (turn .before .before .before .pre .0) (omega arith) (missed (c .before))
+    (c .most .ensures)
 
 returns-2 : tie.Need-returns-2 Inv-loop μ-loop
 returns-2 c = sought-all _ _ _ _ (c .before .loop .inv) (c .loop-test .left)

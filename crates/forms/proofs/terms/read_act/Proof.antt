@@ -65,7 +65,8 @@ named : (c : tie.After-known-told)
     → let a = c .before .before .before .before .before .before .before .before .before .args in
     let e = c .before .name .given .0 in
     let next = a .at + 1 + e .1 .0 in
-    Stands (a .line .now) next (past (saidOf (e .0)) (drop next (a .line .now))) (seen (nameEntry (map (nameOf 8) (a .names .now))) word (drop (a .at + 1) (a .line .now)))
+    Stands (a .line .now) next (past (saidOf (e .0)) (drop next (a .line .now)))
+    (seen (nameEntry (map (nameOf 8) (a .names .now))) word (drop (a .at + 1) (a .line .now)))
 named c =
     let read = c .before .before .before in
     let tested = read .before .before in

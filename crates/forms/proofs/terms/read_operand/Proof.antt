@@ -30,7 +30,8 @@ returns c =
     let a = start .args in
     record {
       stands =
-          stays-on operand (a .line .now) (a .at) (start .pre) (read .number-after .ensures) (stuck-there (c .before .enum-told .given .1) (c .stuck-at .ensures));
+          stays-on operand (a .line .now) (a .at) (start .pre) (read .number-after .ensures)
+          (stuck-there (c .before .enum-told .given .1) (c .stuck-at .ensures));
     }
 
 add-t11 : tie.Need-add-t11

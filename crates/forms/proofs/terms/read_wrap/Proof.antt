@@ -73,7 +73,8 @@ listed : (c : tie.After-read-whole)
     let told = kind .before .before .before .before in
     let a = told .before .before .before .before .before .before .args in
     let from = told .operand .given .0 .1 .0 + 1 in
-    ListRead (kind .list-kind .result) (drop from (a .line .now)) (wholeList (map (nameOf 8) (a .names .now)) (kind .list-kind .result) (drop from (a .line .now)))
+    ListRead (kind .list-kind .result) (drop from (a .line .now))
+    (wholeList (map (nameOf 8) (a .names .now)) (kind .list-kind .result) (drop from (a .line .now)))
     (a .store .now) (c .read-whole .last .1 .1 .1 .0) (c .read-whole .result)
 listed c =
     let kind = c .before .before .before in
@@ -92,12 +93,14 @@ enum-told-2 c = c .match2 .keys2
 same-length : tie.Need-same-length
 same-length c = search needs
 
-add-t30 : tie.Need-add-t30
-add-t30 c =
+add-t26 : tie.Need-add-t26
+add-t26 c =
     let read = c .before .before .before .before .before in
     let told = read .before .before .before .before .before .before .before in
     let start = told .before .before .before .before .before .before in
-    let s = said-within (start .args .line .now) (told .operand .given .0 .1 .0 + 1) (passed (read .before .before .before .before)) (listed read .read) (c .said-stuck-at .ensures) in
+    let s =
+    said-within (start .args .line .now) (told .operand .given .0 .1 .0 + 1) (passed (read .before .before .before .before)) (listed read .read)
+    (c .said-stuck-at .ensures) in
     omega (arith, start .good .1 .0)
 
 returns-3 : tie.Need-returns-3
@@ -116,7 +119,9 @@ add-next c =
     let read = c .before .before .before .before .before in
     let told = read .before .before .before .before .before .before .before in
     let start = told .before .before .before .before .before .before in
-    let s = said-within (start .args .line .now) (told .operand .given .0 .1 .0 + 1) (passed (read .before .before .before .before)) (listed read .read) (sym (ap saidPlace (c .before .list .given .1))) in
+    let s =
+    said-within (start .args .line .now) (told .operand .given .0 .1 .0 + 1) (passed (read .before .before .before .before)) (listed read .read)
+    (sym (ap saidPlace (c .before .list .given .1))) in
     omega (arith, start .good .1 .0)
 
 same-length-2 : tie.Need-same-length-2
@@ -133,10 +138,10 @@ returns-4 c =
     (sym (kind .before .before .sign-at .ensures) ∙ not-false _ (kind .before .if1 .left)) (kind .list-kind .ensures) (passed (kind .before)) (listed read)
     (c .before .before .list .given .1) (c .if2 .taken)
 
-mul-first : tie.Need-mul-first
-mul-first c =
+wrapped-requires : tie.Need-wrapped-requires
+wrapped-requires c κs =
     let read = c .before .before .before .before .before .before in
-    omega (arith, read .before .before .before .before .before .before .before .before .before .before .before .before .before .pre .2)
+    read .before .before .before .before .before .before .before .before .before .before .before .before .before .pre .2
 
 same-length-3 : tie.Need-same-length-3
 same-length-3 c = search needs
@@ -149,14 +154,14 @@ returns-5 c =
     let number = told .before .before in
     let a = number .before .before .before .before .args in
     let list = c .before .before .before .list .given in
-    wrap-line (wrapOf (a .k)) (map (nameOf 8) (a .names .now)) (a .line .now) (a .at) (went (number .read-operand .ensures) (told .operand .given .1))
+    rw (c .wrapped .ensures)
+    (wrap-line (wrapOf (a .k)) (map (nameOf 8) (a .names .now)) (a .line .now) (a .at) (went (number .read-operand .ensures) (told .operand .given .1))
     (sym (kind .before .before .sign-at .ensures) ∙ not-false _ (kind .before .if1 .left)) (kind .list-kind .ensures) (passed (kind .before)) (listed read)
-    (list .1) (a .n) (c .before .if2 .left)
-    (c .operator .ensures ∙ operator-wrapped (a .k) (record { at = 32 * a .n; entries = list .0 .0 .first }))
+    (list .1) (a .n) (c .before .if2 .left) (operator-wrapped (a .k) (record { at = 32 * a .n; entries = list .0 .0 .first })))
 
 pub read-wrap-spec : {M : Type 1} → statement M
 read-wrap-spec =
     tie.close
     (tie.spec read-operand-requires enum-known-operand enum-told asks-nothing returns asks-nothing returns-2 asks-nothing add-behind sub-read-whole
-    part-read-whole-start part-read-whole-end asks-nothing enum-known-list enum-told-2 asks-nothing add-t30 same-length returns-3 add-next
-    same-length-2 returns-4 mul-first asks-nothing same-length-3 returns-5)
+    part-read-whole-start part-read-whole-end asks-nothing enum-known-list enum-told-2 asks-nothing add-t26 same-length returns-3 add-next
+    same-length-2 returns-4 wrapped-requires same-length-3 returns-5)

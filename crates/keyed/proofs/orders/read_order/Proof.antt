@@ -67,7 +67,8 @@ returns-3 c j =
     let read = known .before .before .before in
     let a = read .before .before .before .before .before .before .args in
     order-become (map (nameOf 8) (a .names .now)) (a .line .now) (past all []) (a .store .now) (a .store .now) (To All Fine)
-    (order-passed (a .line .now) true (went (read .read-literal .ensures .steps) (known .before .key .given .1) .says) (sym (c .if2 .taken) ∙ tested (c .before)))
+    (order-passed (a .line .now) true (went (read .read-literal .ensures .steps) (known .before .key .given .1) .says)
+    (sym (c .if2 .taken) ∙ tested (c .before)))
     (all-taken (map (nameOf 8) (a .names .now)) (a .store .now))
 
 read-labels-requires : tie.Need-read-labels-requires

@@ -36,11 +36,13 @@ returns-2 c =
       stands =
           rw (l .1)
           (become (right-seen _ (saidOf (l .0 .0)) _)
-          (no-sign greater (start .args .rest .now) (l .0 .1 .0) _ (sym (c .before .sign-at .ensures) ∙ not-true _ (c .if1 .taken)) (rw (l .1) at (start .pre))));
+          (no-sign greater (start .args .rest .now) (l .0 .1 .0) _ (sym (c .before .sign-at .ensures) ∙ not-true _ (c .if1 .taken))
+          (rw (l .1) at (start .pre))));
     }
 
 -- a sign that stands there lies in the line
-passed : (c : tie.Else1) → c .before .before .before .left .given .0 .1 .0 + 1 ≤ length (c .before .before .before .before .before .before .before .args .rest .now)
+passed : (c : tie.Else1)
+    → c .before .before .before .left .given .0 .1 .0 + 1 ≤ length (c .before .before .before .before .before .before .before .args .rest .now)
 passed c =
     let went = c .before .before .before in
     let w =
