@@ -1,4 +1,3 @@
 // Two parts in one set: their union, and their product, every sum of a label of the one and a label of the other.
-pub mod comparing;
 pub mod joining;
 pub mod multiplying;

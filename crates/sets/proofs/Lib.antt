@@ -4,6 +4,7 @@ pub mod Halving
 pub mod Insertion
 pub mod Steps
 pub mod Walking
+pub mod Ascents
 pub mod Sorting
 pub mod Meant
 pub mod Outcomes

@@ -3,6 +3,7 @@
 // holds of any words, and that ascending parts stay ascending is a law beside it.
 use labels::Label;
 
+pub mod comparing;
 pub mod inserting;
 pub mod placing;
 

@@ -14,7 +14,8 @@ use Rattle.sets.specs.declared.Built.the-variants.{TooLarge, Holds}
 use Rattle.sets.specs.Parts.{setAt, laid, partBefore, roomAt}
 use Rattle.sets.specs.Building.{Building, done, answerOf, Grown}
 use Rattle.merging.specs.Multiplying.{row, multiplied}
-use Rattle.merging.specs.Joining.{joined, ascent, fitting, united}
+use Rattle.merging.specs.Joining.{joined, fitting, united}
+use Rattle.sets.specs.Comparing.{ascent}
 use Rattle.sets.proofs.Steps.{Steady, steady-each, Going, going-last, grown-as, next-holds, next-large, built-holds}
 use Rattle.merging.proofs.Products.{steady-row}
 use Rattle.sets.proofs.Walking.{part-stays}

@@ -13,7 +13,8 @@ use Rattle.ways.specs.declared.Way.the-variants.{Copy}
 use Rattle.sets.specs.Building.{Building, goesOn, next}
 use Rattle.merging.specs.Multiplying.{row, multiplied}
 use Rattle.ways.specs.Imaging.{imaged}
-use Rattle.merging.specs.Joining.{joined, ascent, fitting, united}
+use Rattle.merging.specs.Joining.{joined, fitting, united}
+use Rattle.sets.specs.Comparing.{ascent}
 use Rattle.sets.proofs.Steps.{Steady, steady-each, steady-enter}
 use Rattle.merging.proofs.Products.{steady-row}
 use Rattle.ways.proofs.Images.{steady-imaged}

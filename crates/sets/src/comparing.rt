@@ -1,12 +1,12 @@
 // How far a part ascends.
+use crate::Part;
+use crate::placing::end_before;
 use labels::packing::below;
 use labels::packing::read_label;
-use sets::Part;
-use sets::placing::end_before;
 ghost use mathlib.Core.Path.{_≡_};
 ghost use Rattle.labels.specs.Packing.{held};
 ghost use Rattle.sets.specs.Parts.{partBefore, wordsOf};
-ghost use Rattle.merging.specs.Joining.{ascent};
+ghost use Rattle.sets.specs.Comparing.{ascent};
 
 // Up to where a part that stands before a place ascends.
 pub fn ascent_end(words: &[u64], part: Part, at: usize) -> usize
