@@ -105,7 +105,8 @@ module _ (n : ℕ) (front ws : List ℕ) {store : List ℕ} (l : length front �
   size : length store - n ≡ 32
   size = let e = filled-length {A = ℕ} 0 32 [] in rw (s, length-append) (omega arith)
 
-  pub words-stored : {after : List ℕ} → after ≡ over ws (take (length store - n) (drop n store)) → take n store ++ (after ++ drop (length store - n) (drop n store)) ≡ front ++ filled 32 0 ws
+  pub words-stored : {after : List ℕ} → after ≡ over ws (take (length store - n) (drop n store)) → take n store ++
+      (after ++ drop (length store - n) (drop n store)) ≡ front ++ filled 32 0 ws
   words-stored q =
       let b : take n store ≡ front = rw s (take-at front (filled 32 0 []) n l) in
       let e = filled-length {A = ℕ} 0 32 [] in
@@ -156,9 +157,11 @@ unfolding tableOf
 table-held names named count slots terms bodies equations n s c b few =
     let l = padded-length (n .laid) in
     let m = padded-length b in
-    let w : length (map (nameOf 8) (take named names)) ≡ named = length-map (take named names) (nameOf 8) ∙ length-take-le named names (omega (arith, n .few)) in
+    let w : length (map (nameOf 8) (take named names)) ≡ named = length-map (take named names) (nameOf 8) ∙ length-take-le named names
+    (omega (arith, n .few)) in
     let e : length (take equations bodies) ≡ equations = length-take-le equations bodies (omega arith) in
-    let f : names ≡ filled 12 0 (map wordOf (map (nameOf 8) (take named names))) = rw (words-back (take named names) (taken-fit named names (n .fits))) (n .laid .padded) in
+    let f : names ≡ filled 12 0 (map wordOf (map (nameOf 8) (take named names))) = rw
+    (words-back (take named names) (taken-fit named names (n .fits))) (n .laid .padded) in
     same-table f (sym w) (b .padded) (sym e) s (sym c)
 
 pub held-length : {store : List ℕ} (ts : List D.Term) → store ≡ filled 3072 0 (termsWords ts) ++ filled 32 0 [] → length store ≡ 3104

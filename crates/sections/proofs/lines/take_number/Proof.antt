@@ -38,7 +38,8 @@ returns-3 c =
     let a = there .before .before .before .before .args in
     refuses
     (line-there _ (a .line) (there .before .line-end .ensures) (there .if1 .left)
-    (number-low (a .key .now) (a .low) (a .below) (faultOf (a .fault)) _ (went (c .before .before .before .before .read-count .ensures) (c .before .before .step .given .1) .says) (c .if2 .taken)))
+    (number-low (a .key .now) (a .low) (a .below) (faultOf (a .fault)) _
+    (went (c .before .before .before .before .read-count .ensures) (c .before .before .step .given .1) .says) (c .if2 .taken)))
 
 returns-4 : tie.Need-returns-4
 returns-4 c =
@@ -46,7 +47,8 @@ returns-4 c =
     let a = there .before .before .before .before .args in
     refuses
     (line-there _ (a .line) (there .before .line-end .ensures) (there .if1 .left)
-    (number-high (a .key .now) (a .low) (a .below) (faultOf (a .fault)) _ (went (c .before .before .before .before .before .read-count .ensures) (c .before .before .before .step .given .1) .says)
+    (number-high (a .key .now) (a .low) (a .below) (faultOf (a .fault)) _
+    (went (c .before .before .before .before .before .read-count .ensures) (c .before .before .before .step .given .1) .says)
     (c .before .if2 .left) (c .if3 .taken)))
 
 add-took : tie.Need-add-took
@@ -61,7 +63,8 @@ returns-5 c =
           record {
             says =
                 line-there _ (a .line) (there .before .line-end .ensures) (there .if1 .left)
-                (number-between (a .key .now) (a .low) (a .below) (faultOf (a .fault)) _ (went (c .before .before .before .before .before .read-count .ensures) (c .before .before .before .step .given .1) .says)
+                (number-between (a .key .now) (a .low) (a .below) (faultOf (a .fault)) _
+                (went (c .before .before .before .before .before .read-count .ensures) (c .before .before .before .step .given .1) .says)
                 (c .before .if2 .left) (c .if3 .left));
             within = omega (arith, there .if1 .left);
           };

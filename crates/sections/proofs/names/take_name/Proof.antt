@@ -44,7 +44,8 @@ returns-3 c =
     record {
       says =
           line-there _ (a .line) (there .before .line-end .ensures) (there .if1 .left)
-          (name-held (map (nameOf 8) (a .names .now)) _ (went (c .before .before .before .before .before .read-name-line .ensures) (c .before .before .before .step .given .1) .says)
+          (name-held (map (nameOf 8) (a .names .now)) _ (went (c .before .before .before .before .before .read-name-line .ensures)
+          (c .before .before .before .step .given .1) .says)
           (sym (c .before .is-free .ensures) ∙ not-true _ (c .if2 .taken)));
       within = omega arith;
     }
@@ -59,7 +60,8 @@ returns-4 c =
     record {
       says =
           line-there _ (a .line) (there .before .line-end .ensures) (there .if1 .left)
-          (name-free (map (nameOf 8) (a .names .now)) _ (went (c .before .before .before .before .before .read-name-line .ensures) (c .before .before .before .step .given .1) .says)
+          (name-free (map (nameOf 8) (a .names .now)) _ (went (c .before .before .before .before .before .read-name-line .ensures)
+          (c .before .before .before .step .given .1) .says)
           (sym (c .before .is-free .ensures) ∙ not-false _ (c .if2 .left)));
       within = omega (arith, there .if1 .left);
     }

@@ -14,7 +14,13 @@ use Rattle.termlines.proofs.orders.take_order.Statement.{statement}
 use Rattle.termlines.proofs.orders.take_order.Tie as tie
 
 returns : tie.Need-returns
-returns c = λ few short. record { says = line-lacks _ (c .before .before .before .before .before .args .line) (c .before .line-end .ensures) (c .if1 .taken); here = refl; none = refl }
+returns c =
+    λ few short. record {
+      says = line-lacks _ (c .before .before .before .before .before .args .line) (c .before .line-end .ensures)
+          (c .if1 .taken);
+      here = refl;
+      none = refl;
+    }
 
 slice-aggregate-read-order : tie.Need-slice-aggregate-read-order
 slice-aggregate-read-order c = sym (length-take-le _ _ (c .before .before .line-end .ensures .within))
@@ -58,7 +64,9 @@ returns-3 c = λ few short.
     let there = c .before .before .before .before .before .before .before .before .before .before in
     let start = there .before .before .before .before .before in
     let a = start .args in
-    let t = c .before .before .before .before .before .before .before .read-order .ensures few (part-short (a .text .now) (there .before .line-end .result) short) in
+    let t =
+    c .before .before .before .before .before .before .before .read-order .ensures few
+    (part-short (a .text .now) (there .before .line-end .result) short) in
     let k = rw (c .before .before .before .step .given .1) at t in
     record {
       plain = refl;
@@ -79,7 +87,9 @@ returns-4 c = λ few short.
     let there = c .before .before .before .before .before .before .before .before .before .before .before in
     let start = there .before .before .before .before .before in
     let a = start .args in
-    let t = c .before .before .before .before .before .before .before .before .read-order .ensures few (part-short (a .text .now) (there .before .line-end .result) short) in
+    let t =
+    c .before .before .before .before .before .before .before .before .read-order .ensures few
+    (part-short (a .text .now) (there .before .line-end .result) short) in
     let k = rw (c .before .before .before .before .step .given .1) at t in
     record {
       says =
