@@ -1,12 +1,12 @@
 -- The whole text: sections one after the other, and what is left when they are read.
 -- Assumes nothing.
-use mathlib.Core.Path.{_≡_, refl, sym, ap, ap₂, _∙_}
+use mathlib.Core.Path.{_≡_, refl, sym, ap, _∙_}
 use mathlib.Core.Bool.{Bool, true, false}
-use mathlib.Core.List.{List, [], _∷_, _++_, map, append-nil}
-use Prim.Native.Nat.{ℕ, zero, suc, _+_, _-_, _^_, _≤_, _<_}
+use mathlib.Core.List.{List, [], _++_, map, append-nil}
+use Prim.Native.Nat.{ℕ, suc, _+_, _-_, _^_, _≤_, _<_}
 use native.Mathlib.Omega.{arith}
 use lib.Dec.{leb, ltb}
-use lib.ListN.{length, getD, take, drop, length-append, length-map, drop-of-length-le}
+use lib.ListN.{length, take, drop, length-append, length-map, drop-of-length-le}
 use lib.Seq.{take-at, drop-at, take-all, length-take-le}
 use borrow.Author.Tests.{lt-ltb, le-ltb, le-leb, leb-true, leb-false}
 use Rattle.meaning.specs.Bytes.{Text}
@@ -17,7 +17,7 @@ use Rattle.table.specs.declared.Order.{Order}
 use Rattle.table.specs.declared.Table.{Table}
 use Rattle.table.specs.Decoded.{nameOf}
 use Rattle.table.specs.Encoded.{filled, wordOf, slotsFrom, termsWords, orderWords, orderFor, tableOf, storeOf}
-use Rattle.table.proofs.Filled.{filled-length, filled-two, filled-front}
+use Rattle.table.proofs.Filled.{filled-length, filled-two}
 use Rattle.grammar.specs.Text.{Past, past, stuck}
 use Rattle.grammar.specs.Forms.{countLine}
 use Rattle.forms.specs.Tallies.{faultOf}

@@ -5,10 +5,9 @@ use mathlib.Core.Path.{_≡_, refl, sym, ap, ap₂, _∙_}
 use mathlib.Core.List.{List, [], _++_, map}
 use Prim.Native.Nat.{ℕ, _+_}
 use native.Mathlib.Omega.{arith}
-use lib.ListN.{length, take, drop, length-take}
+use lib.ListN.{length, take, length-take}
 use lib.Seq.{length-take-le}
 use Rattle.table.specs.Decoded.{nameOf}
-use Rattle.table.specs.Encoded.{filled, termsWords}
 use Rattle.table.proofs.Filled.{filled-length}
 use Rattle.grammar.specs.Reading.{takeTerm, lines}
 use Rattle.forms.proofs.Rests.{asks-nothing}

@@ -1,6 +1,6 @@
 -- `sections::bodies::take_bodies` meets its contract: the bodies so far, and the lines that are left.
 -- Assumes nothing.
-use mathlib.Core.Path.{_≡_, refl, sym}
+use mathlib.Core.Path.{_≡_, refl}
 use mathlib.Core.List.{[]}
 use Prim.Native.Nat.{_-_}
 use native.Mathlib.Omega.{arith}

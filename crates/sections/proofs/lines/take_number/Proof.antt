@@ -1,6 +1,5 @@
 -- `sections::lines::take_number` meets its contract: the line, its number, and the test.
 -- Assumes nothing.
-use borrow.Author.Needs.{needs}
 use mathlib.Core.Path.{sym}
 use native.Mathlib.Omega.{arith}
 use lib.Seq.{length-take-le}

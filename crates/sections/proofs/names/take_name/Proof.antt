@@ -1,6 +1,5 @@
 -- `sections::names::take_name` meets its contract: the line, its name, and whether it is free.
 -- Assumes nothing.
-use borrow.Author.Needs.{needs}
 use mathlib.Core.Path.{sym, _∙_}
 use mathlib.Core.List.{map}
 use native.Mathlib.Omega.{arith}
