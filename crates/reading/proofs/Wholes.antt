@@ -1,12 +1,12 @@
 -- The whole text: sections one after the other, and what is left when they are read.
 -- Assumes nothing.
-use mathlib.Core.Path.{_≡_, refl, sym, ap, ap₂, _∙_}
+use mathlib.Core.Path.{_≡_, refl, sym, ap, _∙_}
 use mathlib.Core.Bool.{Bool, true, false}
-use mathlib.Core.List.{List, [], _∷_, _++_, map, append-nil}
-use Prim.Native.Nat.{ℕ, zero, suc, _+_, _-_, _^_, _≤_, _<_}
+use mathlib.Core.List.{List, [], _++_, map, append-nil}
+use Prim.Native.Nat.{ℕ, suc, _+_, _-_, _^_, _≤_, _<_}
 use native.Mathlib.Omega.{arith}
 use lib.Dec.{leb, ltb}
-use lib.ListN.{length, getD, take, drop, length-append, length-map, drop-of-length-le}
+use lib.ListN.{length, take, drop, length-append, length-map, drop-of-length-le}
 use lib.Seq.{take-at, drop-at, take-all, length-take-le}
 use borrow.Author.Tests.{lt-ltb, le-ltb, le-leb, leb-true, leb-false}
 use Rattle.meaning.specs.Bytes.{Text}
@@ -17,7 +17,7 @@ use Rattle.table.specs.declared.Order.{Order}
 use Rattle.table.specs.declared.Table.{Table}
 use Rattle.table.specs.Decoded.{nameOf}
 use Rattle.table.specs.Encoded.{filled, wordOf, slotsFrom, termsWords, orderWords, orderFor, tableOf, storeOf}
-use Rattle.table.proofs.Filled.{filled-length, filled-two, filled-front}
+use Rattle.table.proofs.Filled.{filled-length, filled-two}
 use Rattle.grammar.specs.Text.{Past, past, stuck}
 use Rattle.grammar.specs.Forms.{countLine}
 use Rattle.faults.specs.CodedFaults.{faultOf}
@@ -105,7 +105,8 @@ module _ (n : ℕ) (front ws : List ℕ) {store : List ℕ} (l : length front �
   size : length store - n ≡ 32
   size = let e = filled-length {A = ℕ} 0 32 [] in rw (s, length-append) (omega arith)
 
-  pub words-stored : {after : List ℕ} → after ≡ over ws (take (length store - n) (drop n store)) → take n store ++ (after ++ drop (length store - n) (drop n store)) ≡ front ++ filled 32 0 ws
+  pub words-stored : {after : List ℕ} → after ≡ over ws (take (length store - n) (drop n store)) → take n store ++
+      (after ++ drop (length store - n) (drop n store)) ≡ front ++ filled 32 0 ws
   words-stored q =
       let b : take n store ≡ front = rw s (take-at front (filled 32 0 []) n l) in
       let e = filled-length {A = ℕ} 0 32 [] in
@@ -156,9 +157,11 @@ unfolding tableOf
 table-held names named count slots terms bodies equations n s c b few =
     let l = padded-length (n .laid) in
     let m = padded-length b in
-    let w : length (map (nameOf 8) (take named names)) ≡ named = length-map (take named names) (nameOf 8) ∙ length-take-le named names (omega (arith, n .few)) in
+    let w : length (map (nameOf 8) (take named names)) ≡ named = length-map (take named names) (nameOf 8) ∙ length-take-le named names
+    (omega (arith, n .few)) in
     let e : length (take equations bodies) ≡ equations = length-take-le equations bodies (omega arith) in
-    let f : names ≡ filled 12 0 (map wordOf (map (nameOf 8) (take named names))) = rw (words-back (take named names) (taken-fit named names (n .fits))) (n .laid .padded) in
+    let f : names ≡ filled 12 0 (map wordOf (map (nameOf 8) (take named names))) = rw
+    (words-back (take named names) (taken-fit named names (n .fits))) (n .laid .padded) in
     same-table f (sym w) (b .padded) (sym e) s (sym c)
 
 pub held-length : {store : List ℕ} (ts : List D.Term) → store ≡ filled 3072 0 (termsWords ts) ++ filled 32 0 [] → length store ≡ 3104

@@ -22,7 +22,6 @@ use Rattle.sections.specs.declared.Progress.{Progress}
 use Rattle.sections.specs.declared.Progress.the-variants as P
 use Rattle.sections.specs.declared.Progress.the-variants.{To}
 use Rattle.sections.specs.Walks.{Padded}
-use Rattle.faults.specs.CodedFaults.{faultOf}
 use Rattle.meaning.specs.Descriptions.{Term, Description}
 
 abbrev pub faultFor : Fault → F.Fault

@@ -96,7 +96,8 @@ fn read_bodies(
 ) -> Read
     requires { ⌜ Sized (now text) count named (now store) × Named names named × (equations ≤ 16) × (count ≤ 96) ⌝ }
     ensures { λ r. ⌜ ((terms : List D.Term) → HeldTerms terms count slots (now (store .entry))
-        → Ended (described (fromBodies (map (nameOf 8) (take named names)) terms equations count (4 + named + count) (now (text .entry)))) (now (store .exit)) r) ⌝ }
+        → Ended (described (fromBodies (map (nameOf 8) (take named names)) terms equations count (4 + named + count) (now (text .entry))))
+        (now (store .exit)) r) ⌝ }
 {
     let before = 4 + named + count;
     let given = take_bodies(text, equations, count as u64);

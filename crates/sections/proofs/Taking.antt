@@ -74,15 +74,18 @@ taken-fit (suc n) (w ∷ ws) h (suc i) = taken-fit n ws (λ j. h (suc j)) i
 
 -- A body is a number below that of the terms.
 body-taken : (terms : ℕ) (bodies : List ℕ) (f : Fault) (t : ℕ) (line : ℕ) (rest : Text)
-    → afterLine line (takenIf (ltb t terms) f (bodies ++ (t ∷ []))) rest ≡ walk (afterLine line (takenIf (between 0 terms t) f t) rest) (λ n next s. reached (bodies ++ (n ∷ [])) next s)
+    → afterLine line (takenIf (ltb t terms) f (bodies ++ (t ∷ []))) rest ≡ walk (afterLine line (takenIf (between 0 terms t) f t) rest)
+    (λ n next s. reached (bodies ++ (n ∷ [])) next s)
 body-taken terms bodies f t line rest = rw (le-leb 0 t (omega arith)) (cases (ltb t terms))
   where
-    cases : (x : Bool) → afterLine line (takenIf x f (bodies ++ (t ∷ []))) rest ≡ walk (afterLine line (takenIf x f t) rest) (λ n next s. reached (bodies ++ (n ∷ [])) next s)
+    cases : (x : Bool) → afterLine line (takenIf x f (bodies ++ (t ∷ []))) rest ≡ walk (afterLine line (takenIf x f t) rest)
+        (λ n next s. reached (bodies ++ (n ∷ [])) next s)
     cases true = refl
     cases false = refl
 
 pub body-line : (terms : ℕ) (bodies : List ℕ) (line : ℕ) (s : Text)
-    → walk (oneLine (takeNumber (ascii "equation=") (between 0 terms) range) line s) (λ n next r. reached (bodies ++ (n ∷ [])) next r) ≡ oneLine (takeBody terms bodies) line s
+    → walk (oneLine (takeNumber (ascii "equation=") (between 0 terms) range) line s) (λ n next r. reached (bodies ++ (n ∷ [])) next r) ≡ oneLine
+    (takeBody terms bodies) line s
 unfolding takeNumber takeBody
 body-line terms bodies line s = sym (cut-off (firstLine s))
   where
@@ -92,7 +95,8 @@ body-line terms bodies line s = sym (cut-off (firstLine s))
     read-off (past t r) rest = body-taken terms bodies range t line rest
     read-off (stuck r) rest = refl
 
-    cut-off : (x : Cut) → lineWalk (takeBody terms bodies) line x ≡ walk (lineWalk (takeNumber (ascii "equation=") (between 0 terms) range) line x) (λ n next r. reached (bodies ++ (n ∷ [])) next r)
+    cut-off : (x : Cut) → lineWalk (takeBody terms bodies) line x ≡ walk (lineWalk (takeNumber (ascii "equation=") (between 0 terms) range) line x)
+        (λ n next r. reached (bodies ++ (n ∷ [])) next r)
     cut-off (cut l rest) = read-off (countLine (ascii "equation=") l) rest
     cut-off noLine = refl
 
@@ -110,7 +114,8 @@ set-fits (y ∷ xs) (suc i) x h k zero = h 0
 set-fits (y ∷ xs) (suc i) x h k (suc j) = set-fits xs i x (λ n. h (suc n)) k j
 
 module _ (terms line : ℕ) (s : Text) where
-  pub body-bad : (bodies : List ℕ) {f : Fault} {n : ℕ} → halted f n ≡ oneLine (takeNumber (ascii "equation=") (between 0 terms) range) line s → halted f n ≡ oneLine (takeBody terms bodies) line s
+  pub body-bad : (bodies : List ℕ) {f : Fault} {n : ℕ} → halted f n ≡ oneLine (takeNumber (ascii "equation=") (between 0 terms) range) line s
+      → halted f n ≡ oneLine (takeBody terms bodies) line s
   body-bad bodies q = ap (λ w. walk w (λ n next r. reached (bodies ++ (n ∷ [])) next r)) q ∙ body-line terms bodies line s
 
   pub body-to : (bodies : List ℕ) {t next : ℕ} {r : Text} → reached t next r ≡ oneLine (takeNumber (ascii "equation=") (between 0 terms) range) line s

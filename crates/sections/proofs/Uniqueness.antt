@@ -3,7 +3,7 @@
 use mathlib.Core.Path.{_≡_, refl, sym, ap, ap₂, _∙_}
 use mathlib.Core.Bool.{Bool, true, false}
 use mathlib.Core.List.{List, [], map}
-use Prim.Native.Nat.{ℕ, _≤_}
+use Prim.Native.Nat.{ℕ}
 use native.Mathlib.Omega.{arith}
 use lib.Dec.{ltb}
 use lib.ListN.{length, take, drop, length-drop}
@@ -88,8 +88,10 @@ zeros-tell f g most n xs ys (To v t) (Bad y m) p q = tt
 zeros-tell f g most n xs ys (Bad x l) (To w u) p q = tt
 zeros-tell f g most n xs ys (Bad x l) (Bad y m) p q = tt
 
-module _ {A : Type 0} (value : List ℕ → A) (text : Text) (most n : ℕ) {xs ys : List ℕ} (tells : value (take n xs) ≡ value (take n ys) → take n xs ≡ take n ys) where
-  same-laid : (r s : Progress) → walkOf (λ v. value (take n xs)) text n r ≡ walkOf (λ v. value (take n ys)) text n s → Laid most n r xs → Laid most n s ys → xs ≡ ys
+module _ {A : Type 0} (value : List ℕ → A) (text : Text) (most n : ℕ) {xs ys : List ℕ}
+    (tells : value (take n xs) ≡ value (take n ys) → take n xs ≡ take n ys) where
+  same-laid : (r s : Progress) → walkOf (λ v. value (take n xs)) text n r ≡ walkOf (λ v. value (take n ys)) text n s → Laid most n r xs
+      → Laid most n s ys → xs ≡ ys
   same-laid (To v t) (To w u) e p q =
       let x : value (take n xs) ≡ value (take n ys) = cc in
       p .1 .padded ∙ ap (filled most 0) (tells x) ∙ sym (q .1 .padded)

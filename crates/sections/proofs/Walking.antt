@@ -112,10 +112,12 @@ module _ {A : Type 0} (before : ℕ) where
       by-cut (cut l rest) = by-taken (do-take l) rest
       by-cut noLine = refl
 
-  lines-later : (do-take : A → Text → Taken A) (n : ℕ) (a : A) (line : ℕ) (s : Text) → lines do-take n a (before + line) s ≡ later before (lines do-take n a line s)
+  lines-later : (do-take : A → Text → Taken A) (n : ℕ) (a : A) (line : ℕ) (s : Text) → lines do-take n a (before + line) s ≡ later before
+      (lines do-take n a line s)
   unfolding lines
   lines-later do-take zero a line s = refl
-  lines-later do-take (suc n) a line s = ap (λ w. walk w (lines do-take n)) (line-later (do-take a) line s) ∙ by-walk (lines-later do-take n) (oneLine (do-take a) line s)
+  lines-later do-take (suc n) a line s = ap (λ w. walk w (lines do-take n)) (line-later (do-take a) line s) ∙ by-walk (lines-later do-take n)
+      (oneLine (do-take a) line s)
     where
       by-walk : ((b : A) (next : ℕ) (r : Text) → lines do-take n b (before + next) r ≡ later before (lines do-take n b next r))
           → (w : Walk A) → walk (later before w) (lines do-take n) ≡ later before (walk w (lines do-take n))

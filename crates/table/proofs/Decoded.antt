@@ -33,7 +33,8 @@ rules-back : (names : ℕ) (rs : List D.Rule) → Each (LegalRule names) rs → 
 unfolding rulesOf ruleWords
 rules-back names [] h = refl
 rules-back names (r ∷ rs) h =
-    ap₂ {C = List D.Rule} (λ (a : Label) (l : List D.Rule). record { left = a; right = r .right } ∷ l) (label-back (r .left) (h .0 .0)) (rules-back names rs (h .1))
+    ap₂ {C = List D.Rule} (λ (a : Label) (l : List D.Rule). record { left = a; right = r .right } ∷ l) (label-back (r .left) (h .0 .0))
+    (rules-back names rs (h .1))
 
 lefts-small : {names : ℕ} (ps : List D.Pair) → names ≤ 12 → Each (LegalPair names) ps → Each (λ p. p .left < 32) ps
 lefts-small [] few h = tt

@@ -7,7 +7,7 @@ use native.Mathlib.Omega.{arith}
 use lib.ListN.{length, take, drop, set, length-take, length-append}
 use Rattle.meaning.specs.Bytes.{Text}
 use Rattle.meaning.specs.Descriptions as D
-use Rattle.meaning.specs.Answers.{Fault, form}
+use Rattle.meaning.specs.Answers.{form}
 use Rattle.table.specs.declared.Term.{Term}
 use Rattle.table.specs.declared.Order.{Order}
 use Rattle.table.specs.Encoded.{filled, termWords, termsWords, termFor, slotsFrom}

@@ -1,6 +1,5 @@
 -- `reading::whole::bad` meets its contract.
 -- Assumes nothing.
-use mathlib.Core.Path.{_≡_}
 use native.Mathlib.Omega.{arith}
 use Rattle.faults.proofs.Calls.{asks-nothing}
 use Rattle.reading.proofs.whole.bad.Statement.{statement}

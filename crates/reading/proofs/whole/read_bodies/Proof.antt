@@ -83,10 +83,12 @@ returns-2 c = λ terms h.
     c .before .before .read-root .ensures _
     (record {
       named = refl;
-      tabled = table-held (a .names) (a .named) (a .count) (a .slots) terms bodies (a .equations) (start .pre .1) (h .kept) (h .counted) (laid .1) (start .pre .2);
+      tabled = table-held (a .names) (a .named) (a .count) (a .slots) terms bodies (a .equations) (start .pre .1) (h .kept) (h .counted) (laid .1)
+          (start .pre .2);
       stored = h .stored;
     }) in
-    ends-on _ (later-to (4 + a .named + a .count) (takeBody (a .count)) (a .equations) [] text (gone-to (section .walks) (to .1) ∙ room-there due (start .pre .2)))
+    ends-on _ (later-to (4 + a .named + a .count) (takeBody (a .count)) (a .equations) [] text
+    (gone-to (section .walks) (to .1) ∙ room-there due (start .pre .2)))
     (rw (rest-lent text (to .0 .1 .0)) at k)
 
 pub read-bodies-spec : {M : Type 1} → statement M

@@ -30,7 +30,12 @@ enum-told c = c .match .keys2
 
 bad-requires : tie.Need-bad-requires
 bad-requires c κs =
-    fits-after 0 (c .enum-told .given .1) (omega (arith, gone-before (c .before .before .take-number .ensures .walks) (c .enum-told .given .1), c .before .before .before .before .before .before .pre .1 .few))
+    fits-after 0 (c .enum-told .given .1) (omega (
+      arith,
+      gone-before (c .before .before .take-number .ensures .walks)
+          (c .enum-told .given .1),
+      c .before .before .before .before .before .before .pre .1 .few,
+    ))
 
 returns : tie.Need-returns
 returns c =
@@ -64,7 +69,12 @@ enum-told-2 c = c .match2 .keys2
 bad-requires-2 : tie.Need-bad-requires-2
 bad-requires-2 c κs =
     fits-after 0 (c .enum-told2 .given .1)
-    (omega (arith, gone-before (c .before .before .take-number2 .ensures .walks) (c .enum-told2 .given .1), c .before .before .before .before .before .before .before .before .before .before .before .before .pre .1 .few))
+    (omega (
+      arith,
+      gone-before (c .before .before .take-number2 .ensures .walks)
+          (c .enum-told2 .given .1),
+      c .before .before .before .before .before .before .before .before .before .before .before .before .pre .1 .few,
+    ))
 
 returns-2 : tie.Need-returns-2
 returns-2 c =
@@ -74,9 +84,11 @@ returns-2 c =
     let q = gone-bad (c .before .before .before .take-number2 .ensures .walks) (c .before .enum-told2 .given .1) in
     let s : 3 + a .named ≡ suc (2 + a .named) = omega arith in
     ends-on _
-    (gone-to (c .before .before .before .before .before .before .before .before .before .take-number .ensures .walks) (to .1) ∙ other-test (ascii "equations=") (between 0 17) equationCount equations-test form (2 + a .named) text)
+    (gone-to (c .before .before .before .before .before .before .before .before .before .take-number .ensures .walks) (to .1) ∙ other-test
+    (ascii "equations=") (between 0 17) equationCount equations-test form (2 + a .named) text)
     (ends-bad _ 0 (c .before .enum-told2 .given .1) (omega arith)
-    ((rw (rest-lent text (to .0 .1 .0), s) at q) ∙ other-test (ascii "terms=") (between 1 97) termCount terms-test form (suc (2 + a .named)) (drop (to .0 .1 .0) text))
+    ((rw (rest-lent text (to .0 .1 .0), s) at q) ∙ other-test (ascii "terms=") (between 1 97) termCount terms-test form (suc (2 + a .named))
+    (drop (to .0 .1 .0) text))
     (c .bad2 .ensures))
 
 add-next : tie.Need-add-next
@@ -84,14 +96,25 @@ add-next c =
     let start = c .before .before .before .before .before .before .before .before .before .before .before .before .before in
     let to = c .before .before .before .before .before .before .before .first .given in
     let l = rest-length (start .args .text .now) (to .0 .1 .0) in
-    omega (arith, gone-within (c .before .before .before .before .before .before .before .before .before .take-number .ensures .walks) (to .1), gone-within (c .before .before .before .take-number2 .ensures .walks) (c .before .second .given .1), start .pre .0)
+    omega (
+      arith,
+      gone-within (c .before .before .before .before .before .before .before .before .before .take-number .ensures .walks)
+          (to .1),
+      gone-within (c .before .before .before .take-number2 .ensures .walks) (c .before .second .given .1),
+      start .pre .0,
+    )
 
 sub-read-terms : tie.Need-sub-read-terms
 sub-read-terms c =
     let start = c .before .before .before .before .before .before .before .before .before .before .before .before .before in
     let to = c .before .before .before .before .before .before .before .first .given in
     let l = rest-length (start .args .text .now) (to .0 .1 .0) in
-    omega (arith, gone-within (c .before .before .before .before .before .before .before .before .before .take-number .ensures .walks) (to .1), gone-within (c .before .before .before .take-number2 .ensures .walks) (c .before .second .given .1))
+    omega (
+      arith,
+      gone-within (c .before .before .before .before .before .before .before .before .before .take-number .ensures .walks)
+          (to .1),
+      gone-within (c .before .before .before .take-number2 .ensures .walks) (c .before .second .given .1),
+    )
 
 part-read-terms-start : tie.Need-part-read-terms-start
 part-read-terms-start c = sub-read-terms c
@@ -117,7 +140,8 @@ same-length c = search needs
 
 returns-3 : tie.Need-returns-3
 returns-3 c =
-    let a = c .before .before .before .before .before .before .before .before .before .before .before .before .before .before .before .before .before .before .args in
+    let a =
+    c .before .before .before .before .before .before .before .before .before .before .before .before .before .before .before .before .before .before .args in
     let text = a .text .now in
     let first = c .before .before .before .before .before .before .before .before .before .before .before .before .first .given in
     let second = c .before .before .before .before .before .before .second .given in
@@ -128,7 +152,8 @@ returns-3 c =
     let s : 3 + a .named ≡ suc (2 + a .named) = omega arith in
     let t : 4 + a .named ≡ suc (suc (2 + a .named)) = omega arith in
     ends-on _
-    (gone-to (c .before .before .before .before .before .before .before .before .before .before .before .before .before .before .take-number .ensures .walks) (first .1) ∙ other-test (ascii "equations=") (between 0 17) equationCount equations-test form (2 + a .named) text)
+    (gone-to
+    (c .before .before .before .before .before .before .before .before .before .before .before .before .before .before .take-number .ensures .walks) (first .1) ∙ other-test (ascii "equations=") (between 0 17) equationCount equations-test form (2 + a .named) text)
     (ends-on _
     ((rw (rest-lent text at, s) at q) ∙ other-test (ascii "terms=") (between 1 97) termCount terms-test form (suc (2 + a .named)) (drop at text))
     (rw (rest-lent text (at + took), t, ← drop-drop took at text) at k))

@@ -58,7 +58,8 @@ returns-2 c =
     let text = c .before .before .before .before .before .before .before .before .before .before .before .before .args .text .now in
     let to = c .before .before .before .before .before .before .given .given in
     let k = c .before .before .read-names .ensures in
-    ends-on _ (gone-to (c .before .before .before .before .before .before .before .before .take-number .ensures .walks) (to .1) ∙ other-test (ascii "names=") (between 1 13) nameCount names-test form 1 text)
+    ends-on _ (gone-to (c .before .before .before .before .before .before .before .before .take-number .ensures .walks) (to .1) ∙ other-test
+    (ascii "names=") (between 1 13) nameCount names-test form 1 text)
     (rw (rest-lent text (to .0 .1 .0)) at k)
 
 pub read-lines-spec : {M : Type 1} → statement M

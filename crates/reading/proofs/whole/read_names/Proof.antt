@@ -19,7 +19,12 @@ enum-told c = c .match .keys2
 
 bad-requires : tie.Need-bad-requires
 bad-requires c κs =
-    fits-after 2 (c .enum-told .given .1) (omega (arith, gone-before (c .before .before .take-names .ensures .section .walks) (c .enum-told .given .1), c .before .before .before .before .before .pre .1))
+    fits-after 2 (c .enum-told .given .1) (omega (
+      arith,
+      gone-before (c .before .before .take-names .ensures .section .walks)
+          (c .enum-told .given .1),
+      c .before .before .before .before .before .pre .1,
+    ))
 
 returns : tie.Need-returns
 returns c =
@@ -28,7 +33,8 @@ returns c =
     let text = a .text .now in
     ends-bad _ 2 (c .before .enum-told .given .1) refl
     (later-bad 2 takeName (a .named) [] text
-    (gone-bad (c .before .before .before .take-names .ensures .section .walks) (c .before .enum-told .given .1) ∙ room-there (lines takeName (a .named) [] 0 text) (start .pre .1)))
+    (gone-bad (c .before .before .before .take-names .ensures .section .walks) (c .before .enum-told .given .1) ∙ room-there
+    (lines takeName (a .named) [] 0 text) (start .pre .1)))
     (c .bad .ensures)
 
 sub-read-counts : tie.Need-sub-read-counts
@@ -61,7 +67,8 @@ returns-2 c =
     let k = c .before .before .read-counts .ensures in
     ends-on _
     (later-to 2 takeName (a .named) [] text
-    (gone-to (c .before .before .before .before .before .before .before .before .before .take-names .ensures .section .walks) (to .1) ∙ room-there (lines takeName (a .named) [] 0 text) (start .pre .1)))
+    (gone-to (c .before .before .before .before .before .before .before .before .before .take-names .ensures .section .walks) (to .1) ∙ room-there
+    (lines takeName (a .named) [] 0 text) (start .pre .1)))
     (rw (rest-lent text (to .0 .1 .0)) at k)
 
 pub read-names-spec : {M : Type 1} → statement M

@@ -4,7 +4,7 @@ use borrow.Author.Needs.{needs}
 use mathlib.Core.Path.{_≡_, sym}
 use native.Mathlib.Numerals.{add-one}
 use native.Mathlib.Omega.{arith}
-use Prim.Native.Nat.{ℕ, suc}
+use Prim.Native.Nat.{suc}
 use lib.ListN.{length, length-take}
 use lib.Seq.{length-take-le}
 use Rattle.faults.proofs.Calls.{asks-nothing}
@@ -13,7 +13,8 @@ use Rattle.reading.proofs.whole.read_order.Statement.{statement}
 use Rattle.reading.proofs.whole.read_order.Tie as tie
 
 array-share-prefix-names : tie.Need-array-share-prefix-names
-array-share-prefix-names c = let start = c .before .before .before in let e : length (start .args .table .names) ≡ 12 = search needs in omega (arith, start .pre .few)
+array-share-prefix-names c =
+    let start = c .before .before .before in let e : length (start .args .table .names) ≡ 12 = search needs in omega (arith, start .pre .few)
 
 slice-aggregate-take-order : tie.Need-slice-aggregate-take-order
 slice-aggregate-take-order c =
@@ -63,10 +64,12 @@ returns-2 : tie.Need-returns-2
 returns-2 c = λ d h.
     let start = c .before .before .before .before .before .before .before .before .before .before .before .before .before in
     let a = start .args in
-    let t = c .before .before .before .before .before .before .before .take-order .ensures (rw length-take (omega (arith, start .pre .few))) (start .pre .short) in
+    let t =
+    c .before .before .before .before .before .before .before .take-order .ensures (rw length-take (omega (arith, start .pre .few))) (start .pre .short) in
     let k = rw (h .named) at (rw (c .before .before .before .progress .given .1) at t) in
     ends-on _ (k .says)
-    (ends-short (record { given = d; order = k .order }) (suc (a .line)) _ (a .text .now) (c .before .if1 .taken) (rw (add-one (a .line)) at (c .refused .ensures)))
+    (ends-short (record { given = d; order = k .order }) (suc (a .line)) _ (a .text .now) (c .before .if1 .taken)
+    (rw (add-one (a .line)) at (c .refused .ensures)))
 
 same-length-3 : tie.Need-same-length-3
 same-length-3 c = c .before .before .before .before .before .store .given .1

@@ -25,7 +25,12 @@ enum-told c = c .match .keys2
 
 bad-requires : tie.Need-bad-requires
 bad-requires c κs =
-    fits-after 0 (c .enum-told .given .1) (omega (arith, gone-before (c .before .before .take-number .ensures .walks) (c .enum-told .given .1), c .before .before .before .before .before .before .pre .low))
+    fits-after 0 (c .enum-told .given .1) (omega (
+      arith,
+      gone-before (c .before .before .take-number .ensures .walks)
+          (c .enum-told .given .1),
+      c .before .before .before .before .before .before .pre .low,
+    ))
 
 returns : tie.Need-returns
 returns c = λ d h.
@@ -64,7 +69,8 @@ returns-2 c = λ d h.
     let to = c .before .before .before .before .before .before .given .given in
     let k = c .before .before .read-order .ensures _ (held-root d (to .0 .0) h) in
     ends-on _
-    (gone-to (c .before .before .before .before .before .before .before .before .take-number .ensures .walks) (to .1) ∙ other-test (ascii "root=") (between 0 n) (λ r. ltb r n) (below-test n) range (a .line) (a .text .now))
+    (gone-to (c .before .before .before .before .before .before .before .before .take-number .ensures .walks) (to .1) ∙ other-test (ascii "root=")
+    (between 0 n) (λ r. ltb r n) (below-test n) range (a .line) (a .text .now))
     (rw (rest-lent (a .text .now) (to .0 .1 .0), add-one (a .line)) at k)
 
 pub read-root-spec : {M : Type 1} → statement M

@@ -5,10 +5,9 @@ use mathlib.Core.Path.{_≡_, refl, sym, ap, ap₂, _∙_}
 use mathlib.Core.List.{List, [], _++_, map}
 use Prim.Native.Nat.{ℕ, _+_}
 use native.Mathlib.Omega.{arith}
-use lib.ListN.{length, take, drop, length-take}
+use lib.ListN.{length, take, length-take}
 use lib.Seq.{length-take-le}
 use Rattle.table.specs.Decoded.{nameOf}
-use Rattle.table.specs.Encoded.{filled, termsWords}
 use Rattle.table.proofs.Filled.{filled-length}
 use Rattle.grammar.specs.Reading.{takeTerm, lines}
 use Rattle.faults.proofs.Calls.{asks-nothing}
@@ -30,7 +29,8 @@ array-share-prefix-names : tie.Need-array-share-prefix-names
 array-share-prefix-names c = let named = c .before .before .before .pre .1 in let e = padded-length (named .laid) in omega (arith, named .few)
 
 slice-aggregate-take-terms : tie.Need-slice-aggregate-take-terms
-slice-aggregate-take-terms c = let named = c .before .before .before .before .pre .1 in let e = padded-length (named .laid) in sym (length-take-le _ _ (omega (arith, named .few)))
+slice-aggregate-take-terms c =
+    let named = c .before .before .before .before .pre .1 in let e = padded-length (named .laid) in sym (length-take-le _ _ (omega (arith, named .few)))
 
 enum-known-progress : tie.Need-enum-known-progress
 enum-known-progress c = c .match .keys1
@@ -44,7 +44,9 @@ add-bad c = omega (arith, c .before .before .before .before .before .before .bef
 bad-requires : tie.Need-bad-requires
 bad-requires c κs =
     let start = c .before .before .before .before .before .before .before .before .before in
-    let t = c .before .before .before .before .take-terms .ensures (record { few = rw length-take (omega (arith, start .pre .1 .few)); short = start .pre .0; free = front-free 3104 3072 32 (start .pre .4) refl }) in
+    let t =
+    c .before .before .before .before .take-terms .ensures
+    (record { few = rw length-take (omega (arith, start .pre .1 .few)); short = start .pre .0; free = front-free 3104 3072 32 (start .pre .4) refl }) in
     let k = rw (c .enum-told .given .1) at t in
     fits-after (4 + start .args .named) (c .enum-told .given .1) (omega (arith, k .within, start .pre .1 .few, start .pre .3))
 
@@ -57,7 +59,9 @@ returns c =
     let a = start .args in
     let step = takeTerm (map (nameOf 8) (take (a .named) (a .t2))) (a .equations) in
     let due = lines step (a .count) [] 0 (a .text .now) in
-    let t = c .before .before .before .before .before .take-terms .ensures (record { few = rw length-take (omega (arith, start .pre .1 .few)); short = start .pre .0; free = front-free 3104 3072 32 (start .pre .4) refl }) in
+    let t =
+    c .before .before .before .before .before .take-terms .ensures
+    (record { few = rw length-take (omega (arith, start .pre .1 .few)); short = start .pre .0; free = front-free 3104 3072 32 (start .pre .4) refl }) in
     let k = rw (c .before .enum-told .given .1) at t in
     ends-bad _ (4 + a .named) (c .before .enum-told .given .1) refl
     (later-bad (4 + a .named) step (a .count) [] (a .text .now) (k .says ∙ room-there due (start .pre .3)))
@@ -66,14 +70,18 @@ returns c =
 sub-read-bodies : tie.Need-sub-read-bodies
 sub-read-bodies c =
     let start = c .before .before .before .before .before .before .before .before .before .before .before in
-    let t = c .before .before .before .before .before .before .take-terms .ensures (record { few = rw length-take (omega (arith, start .pre .1 .few)); short = start .pre .0; free = front-free 3104 3072 32 (start .pre .4) refl }) in
+    let t =
+    c .before .before .before .before .before .before .take-terms .ensures
+    (record { few = rw length-take (omega (arith, start .pre .1 .few)); short = start .pre .0; free = front-free 3104 3072 32 (start .pre .4) refl }) in
     let k = rw (c .before .before .progress .given .1) at t in
     k .within
 
 part-read-bodies-start : tie.Need-part-read-bodies-start
 part-read-bodies-start c =
     let start = c .before .before .before .before .before .before .before .before .before .before .before in
-    let t = c .before .before .before .before .before .before .take-terms .ensures (record { few = rw length-take (omega (arith, start .pre .1 .few)); short = start .pre .0; free = front-free 3104 3072 32 (start .pre .4) refl }) in
+    let t =
+    c .before .before .before .before .before .before .take-terms .ensures
+    (record { few = rw length-take (omega (arith, start .pre .1 .few)); short = start .pre .0; free = front-free 3104 3072 32 (start .pre .4) refl }) in
     let k = rw (c .before .before .progress .given .1) at t in
     k .within
 
@@ -83,7 +91,9 @@ part-read-bodies-end c = omega arith
 read-bodies-requires : tie.Need-read-bodies-requires
 read-bodies-requires c κs =
     let start = c .before .before .before .before .before .before .before .before .before .before .before .before .before in
-    let t = c .before .before .before .before .before .before .before .before .take-terms .ensures (record { few = rw length-take (omega (arith, start .pre .1 .few)); short = start .pre .0; free = front-free 3104 3072 32 (start .pre .4) refl }) in
+    let t =
+    c .before .before .before .before .before .before .before .before .take-terms .ensures
+    (record { few = rw length-take (omega (arith, start .pre .1 .few)); short = start .pre .0; free = front-free 3104 3072 32 (start .pre .4) refl }) in
     let k = rw (c .before .before .before .before .progress .given .1) at t in
     let l = rest-length (start .args .text .now) (c .before .before .before .before .progress .given .0 .1 .0) in (
       record {
@@ -107,7 +117,9 @@ returns-2 c =
     let to = c .before .before .before .before .before .before .before .progress .given in
     let step = takeTerm (map (nameOf 8) (take (a .named) (a .t2))) (a .equations) in
     let due = lines step (a .count) [] 0 (a .text .now) in
-    let t = c .before .before .before .before .before .before .before .before .before .before .before .take-terms .ensures (record { few = rw length-take (omega (arith, start .pre .1 .few)); short = start .pre .0; free = front-free 3104 3072 32 (start .pre .4) refl }) in
+    let t =
+    c .before .before .before .before .before .before .before .before .before .before .before .take-terms .ensures
+    (record { few = rw length-take (omega (arith, start .pre .1 .few)); short = start .pre .0; free = front-free 3104 3072 32 (start .pre .4) refl }) in
     let k = rw (to .1) at t in
     let h =
     c .before .before .read-bodies .ensures (k .terms)

@@ -1,6 +1,6 @@
 -- `sections::bodies::take_bodies` meets its contract: the bodies so far, and the lines that are left.
 -- Assumes nothing.
-use mathlib.Core.Path.{_≡_, refl, sym}
+use mathlib.Core.Path.{_≡_, refl}
 use mathlib.Core.List.{[]}
 use Prim.Native.Nat.{_-_}
 use native.Mathlib.Omega.{arith}
@@ -83,7 +83,8 @@ loop-again c =
       padded-more padded (to .0 .0) (omega arith),
       rw (← place-more padded (to .0 .0) (omega arith))
           (lines-step (turn .loop .inv .1) more
-          (body-to (turn .before .before .before .args .terms) _ _ (take (turn .loop .i) (turn .loop .bodies)) (gone-to walks (to .1))) (gone-within walks (to .1))),
+          (body-to (turn .before .before .before .args .terms) _ _ (take (turn .loop .i) (turn .loop .bodies)) (gone-to walks (to .1)))
+          (gone-within walks (to .1))),
     )
 
 returns-3 : tie.Need-returns-3 Inv-loop μ-loop

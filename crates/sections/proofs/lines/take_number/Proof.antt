@@ -1,6 +1,5 @@
 -- `sections::lines::take_number` meets its contract: the line, its number, and the test.
 -- Assumes nothing.
-use borrow.Author.Needs.{needs}
 use mathlib.Core.Path.{sym}
 use native.Mathlib.Omega.{arith}
 use lib.Seq.{length-take-le}
@@ -38,7 +37,8 @@ returns-3 c =
     let a = there .before .before .before .before .args in
     refuses
     (line-there _ (a .line) (there .before .line-end .ensures) (there .if1 .left)
-    (number-low (a .key .now) (a .low) (a .below) (faultOf (a .fault)) _ (went (c .before .before .before .before .read-count .ensures) (c .before .before .step .given .1) .says) (c .if2 .taken)))
+    (number-low (a .key .now) (a .low) (a .below) (faultOf (a .fault)) _
+    (went (c .before .before .before .before .read-count .ensures) (c .before .before .step .given .1) .says) (c .if2 .taken)))
 
 returns-4 : tie.Need-returns-4
 returns-4 c =
@@ -46,7 +46,8 @@ returns-4 c =
     let a = there .before .before .before .before .args in
     refuses
     (line-there _ (a .line) (there .before .line-end .ensures) (there .if1 .left)
-    (number-high (a .key .now) (a .low) (a .below) (faultOf (a .fault)) _ (went (c .before .before .before .before .before .read-count .ensures) (c .before .before .before .step .given .1) .says)
+    (number-high (a .key .now) (a .low) (a .below) (faultOf (a .fault)) _
+    (went (c .before .before .before .before .before .read-count .ensures) (c .before .before .before .step .given .1) .says)
     (c .before .if2 .left) (c .if3 .taken)))
 
 add-took : tie.Need-add-took
@@ -61,7 +62,8 @@ returns-5 c =
           record {
             says =
                 line-there _ (a .line) (there .before .line-end .ensures) (there .if1 .left)
-                (number-between (a .key .now) (a .low) (a .below) (faultOf (a .fault)) _ (went (c .before .before .before .before .before .read-count .ensures) (c .before .before .before .step .given .1) .says)
+                (number-between (a .key .now) (a .low) (a .below) (faultOf (a .fault)) _
+                (went (c .before .before .before .before .before .read-count .ensures) (c .before .before .before .step .given .1) .says)
                 (c .before .if2 .left) (c .if3 .left));
             within = omega (arith, there .if1 .left);
           };

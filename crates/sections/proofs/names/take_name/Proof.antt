@@ -1,6 +1,5 @@
 -- `sections::names::take_name` meets its contract: the line, its name, and whether it is free.
 -- Assumes nothing.
-use borrow.Author.Needs.{needs}
 use mathlib.Core.Path.{sym, _∙_}
 use mathlib.Core.List.{map}
 use native.Mathlib.Omega.{arith}
@@ -44,7 +43,8 @@ returns-3 c =
     record {
       says =
           line-there _ (a .line) (there .before .line-end .ensures) (there .if1 .left)
-          (name-held (map (nameOf 8) (a .names .now)) _ (went (c .before .before .before .before .before .read-name-line .ensures) (c .before .before .before .step .given .1) .says)
+          (name-held (map (nameOf 8) (a .names .now)) _ (went (c .before .before .before .before .before .read-name-line .ensures)
+          (c .before .before .before .step .given .1) .says)
           (sym (c .before .is-free .ensures) ∙ not-true _ (c .if2 .taken)));
       within = omega arith;
     }
@@ -59,7 +59,8 @@ returns-4 c =
     record {
       says =
           line-there _ (a .line) (there .before .line-end .ensures) (there .if1 .left)
-          (name-free (map (nameOf 8) (a .names .now)) _ (went (c .before .before .before .before .before .read-name-line .ensures) (c .before .before .before .step .given .1) .says)
+          (name-free (map (nameOf 8) (a .names .now)) _ (went (c .before .before .before .before .before .read-name-line .ensures)
+          (c .before .before .before .step .given .1) .says)
           (sym (c .before .is-free .ensures) ∙ not-false _ (c .if2 .left)));
       within = omega (arith, there .if1 .left);
     }

@@ -1,6 +1,6 @@
 -- `sections::names::take_names` meets its contract: the names so far, and the lines that are left.
 -- Assumes nothing.
-use mathlib.Core.Path.{_≡_, refl, sym}
+use mathlib.Core.Path.{_≡_, sym}
 use mathlib.Core.List.{[], map}
 use Prim.Native.Nat.{ℕ, _-_, _^_, _<_}
 use native.Mathlib.Omega.{arith}
@@ -57,7 +57,8 @@ returns-2 c =
     record {
       section =
           section-bad (turn .before .if1 .left) (c .enum-told .given .1)
-          (lines-halt (turn .loop .inv .2) (c .before .before .before .before .before .loop-test .taken) (gone-bad (c .before .before .take-name .ensures) (c .enum-told .given .1)))
+          (lines-halt (turn .loop .inv .2) (c .before .before .before .before .before .loop-test .taken)
+          (gone-bad (c .before .before .take-name .ensures) (c .enum-told .given .1)))
           (omega (arith, gone-before (c .before .before .take-name .ensures) (c .enum-told .given .1))) (filled-replicate 0 12);
       fits = zeros-fit 12;
     }
@@ -89,7 +90,8 @@ loop-again c =
     let padded = turn .loop .inv .0 in (
       padded-more padded (to .0 .0) (omega arith),
       set-fits (turn .loop .names) (turn .loop .i) (to .0 .0) (turn .loop .inv .1) (omega (arith, c .known-told .given)),
-      rw (← names-more padded (to .0 .0) (omega arith)) (lines-step (turn .loop .inv .2) (c .before .before .before .before .before .before .loop-test .taken) (gone-to walks (to .1)) (gone-within walks (to .1))),
+      rw (← names-more padded (to .0 .0) (omega arith)) (lines-step (turn .loop .inv .2)
+          (c .before .before .before .before .before .before .loop-test .taken) (gone-to walks (to .1)) (gone-within walks (to .1))),
     )
 
 returns-3 : tie.Need-returns-3 Inv-loop μ-loop

@@ -14,7 +14,13 @@ use Rattle.termlines.proofs.orders.take_order.Statement.{statement}
 use Rattle.termlines.proofs.orders.take_order.Tie as tie
 
 returns : tie.Need-returns
-returns c = λ few short. record { says = line-lacks _ (c .before .before .before .before .before .args .line) (c .before .line-end .ensures) (c .if1 .taken); here = refl; none = refl }
+returns c =
+    λ few short. record {
+      says = line-lacks _ (c .before .before .before .before .before .args .line) (c .before .line-end .ensures)
+          (c .if1 .taken);
+      here = refl;
+      none = refl;
+    }
 
 slice-aggregate-read-order : tie.Need-slice-aggregate-read-order
 slice-aggregate-read-order c = sym (length-take-le _ _ (c .before .before .line-end .ensures .within))
