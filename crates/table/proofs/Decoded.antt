@@ -45,23 +45,23 @@ unfolding ruleWords
 rules-length [] = refl
 rules-length (r ∷ rs) = omega (arith, rules-length rs)
 
-module _ (d : D.Description) (o : D.Order) (legal : Legal d o) (n : ℕ) (h : n < D.termCount d) where
+module _ (d : D.Description) (o : D.Order) (few : D.termCount d ≤ 96) (narrow : D.names d ≤ 12) (n : ℕ) (h : n < D.termCount d) where
   names-fit : (ns : List ℕ) → Rising ns → Each (λ x. x < D.names d) ns → length ns * 1 ≤ 32
-  names-fit ns up low = omega (arith, rising-few (D.names d) ns up low, legal .nameCount)
+  names-fit ns up low = omega (arith, rising-few (D.names d) ns up low)
 
   -- The list of an operator, whose entries take so many words each.
   module _ {t : ℕ} where
     stored : (op : D.Operator) (size entries : ℕ) → D.termAt d n ≡ D.wrap op t → length (operatorWords op) ≡ entries * size → entries * size ≤ 32
         → take (entries * size) (drop (32 * n) (storeOf d o)) ≡ operatorWords op
     stored op size entries e l fits =
-        term-words d o n (entries * size) h (legal .termsCount .1) (ap (λ (x : D.Term). length (termWords x)) e ∙ l) fits ∙ ap termWords e
+        term-words d o n (entries * size) h few (ap (λ (x : D.Term). length (termWords x)) e ∙ l) fits ∙ ap termWords e
 
     pub list-stored : (op : D.Operator) → D.termAt d n ≡ D.wrap op t → LegalOperator (D.names d) op → listIn (storeOf d o) (operatorFor n op) ≡ operatorWords op
     list-stored (D.block ns) e l = stored (D.block ns) 1 (length ns) e (sym (mul-one (length ns))) (names-fit ns (l .2) (l .1))
     list-stored (D.hide ns) e l = stored (D.hide ns) 1 (length ns) e (sym (mul-one (length ns))) (names-fit ns (l .2) (l .1))
     list-stored (D.rename ps) e l =
         stored (D.rename ps) 1 (length ps) e (length-map ps E.pairWord ∙ sym (mul-one (length ps)))
-        (omega (arith, rising-pairs (D.names d) ps (l .1) (l .2), legal .nameCount))
+        (omega (arith, rising-pairs (D.names d) ps (l .1) (l .2)))
     list-stored (D.comm rs) e l = stored (D.comm rs) 2 (length rs) e (rules-length rs) (omega (arith, l .1))
     list-stored (D.allow ls) e l = stored (D.allow ls) 1 (length ls) e (length-map ls number ∙ sym (mul-one (length ls))) (omega (arith, l .0))
 
@@ -70,7 +70,7 @@ module _ (d : D.Description) (o : D.Order) (legal : Legal d o) (n : ℕ) (h : n 
     operator-decoded (D.block ns) e l = ap D.block (list-stored (D.block ns) e l)
     operator-decoded (D.hide ns) e l = ap D.hide (list-stored (D.hide ns) e l)
     operator-decoded (D.rename ps) e l =
-        ap (λ (ws : List ℕ). D.rename (pairsIn ws)) (list-stored (D.rename ps) e l) ∙ ap D.rename (pairs-read ps (lefts-small ps (legal .nameCount .1) (l .1)))
+        ap (λ (ws : List ℕ). D.rename (pairsIn ws)) (list-stored (D.rename ps) e l) ∙ ap D.rename (pairs-read ps (lefts-small ps narrow (l .1)))
     operator-decoded (D.comm rs) e l =
         ap (λ (ws : List ℕ). D.comm (rulesOf (D.names d) ws)) (list-stored (D.comm rs) e l) ∙ ap D.comm (rules-back (D.names d) rs (l .2))
     operator-decoded (D.allow ls) e l =
@@ -91,5 +91,8 @@ module _ (d : D.Description) (o : D.Order) (legal : Legal d o) (n : ℕ) (h : n 
   term-decoded (D.sync t u) e l = refl
   term-decoded (D.wrap op t) e l = ap (λ (q : D.Operator). D.wrap q t) (operator-decoded op e (l .1))
 
-  pub decoded : termOf (D.names d) (storeOf d o) (wordTerm (getD (tableOf d .slots) n 0)) ≡ D.termAt d n
-  decoded = ap (termOf (D.names d) (storeOf d o)) (term-of d o n legal h) ∙ term-decoded (D.termAt d n) refl (term-legal d o legal n)
+pub decoded : (d : D.Description) (o : D.Order) → Legal d o → (n : ℕ) → n < D.termCount d
+    → termOf (D.names d) (storeOf d o) (wordTerm (getD (tableOf d .slots) n 0)) ≡ D.termAt d n
+decoded d o legal n h =
+    ap (termOf (D.names d) (storeOf d o)) (term-of d o n legal h)
+    ∙ term-decoded d o (legal .termsCount .1) (legal .nameCount .1) n h (D.termAt d n) refl (term-legal d o legal n)

@@ -3,17 +3,14 @@
 use mathlib.Core.Path.{_≡_, refl, sym, ap, ap₂, _∙_}
 use mathlib.Core.List.{List, [], _∷_, _++_}
 use Prim.Native.Nat.{ℕ, _*_, _-_, _≤_, _<_}
-use native.Mathlib.Nat.{mul-one}
 use native.Mathlib.Omega.{arith}
-use lib.ListN.{length, take, drop, replicate, length-map}
+use lib.ListN.{length, take, replicate}
 use lib.Seq.{take-all, take-at}
 use Rattle.meaning.specs.Labels.{number}
-use Rattle.meaning.specs.Sets.{Rising}
 use Rattle.meaning.specs.Descriptions.{Description, Order, Rule, Operator, block, hide, rename, comm, allow, wrap, names, termCount, termAt}
 use Rattle.meaning.specs.Legal.{Each, LegalRule, LegalOperator}
 use Rattle.table.specs.Encoded as T
-use Rattle.table.proofs.Packed.{rising-few, rising-pairs}
-use Rattle.table.proofs.Stored.{term-words}
+use Rattle.table.proofs.Decoded.{rules-length, list-stored}
 use Rattle.labels.proofs.Stored.{ruleLabels}
 use Rattle.labels.proofs.Meant.{single-number}
 use Rattle.growth.specs.Exchanging.{exchangeWords, exchangeList}
@@ -21,11 +18,6 @@ use Rattle.growth.specs.Ways.{ruleList, wayFor, wordsFor}
 use Rattle.terms.proofs.Shaped.{wayOf, wayWords}
 
 -- The words of rules, as they are stored and as they are taken.
-length-rules : (rs : List Rule) → length (T.ruleWords rs) ≡ length rs * 2
-unfolding T.ruleWords
-length-rules [] = refl
-length-rules (r ∷ rs) = omega (arith, length-rules rs)
-
 rules-exchanged : (n : ℕ) → n ≤ 12 → (rs : List Rule) → Each (LegalRule n) rs → exchangeWords (T.ruleWords rs) ≡ ruleLabels n rs
 unfolding T.ruleWords exchangeWords ruleLabels
 rules-exchanged n few [] h = refl
@@ -39,21 +31,12 @@ length-taken n (r ∷ rs) = omega (arith, length-taken n rs)
 
 rule-list : (n : ℕ) → n ≤ 12 → (rs : List Rule) → length rs ≤ 8 → Each (LegalRule n) rs → ruleList (T.ruleWords rs) ≡ ruleLabels n rs
 rule-list n few rs short h =
-    let all : take 16 (T.ruleWords rs) ≡ T.ruleWords rs = take-all 16 (T.ruleWords rs) (omega (arith, length-rules rs)) in
+    let all : take 16 (T.ruleWords rs) ≡ T.ruleWords rs = take-all 16 (T.ruleWords rs) (omega (arith, rules-length rs)) in
     ap (λ (ws : List ℕ). take (length ws) (exchangeList ws)) all
     ∙ ap (λ (ws : List ℕ). take (length (T.ruleWords rs)) (ws ++ replicate (16 - length ws) 0)) (rules-exchanged n few rs h)
-    ∙ take-at (ruleLabels n rs) (replicate (16 - length (ruleLabels n rs)) 0) (length (T.ruleWords rs)) (length-taken n rs ∙ sym (length-rules rs))
+    ∙ take-at (ruleLabels n rs) (replicate (16 - length (ruleLabels n rs)) 0) (length (T.ruleWords rs)) (length-taken n rs ∙ sym (rules-length rs))
 
 module _ (d : Description) (o : Order) (n t : ℕ) (h : n < termCount d) (few : termCount d ≤ 96) (narrow : names d ≤ 12) where
-  -- a list of any kind, whose entries take so many words each
-  stored : (op : Operator) (size entries : ℕ) → termAt d n ≡ wrap op t → length (T.operatorWords op) ≡ entries * size → entries * size ≤ 32
-      → take (entries * size) (drop (32 * n) (T.storeOf d o)) ≡ T.operatorWords op
-  stored op size entries e l small =
-      term-words d o n (entries * size) h few (ap (λ x. length (T.termWords x)) e ∙ l) small ∙ ap T.termWords e
-
-  names-fit : (ns : List ℕ) → Rising ns → Each (λ x. x < names d) ns → length ns * 1 ≤ 32
-  names-fit ns up low = omega (arith, rising-few (names d) ns up low)
-
   pub way-same : (op : Operator) → wayFor (T.operatorFor n op) ≡ wayOf op
   way-same (block ns) = refl
   way-same (hide ns) = refl
@@ -62,10 +45,8 @@ module _ (d : Description) (o : Order) (n t : ℕ) (h : n < termCount d) (few : 
   way-same (allow ls) = refl
 
   pub words-same : (op : Operator) → termAt d n ≡ wrap op t → LegalOperator (names d) op → wordsFor (T.storeOf d o) (T.operatorFor n op) ≡ wayWords (names d) op
-  words-same (block ns) e l = stored (block ns) 1 (length ns) e (sym (mul-one (length ns))) (names-fit ns (l .2) (l .1))
-  words-same (hide ns) e l = stored (hide ns) 1 (length ns) e (sym (mul-one (length ns))) (names-fit ns (l .2) (l .1))
-  words-same (rename ps) e l =
-      stored (rename ps) 1 (length ps) e (length-map ps T.pairWord ∙ sym (mul-one (length ps)))
-      (omega (arith, rising-pairs (names d) ps (l .1) (l .2)))
-  words-same (comm rs) e l = ap ruleList (stored (comm rs) 2 (length rs) e (length-rules rs) (omega (arith, l .1))) ∙ rule-list (names d) narrow rs (l .1) (l .2)
-  words-same (allow ls) e l = stored (allow ls) 1 (length ls) e (length-map ls number ∙ sym (mul-one (length ls))) (omega (arith, l .0))
+  words-same (block ns) e l = list-stored d o few narrow n h (block ns) e l
+  words-same (hide ns) e l = list-stored d o few narrow n h (hide ns) e l
+  words-same (rename ps) e l = list-stored d o few narrow n h (rename ps) e l
+  words-same (comm rs) e l = ap ruleList (list-stored d o few narrow n h (comm rs) e l) ∙ rule-list (names d) narrow rs (l .1) (l .2)
+  words-same (allow ls) e l = list-stored d o few narrow n h (allow ls) e l
