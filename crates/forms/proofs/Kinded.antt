@@ -16,7 +16,7 @@ use Rattle.table.specs.Decoded.{nameOf}
 use Rattle.grammar.specs.Text.{Past, past, stuck, literal}
 use Rattle.grammar.specs.Forms.{Line, Kind, kinds, farther, ofKind, alone, ofName, ofOne, ofTwo, ofList}
 use Rattle.meaning.specs.Descriptions.{tau, delta}
-use Rattle.table.specs.Packed.{either}
+use Rattle.meaning.specs.Rounds.{pick}
 use Rattle.forms.specs.Terms.{madeOf, WrapKind, Allow, contents, listed}
 use Rattle.forms.specs.Kinds.{restOf, noKind, fartherFrom, wrapOf, kindPlace, KindFound, KindRead}
 use Rattle.forms.specs.declared.kinds.KindStep.{KindStep}
@@ -64,8 +64,8 @@ packedKinds =
 
 abbrev pub dispatched : ℕ → Text → Past Line
 dispatched k s =
-    either (ltb k 1) (ofName s) (either (ltb k 2) (alone tau s) (either (ltb k 3) (alone delta s) (either (ltb k 6) (ofOne (madeOf k 0) s)
-    (either (ltb k 12) (ofTwo (madeOf k) s) (ofList (contents (wrapOf k)) (listed (wrapOf k)) s)))))
+    pick (ltb k 1) (ofName s) (pick (ltb k 2) (alone tau s) (pick (ltb k 3) (alone delta s) (pick (ltb k 6) (ofOne (madeOf k 0) s)
+    (pick (ltb k 12) (ofTwo (madeOf k) s) (ofList (contents (wrapOf k)) (listed (wrapOf k)) s)))))
 
 abbrev AtKind : ℕ → Type 0
 AtKind k = (nameOf 8 (getD packedKinds k 0) ≡ getD kinds k noKind .word) × ((s : Text) → dispatched k s ≡ restOf k s)

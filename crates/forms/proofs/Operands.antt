@@ -23,7 +23,8 @@ use Rattle.table.specs.declared.Term.{Term}
 use Rattle.table.specs.declared.Term.the-variants.{Delta, Tau, Act, Ref, Sum, Cond, Choice, IfElse, Seq, Merge, LMerge, Sync, Wrap}
 use Rattle.table.specs.Terms.{IsPlain, bareTerm}
 use Rattle.table.specs.Encoded.{termWords, termFor}
-use Rattle.table.specs.Packed.{either, plainOf}
+use Rattle.meaning.specs.Rounds.{pick}
+use Rattle.table.specs.Packed.{plainOf}
 use Rattle.words.proofs.Rests.{rest-cons, literal-other, literal-more}
 use Rattle.words.proofs.Steps.{onward-assoc, back-stuck, back-past}
 
@@ -36,13 +37,13 @@ unfolding ended
 ended-some line at h = rw (rest-cons line at h)
 
 -- the kinds without a list are plain
-either-both : {A : Type 0} (P : A → Type 0) (b : Bool) (x y : A) → P x → P y → P (either b x y)
-either-both P true x y p q = p
-either-both P false x y p q = q
+pick-both : {A : Type 0} (P : A → Type 0) (b : Bool) (x y : A) → P x → P y → P (pick b x y)
+pick-both P true x y p q = p
+pick-both P false x y p q = q
 
 pub plain-kind : (k t u : ℕ) → IsPlain (plainOf k t u)
 plain-kind k t u =
-    either-both IsPlain (eqb k 1) _ _ tt (either-both IsPlain (eqb k 2) _ _ tt (either-both IsPlain (eqb k 3) _ _ tt (either-both IsPlain (eqb k 4) _ _ tt (either-both IsPlain (eqb k 5) _ _ tt (either-both IsPlain (eqb k 6) _ _ tt (either-both IsPlain (eqb k 7) _ _ tt (either-both IsPlain (eqb k 8) _ _ tt (either-both IsPlain (eqb k 9) _ _ tt (either-both IsPlain (eqb k 10) _ _ tt (either-both IsPlain (eqb k 11) _ _ tt tt))))))))))
+    pick-both IsPlain (eqb k 1) _ _ tt (pick-both IsPlain (eqb k 2) _ _ tt (pick-both IsPlain (eqb k 3) _ _ tt (pick-both IsPlain (eqb k 4) _ _ tt (pick-both IsPlain (eqb k 5) _ _ tt (pick-both IsPlain (eqb k 6) _ _ tt (pick-both IsPlain (eqb k 7) _ _ tt (pick-both IsPlain (eqb k 8) _ _ tt (pick-both IsPlain (eqb k 9) _ _ tt (pick-both IsPlain (eqb k 10) _ _ tt (pick-both IsPlain (eqb k 11) _ _ tt tt))))))))))
 
 -- the number after a space, as one step
 abbrev pub operand : Text → Past ℕ

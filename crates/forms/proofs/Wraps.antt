@@ -12,7 +12,8 @@ use Rattle.table.specs.declared.Operator.{Operator}
 use Rattle.table.specs.declared.Operator.the-variants as O
 use Rattle.table.specs.declared.Term.the-variants.{Wrap}
 use Rattle.table.specs.Encoded.{operatorWords, operatorFor}
-use Rattle.table.specs.Packed.{either, operatorAt}
+use Rattle.meaning.specs.Rounds.{pick}
+use Rattle.table.specs.Packed.{operatorAt}
 use Rattle.grammar.specs.Text.{Past, past, stuck, onward, sameText, ended, starts, literal, word}
 use Rattle.grammar.specs.Forms.{Line, wraps, Parts, comma, space, pair, rule, label, labelList, ofList}
 use Rattle.grammar.specs.Faults.{fine, wordsOfFault, worst, labelFault, ruleFault, rulesFault, labelsFault, listFault, operatorSaid, nameNumber, pairSaid, ruleSaid, labelSaid}
@@ -43,13 +44,13 @@ wrappedOf Rename p = O.Rename p
 wrappedOf Comm p = O.Comm p
 wrappedOf Allow p = O.Allow p
 
-either-through : {A B : Type 0} (f : A → B) (b : Bool) (x y : A) {z : B} → z ≡ f y → either b (f x) z ≡ f (either b x y)
-either-through f true x y e = refl
-either-through f false x y e = e
+pick-through : {A B : Type 0} (f : A → B) (b : Bool) (x y : A) {z : B} → z ≡ f y → pick b (f x) z ≡ f (pick b x y)
+pick-through f true x y e = refl
+pick-through f false x y e = e
 
 pub operator-wrapped : (k : ℕ) (p : Place) → operatorAt k p ≡ wrappedOf (wrapOf k) p
 operator-wrapped k p =
-    either-through by (eqb k 12) Block _ (either-through by (eqb k 13) Hide _ (either-through by (eqb k 14) Rename _ (either-through by (eqb k 15) Comm Allow refl)))
+    pick-through by (eqb k 12) Block _ (pick-through by (eqb k 13) Hide _ (pick-through by (eqb k 14) Rename _ (pick-through by (eqb k 15) Comm Allow refl)))
   where
     by : WrapKind → Operator
     by w = wrappedOf w p

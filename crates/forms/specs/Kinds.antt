@@ -8,7 +8,8 @@ use lib.Dec.{eqb}
 use Rattle.meaning.specs.Bytes.{Text}
 use Rattle.grammar.specs.Text.{Past, stuck}
 use Rattle.grammar.specs.Forms.{Line, Kind, kinds, farther}
-use Rattle.table.specs.Packed.{either, operatorAt}
+use Rattle.meaning.specs.Rounds.{pick}
+use Rattle.table.specs.Packed.{operatorAt}
 use Rattle.table.specs.declared.Term.the-variants.{Wrap}
 use Rattle.lists.specs.declared.Said.{Said}
 use Rattle.forms.specs.Terms.{WrapKind, Block, Hide, Rename, Comm, Allow}
@@ -46,7 +47,7 @@ KindRead line due (Stuck p) = stuck (drop p line) ≡ due
 
 -- the kinds with a list
 abbrev pub wrapOf : ℕ → WrapKind
-wrapOf k = either (eqb k 12) Block (either (eqb k 13) Hide (either (eqb k 14) Rename (either (eqb k 15) Comm Allow)))
+wrapOf k = pick (eqb k 12) Block (pick (eqb k 13) Hide (pick (eqb k 14) Rename (pick (eqb k 15) Comm Allow)))
 
 -- the term of a kind with a list, at its number, with the list's fault
 abbrev pub wrapStep : ℕ → ℕ → ℕ → Said → TermStep

@@ -1,13 +1,14 @@
 -- The form of each line (docs/FORMAT.md, "The lines"): what can be seen without knowing the names, the counts
 -- or the other terms.
 -- Assumes nothing.
-use mathlib.Core.Bool.{Bool, true, false}
+use mathlib.Core.Bool.{true, false}
 use mathlib.Core.List.{List, [], _∷_}
 use Prim.Native.Nat.{ℕ}
 use lib.Dec.{ltb}
 use lib.ListN.{length}
 use Rattle.meaning.specs.Descriptions.{Term, tau, delta, ref, sum, cond, choice, ifelse, seq, merge, lmerge, sync}
 use Rattle.meaning.specs.Bytes.{Text, ascii}
+use Rattle.meaning.specs.Rounds.{pick}
 use Rattle.grammar.specs.Text.{Past, past, stuck, onward, sameText, ended, literal, byte, number, word, separated}
 
 -- the signs: LF, space, comma, dot, colon and greater-than
@@ -129,13 +130,9 @@ kinds =
 
 -- The farther of two places in one text. It serves the column of a fault (document 02, 2026-04), the byte at which no line that is
 -- due there goes on; whether a line is refused does not depend on it.
-abbrev pub shorter : Bool → Text → Text → Text
-shorter true s t = s
-shorter false s t = t
-
 abbrev pub farther : Text → Past Line → Past Line
 farther s (past l r) = past l r
-farther s (stuck t) = stuck (shorter (ltb (length s) (length t)) s t)
+farther s (stuck t) = stuck (pick (ltb (length s) (length t)) s t)
 
 unfoldable pub ofKind : List Kind → Text → Past Line
 ofKind [] s = stuck s

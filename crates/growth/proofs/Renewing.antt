@@ -11,6 +11,7 @@ use borrow.Author.Tests.{lt-ltb, le-ltb}
 use lib.Dec.{ltb, eqb}
 use lib.ListN.{length, getD, take, drop, length-take, drop-of-length-le}
 use lib.Seq.{take-take, slice-cons, slice-empty}
+use Rattle.meaning.specs.Rounds.{pick}
 use Rattle.sets.specs.declared.Built.{Built}
 use Rattle.sets.specs.declared.Built.the-variants.{TooLarge, Holds}
 use Rattle.sets.specs.Parts.{part, setAt, laid, partBefore, roomAt, reachOf}
@@ -39,15 +40,11 @@ no-part : (from to : ℕ) (ls : List ℕ) → to ≤ from → part from to ls �
 no-part from to ls h = drop-of-length-le (take to ls) {i = from} (rw (length-take to ls) (omega arith))
 
 -- The first label of each of two lists: it is passed over, or it is new.
-abbrev chosen : Bool → List ℕ → List ℕ → List ℕ
-chosen true passed new = passed
-chosen false passed new = new
-
-fresh-cons : (v w : ℕ) (vs ws : List ℕ) → fresh (v ∷ vs) (w ∷ ws) ≡ chosen (eqb v w) (fresh vs ws) (w ∷ fresh (v ∷ vs) ws)
+fresh-cons : (v w : ℕ) (vs ws : List ℕ) → fresh (v ∷ vs) (w ∷ ws) ≡ pick (eqb v w) (fresh vs ws) (w ∷ fresh (v ∷ vs) ws)
 unfolding fresh
 fresh-cons v w vs ws = go (eqb v w)
   where
-    go : (t : Bool) → elim t [ true ↦ fresh vs ws | false ↦ w ∷ fresh (v ∷ vs) ws ] ≡ chosen t (fresh vs ws) (w ∷ fresh (v ∷ vs) ws)
+    go : (t : Bool) → elim t [ true ↦ fresh vs ws | false ↦ w ∷ fresh (v ∷ vs) ws ] ≡ pick t (fresh vs ws) (w ∷ fresh (v ∷ vs) ws)
     go true = refl
     go false = refl
 
@@ -63,7 +60,7 @@ stands-below j kept i ls e = elim (decLt j kept) [
 
 fresh-parts : (j kept i end : ℕ) (ls : List ℕ) → kept ≤ length ls → end ≤ length ls → i < end
     → fresh (part j kept ls) (part i end ls)
-    ≡ chosen (standsNext j kept i ls) (fresh (part (j + 1) kept ls) (part (i + 1) end ls)) (getD ls i 0 ∷ fresh (part j kept ls) (part (i + 1) end ls))
+    ≡ pick (standsNext j kept i ls) (fresh (part (j + 1) kept ls) (part (i + 1) end ls)) (getD ls i 0 ∷ fresh (part j kept ls) (part (i + 1) end ls))
 fresh-parts j kept i end ls hk he l = elim (decLt j kept) [
   | yes h ↦
       rw (lt-ltb j kept h, slice-cons j kept ls 0 h hk, slice-cons i end ls 0 l he, add-one j, add-one i)
@@ -122,7 +119,7 @@ module _ (kept j : ℕ) (step : ℕ → List ℕ → Building) {at end : ℕ} {b
   -- the labels to come, by the words as they are
   to-come : (t : Bool) → standsNext j kept i now ≡ t
       → fresh (part j kept before) (part i end before)
-      ≡ chosen t (fresh (part (j + 1) kept before) (part (i + 1) end before)) (getD now i 0 ∷ fresh (part j kept before) (part (i + 1) end before))
+      ≡ pick t (fresh (part (j + 1) kept before) (part (i + 1) end before)) (getD now i 0 ∷ fresh (part j kept before) (part (i + 1) end before))
   to-come t e =
       let n = going-length x .0 in
       rw (e, stays x j kept (omega arith), stays x (j + 1) kept (omega arith), stays x i end (omega arith), stays x (i + 1) end (omega arith)) at

@@ -14,7 +14,8 @@ use Rattle.meaning.proofs.Bags.{number-plus, number-minus, size-plus}
 use Rattle.meaning.proofs.Digits.{Small, small}
 use Rattle.labels.specs.declared.Sum.the-variants.{Over, Of}
 use Rattle.labels.specs.Packing.{packed}
-use Rattle.labels.specs.Bags.{bag, sizeOf, pickSum, sumOf}
+use Rattle.meaning.specs.Rounds.{pick}
+use Rattle.labels.specs.Bags.{bag, sizeOf, sumOf}
 use Rattle.labels.proofs.Words.{number-several}
 use Rattle.labels.proofs.Sizes.{folded-few}
 
@@ -111,7 +112,7 @@ unfolding sizeOf
 size-number {names} a l p = rw (bag-number names l a p, size-padded (13 - names) a) (folded-few (size a) (p .few))
 
 pub sum-number : {names : ℕ} (a b : Label) → names ≤ 12 → Packs names a → Packs names b
-    → sumOf (number a) (number b) ≡ pickSum (ltb 31 (size (plus a b))) Over (Of (packed (number (plus a b))))
+    → sumOf (number a) (number b) ≡ pick (ltb 31 (size (plus a b))) Over (Of (packed (number (plus a b))))
 unfolding sumOf
 sum-number a b l p q =
     let fits : (number a + number b) % 2 ^ 64 ≡ number (plus a b) =

@@ -1,6 +1,5 @@
 -- The bag that a word stands for, its size, and the sum of two.
 -- Assumes nothing.
-use mathlib.Core.Bool.{Bool, true, false}
 use Prim.Native.Nat.{ℕ, _+_, _-_, _*_, _/_, _%_, _^_}
 use lib.Dec.{leb, ltb}
 use Rattle.meaning.specs.Labels.{labelOf, size}
@@ -22,9 +21,5 @@ folded s = pick (leb s 31) s (s - 31 * ((s - 1) / 31))
 unfoldable pub sizeOf : ℕ → ℕ
 sizeOf w = folded (size (bag w))
 
-abbrev pub pickSum : Bool → Sum → Sum → Sum
-pickSum true a b = a
-pickSum false a b = b
-
 unfoldable pub sumOf : ℕ → ℕ → Sum
-sumOf a b = pickSum (ltb 31 (sizeOf a + sizeOf b)) Over (Of (packed ((a + b) % 2 ^ 64)))
+sumOf a b = pick (ltb 31 (sizeOf a + sizeOf b)) Over (Of (packed ((a + b) % 2 ^ 64)))

@@ -1,10 +1,11 @@
 -- Labels in words: one word holds one label.
 -- Assumes nothing.
-use mathlib.Core.Bool.{Bool, true, false, _&&_}
+use mathlib.Core.Bool.{_&&_}
 use mathlib.Core.List.{List, _++_}
 use Prim.Native.Nat.{ℕ, _+_, _-_}
 use lib.Dec.{leb, ltb}
 use lib.ListN.{length, take, drop}
+use Rattle.meaning.specs.Rounds.{pick}
 use Rattle.labels.specs.declared.Label.{Label}
 
 -- The number by which a packed label is known and ordered, and the packed label of a number.
@@ -20,9 +21,5 @@ held words = words
 
 -- The labels from one place up to another, each one place further up; the one at the second is lost. They move if the second
 -- is a place of the list and not before the first.
-abbrev pub pickLabels : Bool → List ℕ → List ℕ → List ℕ
-pickLabels true a b = a
-pickLabels false a b = b
-
 unfoldable pub movedUp : ℕ → ℕ → List ℕ → List ℕ
-movedUp from to ls = pickLabels (leb from to && ltb to (length ls)) (take (from + 1) ls ++ take (to - from) (drop from ls) ++ drop (to + 1) ls) ls
+movedUp from to ls = pick (leb from to && ltb to (length ls)) (take (from + 1) ls ++ take (to - from) (drop from ls) ++ drop (to + 1) ls) ls

@@ -11,7 +11,7 @@ use Rattle.grammar.specs.Text.{Past, past, stuck, onward, sameText, word, separ
 use Rattle.grammar.specs.Forms.{comma, label, pair, rule}
 use Rattle.grammar.specs.Faults.{Found}
 use Rattle.lists.specs.Tallies.{Said, allFaults}
-use Rattle.table.specs.Packed.{either}
+use Rattle.meaning.specs.Rounds.{pick}
 use Rattle.lists.specs.Entries.{Says, seen, labelEntry, nameEntry, pairEntry, ruleEntry}
 use Rattle.lists.specs.declared.SaidStep.{SaidStep}
 use Rattle.lists.specs.declared.ListKind.{ListKind}
@@ -99,7 +99,7 @@ wholeList words kind s = unlessNone (takesNone kind && sameText s (ascii "none")
 
 -- A description has at most 12 names; with more nothing is read.
 abbrev pub withFew : {A : Type 0} → List ℕ → Past A → Text → Past A
-withFew names due s = either (leb (length names) 12) due (stuck s)
+withFew names due s = pick (leb (length names) 12) due (stuck s)
 
 -- A list that is read: its fault and its number of entries, and its words over the start of the store.
 pub record ListRead (kind : ListKind) (line : Text) (due : Past (List Said)) (before after : List ℕ) (r : SaidStep) : Type 0 where

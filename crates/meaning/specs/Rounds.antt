@@ -10,11 +10,12 @@ use Rattle.meaning.specs.Labels.{Label, size, empty, single, isTau, plus
 use Rattle.meaning.specs.Sets.{_∈_, at, member, ascending, spread, keep, turn, product}
 use Rattle.meaning.specs.Descriptions.{Pair, Rule, Operator, block, hide, rename, comm, allow, Term, act, tau, delta, ref, sum, cond, choice, ifelse, seq, merge, lmerge, sync, wrap, Description, names, termCount, termAt}
 
--- rename: where a name goes. A name that no pair lists stays.
-abbrev pub pick : Bool → ℕ → ℕ → ℕ
+-- one of two, by a test
+abbrev pub pick : {A : Type 0} → Bool → A → A → A
 pick true a b = a
 pick false a b = b
 
+-- rename: where a name goes. A name that no pair lists stays.
 unfoldable pub target : List Pair → ℕ → ℕ
 target [] n = n
 target (p ∷ ps) n = pick (eqb n (p .left)) (p .right) (target ps n)

@@ -12,7 +12,8 @@ use Rattle.meaning.specs.Sets.{ascending, spread, product}
 use Rattle.meaning.proofs.Bags.{length-plus}
 use Rattle.labels.specs.declared.Sum.the-variants.{Over, Of}
 use Rattle.labels.specs.Packing.{packed}
-use Rattle.labels.specs.Bags.{pickSum, sumOf}
+use Rattle.meaning.specs.Rounds.{pick}
+use Rattle.labels.specs.Bags.{sumOf}
 use Rattle.labels.proofs.Meant.{Packs, sum-number}
 use Rattle.sets.specs.declared.Built.{Built}
 use Rattle.sets.specs.declared.Part.{Part}
@@ -39,7 +40,7 @@ row-stays {at = at} {most} {now = now} x by w g = grown-as (λ s. ap (λ (b : Li
 
 -- What it makes of the numbers of labels.
 plus-offers : {names : ℕ} (t : Bool) (c : Label) → ltb 31 (size c) ≡ t → length c ≡ names
-    → Offered names (summed (pickSum t Over (Of (packed (number c))))) (c ∷ [])
+    → Offered names (summed (pick t Over (Of (packed (number c))))) (c ∷ [])
 plus-offers true c e w = over c (ltb-true 31 (size c) e)
 plus-offers false c e w = one c (record { wide = w; few = ltb-false 31 (size c) e })
 

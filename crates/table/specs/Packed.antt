@@ -1,17 +1,13 @@
 -- A term packed in a word: its kind in the lowest five bits, then up to three numbers of 16 bits each.
 -- Assumes nothing.
-use mathlib.Core.Bool.{Bool, true, false}
 use Prim.Native.Nat.{ℕ, _+_, _*_, _/_, _%_}
 use lib.Dec.{eqb, ltb}
+use Rattle.meaning.specs.Rounds.{pick}
 use Rattle.table.specs.declared.Place.{Place}
 use Rattle.table.specs.declared.Operator.{Operator}
 use Rattle.table.specs.declared.Operator.the-variants.{Block, Hide, Rename, Comm, Allow}
 use Rattle.table.specs.declared.Term.{Term}
 use Rattle.table.specs.declared.Term.the-variants.{Delta, Tau, Act, Ref, Sum, Cond, Choice, IfElse, Seq, Merge, LMerge, Sync, Wrap}
-
-abbrev pub either : {A : Type 0} → Bool → A → A → A
-either true a b = a
-either false a b = b
 
 -- the kind's number and the three numbers, each cut to its bits
 unfoldable pub packed : ℕ → ℕ → ℕ → ℕ → ℕ
@@ -43,14 +39,14 @@ termWord (Wrap o u) = operatorWord o u
 -- The term of a word: the kinds by their numbers.
 abbrev pub plainOf : ℕ → ℕ → ℕ → Term
 plainOf k t u =
-    either (eqb k 1) Tau (either (eqb k 2) (Act u) (either (eqb k 3) (Ref u) (either (eqb k 4) (Sum u) (either (eqb k 5) (Cond u) (either (eqb k 6) (Choice t u)
-    (either (eqb k 7) (IfElse t u) (either (eqb k 8) (Seq t u) (either (eqb k 9) (Merge t u) (either (eqb k 10) (LMerge t u) (either (eqb k 11) (Sync t u) Delta))))))))))
+    pick (eqb k 1) Tau (pick (eqb k 2) (Act u) (pick (eqb k 3) (Ref u) (pick (eqb k 4) (Sum u) (pick (eqb k 5) (Cond u) (pick (eqb k 6) (Choice t u)
+    (pick (eqb k 7) (IfElse t u) (pick (eqb k 8) (Seq t u) (pick (eqb k 9) (Merge t u) (pick (eqb k 10) (LMerge t u) (pick (eqb k 11) (Sync t u) Delta))))))))))
 
 abbrev pub operatorAt : ℕ → Place → Operator
-operatorAt k p = either (eqb k 12) (Block p) (either (eqb k 13) (Hide p) (either (eqb k 14) (Rename p) (either (eqb k 15) (Comm p) (Allow p))))
+operatorAt k p = pick (eqb k 12) (Block p) (pick (eqb k 13) (Hide p) (pick (eqb k 14) (Rename p) (pick (eqb k 15) (Comm p) (Allow p))))
 
 abbrev pub kindTerm : (k t u entries : ℕ) → Term
-kindTerm k t u entries = either (ltb k 12) (plainOf k t u) (Wrap (operatorAt k (record { at = t; entries = entries })) u)
+kindTerm k t u entries = pick (ltb k 12) (plainOf k t u) (Wrap (operatorAt k (record { at = t; entries = entries })) u)
 
 unfoldable pub wordTerm : ℕ → Term
 wordTerm w = kindTerm (w % 32) (w / 32 % 65536) (w / 2097152 % 65536) (w / 137438953472 % 65536)
