@@ -115,7 +115,8 @@ pub record Whole : Type 0 where
   pub given : Description
   pub order : Order
 
--- the lines from a section's first on, and all
+-- The lines in their fixed order: the number of names, the names, the numbers of equations and terms, the terms, the bodies, the root,
+-- the order. Each section is followed by the next, and so is said after it: read from `wholeText` upwards.
 abbrev pub fromOrder : Description → ℕ → Text → Walk Whole
 fromOrder d line s = walk (oneLine (takeOrder (d .words)) line s) (λ order line s. reached (record { given = d; order = order }) line s)
 
