@@ -6,8 +6,10 @@ and one or more edits. An edit is a line `in FILE`, the lines to be replaced
 after `-` and those that replace them after `+`.
 """
 
+import concurrent.futures
 import dataclasses
 import os
+import queue
 import shutil
 
 from support.comparing import differences, first_difference
@@ -63,13 +65,13 @@ class Damage:
 
 
 class Workshop:
-    """A copy of the reference that is damaged and built.
+    """A copy of the reference that is damaged and built; one of several.
 
     What the compiler keeps of the whole copy is put back before each damage,
     so that only what the damage touches is compiled anew."""
 
-    def __init__(self):
-        self.folder = output_folder("damaged")
+    def __init__(self, number):
+        self.folder = output_folder("damaged", str(number))
         self.kept = self.folder / "kept"
         shutil.rmtree(self.folder / "compiled", ignore_errors=True)
 
@@ -103,30 +105,53 @@ class Workshop:
 
 
 def try_all(sample, count=False):
-    """Tries every damage; ends with Failed unless each one is found."""
+    """Tries every damage, as many at a time as there are processors; ends with
+    Failed unless each one is found."""
     if not count:
         sample = sample.first(FIRST_RECORDS)
-    workshop = Workshop()
-    if first_difference(workshop.whole(), sample):
-        raise Failed("a copy of the reference without damage differs from it")
     damages = [Damage.read(path) for path in sorted((TESTS / "damages").glob("*.edit"))]
     if not damages:
         raise Failed("there are no damages to try")
-    unfound = [damage.name for damage in damages if not is_found(damage, workshop, sample, count)]
+    number = os.cpu_count() or 1
+    with concurrent.futures.ThreadPoolExecutor(number) as runs:
+        free = queue.SimpleQueue()
+        for workshop in runs.map(lambda number: prepared(number, sample), range(number)):
+            free.put(workshop)
+        unfound = []
+        tries = runs.map(lambda damage: records_found(damage, free, sample, count), damages)
+        for damage, found in zip(damages, tries):
+            print(f"{damage.name}: {found or 'NOT FOUND'}", flush=True)
+            if not found:
+                unfound.append(damage.name)
     if unfound:
         raise Failed(f"{len(unfound)} of {len(damages)} are not found: {', '.join(unfound)}")
     print(f"{len(damages)} damages are found, each by the records alone")
 
 
-def is_found(damage, workshop, sample, count):
-    command = workshop.damaged(damage)
+def prepared(number, sample):
+    """A workshop whose whole program is built and prints what it should."""
+    workshop = Workshop(number)
+    if first_difference(workshop.whole(), sample):
+        raise Failed("a copy of the reference without damage differs from it")
+    return workshop
+
+
+def records_found(damage, free, sample, count):
+    """Tries a damage in a workshop that is free: what `told` says of it."""
+    workshop = free.get()
+    try:
+        return told(damage, workshop.damaged(damage), sample, count)
+    finally:
+        free.put(workshop)
+
+
+def told(damage, command, sample, count):
+    """The records by which a damage is found, in words; none if it is not."""
     try:
         if count:
             found = sum(1 for _ in differences(command, sample, SECONDS_TO_ANSWER))
-            print(f"{damage.name}: {found} records", flush=True)
-            return found > 0
+            return f"{found} records" if found else ""
         first = first_difference(command, sample, SECONDS_TO_ANSWER)
+        return f"record {first.number}" if first else ""
     except Failed as failure:
         raise Failed(f"{damage.name}: the damaged program must answer, but {failure}") from failure
-    print(f"{damage.name}: {f'record {first.number}' if first else 'NOT FOUND'}", flush=True)
-    return first is not None

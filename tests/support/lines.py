@@ -38,8 +38,5 @@ def uncommented(top, path):
 
 def wide(top, path):
     """Too wide lines but those that import names."""
-    lines = path.read_text().splitlines()
-    for fault in wide_lines(path, MOST_COLUMNS):
-        number = int(fault.split()[1])
-        if not IMPORT.match(lines[number - 1]):
-            yield fault.replace(path.name, str(path.relative_to(top)))
+    for fault in wide_lines(path, MOST_COLUMNS, lambda line: not IMPORT.match(line)):
+        yield fault.replace(path.name, str(path.relative_to(top)))

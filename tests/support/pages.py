@@ -4,17 +4,24 @@ import re
 
 from support.programs import TOP, Failed
 
-README_COLUMNS = 130
+# One width for all pages, and one for the rows of their tables.
+COLUMNS = 100
+ROW_COLUMNS = 130
 REASONS = range(1, 9)
 
 
 def check_pages(top=TOP):
     """Ends with Failed if the header or docs/FORMAT.md lacks a refusal's number,
-    no page names an example, or README.md has a line that is too wide."""
-    faults = [*lacking_reasons(top), *nameless_examples(top), *wide_lines(top / "README.md", README_COLUMNS)]
+    no page names an example, or a page has a line that is too wide."""
+    pages = sorted([*top.glob("*.md"), *top.glob("*/*.md"), *top.glob("docs/*/*.md")])
+    faults = [*lacking_reasons(top), *nameless_examples(top)]
+    for page in pages:
+        faults += wide_lines(page, COLUMNS, lambda line: not line.startswith("|"))
+        faults += wide_lines(page, ROW_COLUMNS)
     if faults:
         raise Failed("; ".join(faults))
-    print(f"{len(REASONS)} numbers of refusals and {len(examples(top))} examples stand on their pages")
+    counts = f"{len(REASONS)} numbers of refusals and {len(examples(top))} examples"
+    print(f"{counts} stand on their pages; no line of {len(pages)} pages is too wide")
 
 
 def lacking_reasons(top):
@@ -36,7 +43,8 @@ def nameless_examples(top):
     return [f"examples/README.md does not name {name}" for name in examples(top) if f"`{name}`" not in page]
 
 
-def wide_lines(path, most):
+def wide_lines(path, most, counts=lambda line: True):
+    """Each line that is too wide, of those that count."""
     for number, line in enumerate(path.read_text().splitlines(), 1):
-        if len(line) > most:
+        if len(line) > most and counts(line):
             yield f"line {number} of {path.name} has {len(line)} columns"

@@ -1,8 +1,9 @@
-"""docs/PROMISES.md against the crates: every public function has a row and a
-promise, what it asks of its caller is explained, and no row or edit is made up.
+"""docs/PROMISES.md against the crates: every public function has an entry and a
+promise, what it asks of its caller is explained, and no entry or edit is made up.
 
 A public function stands in a crate's src/lib.rt or in a module that it
-declares by `pub mod`; its row begins with its name in backquotes."""
+declares by `pub mod`; its entry is an item of a list that begins with its name
+in backquotes."""
 
 import re
 
@@ -15,13 +16,13 @@ CLAUSE = re.compile(r"^\s*(ensures|requires)\b")
 def check_promises(top=TOP):
     """Ends with Failed if the list and the crates do not agree."""
     text = (top / "docs" / "PROMISES.md").read_text()
-    rows = told_rows(text)
+    entries = told_entries(text)
     functions = public_functions(top)
-    faults = [f"{name} is not there" for name in sorted(set(rows) - set(functions))]
+    faults = [f"{name} is not there" for name in sorted(set(entries) - set(functions))]
     for name, clauses in functions.items():
-        if name not in rows:
+        if name not in entries:
             faults.append(f"{name} is missing")
-        elif "requires" in clauses and not re.search(r"\brequires\b", rows[name]):
+        elif "requires" in clauses and not re.search(r"\brequires\b", entries[name]):
             faults.append(f"what {name} requires is not explained")
         if "ensures" not in clauses:
             faults.append(f"{name} has no ensures")
@@ -33,14 +34,14 @@ def check_promises(top=TOP):
     print(f"{len(functions)} public functions have their promises listed")
 
 
-def told_rows(text):
-    """Each row of the tables by the function that it tells of."""
-    rows = re.findall(r"^\| `([\w:]+)` (\|.*)$", text, re.MULTILINE)
-    names = [name for name, _ in rows]
+def told_entries(text):
+    """Each entry of the page by the function that it tells of."""
+    entries = re.findall(r"^- `([\w:]+)`: (.*(?:\n  .*)*)", text, re.MULTILINE)
+    names = [name for name, _ in entries]
     twice = {name for name in names if names.count(name) > 1}
     if twice:
         raise Failed(f"docs/PROMISES.md tells twice of {', '.join(sorted(twice))}")
-    return dict(rows)
+    return dict(entries)
 
 
 def public_functions(top):

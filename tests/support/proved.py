@@ -64,10 +64,14 @@ def linked(source):
     return program
 
 
+def build_archive():
+    """The archive of the C call, proved and written."""
+    rt("staticlib", "rimecutter_c")
+
+
 def check_c_call(sample):
     """The C call: its archive is linked, the promises of its header tried, and
     its texts compared with the reference's, record by record."""
-    rt("staticlib", "rimecutter_c")
     print(run(command(linked(C_CALL / "checks.c"))).decode(), end="", flush=True)
     check_example_program()
     difference = some_difference(command(linked(C_CALL / "batch.c")), sample)

@@ -41,7 +41,8 @@ class Pages(unittest.TestCase):
             ("include/rimecutter.h", header.replace("/* 6 */", ""), "include/rimecutter.h lacks refusal 6"),
             ("docs/FORMAT.md", "| 1 | when |\n", "docs/FORMAT.md lacks refusal 8"),
             ("examples/README.md", "one", "does not name one"),
-            ("README.md", "a" * 131, "line 1 of README.md has 131 columns"),
+            ("README.md", "a" * 101, "line 1 of README.md has 101 columns"),
+            ("docs/FORMAT.md", "|" + "a" * 130, "line 1 of FORMAT.md has 131 columns"),
         ]
         for name, text, told in cases:
             kept = (self.top / name).read_text()

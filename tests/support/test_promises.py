@@ -31,7 +31,7 @@ MODULE = """pub extern "C" fn asks(
     a
 }
 """
-ROWS = ["| `one::plain` | the same | `wrong.edit` |", "| `one::shown::asks` | requires a digit | |"]
+ENTRIES = ["- `one::plain`: the same.\n  Shut out: `wrong.edit`.", "- `one::shown::asks`: the same; it\n  requires a digit."]
 
 
 class Promises(unittest.TestCase):
@@ -39,7 +39,7 @@ class Promises(unittest.TestCase):
         folder = tempfile.TemporaryDirectory()
         self.addCleanup(folder.cleanup)
         self.top = pathlib.Path(folder.name)
-        self.write("docs/PROMISES.md", "\n".join(ROWS))
+        self.write("docs/PROMISES.md", "\n".join(ENTRIES))
         self.write("crates/one/src/lib.rt", LIBRARY)
         self.write("crates/one/src/shown.rt", MODULE)
         self.write("crates/one/src/hidden.rt", "pub fn inner() {\n}\n")
@@ -58,13 +58,13 @@ class Promises(unittest.TestCase):
         self.check()
 
     def test_what_does_not_agree_fails(self):
-        rows, one, asks = "docs/PROMISES.md", "crates/one/src/lib.rt", ROWS[1]
+        page, one, asks = "docs/PROMISES.md", "crates/one/src/lib.rt", ENTRIES[1]
         cases = [
-            (rows, asks, "one::plain is missing"),
-            (rows, "\n".join([*ROWS, "| `one::more` | |"]), "one::more is not there"),
-            (rows, "\n".join([*ROWS, asks]), "twice of one::shown::asks"),
-            (rows, "\n".join([ROWS[0], "| `one::shown::asks` | a digit |"]), "not explained"),
-            (rows, "\n".join([*ROWS, "`other.edit`"]), "no edit other"),
+            (page, asks, "one::plain is missing"),
+            (page, "\n".join([*ENTRIES, "- `one::more`: more."]), "one::more is not there"),
+            (page, "\n".join([*ENTRIES, asks]), "twice of one::shown::asks"),
+            (page, "\n".join([ENTRIES[0], "- `one::shown::asks`: a digit."]), "not explained"),
+            (page, "\n".join([*ENTRIES, "`other.edit`"]), "no edit other"),
             (one, LIBRARY + "\npub fn bare() -> u64 {\n    1\n}\n", "one::bare has no ensures"),
         ]
         for name, text, fault in cases:

@@ -32,7 +32,7 @@ fn listing_prints_the_text_of_the_document() {
 type Example = (&'static str, &'static [&'static str], &'static [usize], usize, &'static str);
 
 #[test]
-fn small_examples() {
+fn examples_p3_to_p8() {
     let cases: &[Example] = &[
         ("P3", &["ref 0"], &[0], 1, ""),
         ("P4", &["act a", "ref 0", "rename 1 a>b", "seq 0 2"], &[3], 3, "a:1 b:1"),
