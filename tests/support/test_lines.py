@@ -1,4 +1,4 @@
-"""A line that is too wide, and a function without a comment, are found."""
+"""A line that is too wide, a function or a file of laws without a comment and a place are found."""
 
 import contextlib
 import io
@@ -37,6 +37,8 @@ class Lines(unittest.TestCase):
             ("// why\npub fn f() {}\npub fn g() {}", "", "g in .* has no comment"),
             (f"// {wide}", "", "line 1 of crates/room/src/lib.rt has 164 columns"),
             ("", f"-- one\n{wide}", "line 2 of crates/room/proofs/Lib.antt has 161 columns"),
+            ("", "-- laws\npub mod One\nmod Two\n", "Two in crates/room/proofs/Lib.antt has no comment"),
+            ("", "-- laws\npub mod One\n-- src/lib.rt:3:4\n", "crates/room/proofs/Lib.antt names a place"),
         ]
         for code, proof, told in cases:
             with self.subTest(code=code, proof=proof), self.assertRaisesRegex(Failed, told):
