@@ -17,9 +17,9 @@ pub number-bag : (w : ℕ) → w < 2 ^ 64 → number (bag w) ≡ w
 number-bag w h = number-labelOf 13 w (omega arith)
 
 -- A shift by so many bits again and again is a factor: by five bits, of 32.
-pub power : (bits n : ℕ) → 2 ^ (bits * n) ≡ (2 ^ bits) ^ n
-power bits zero = rw (mul-zero bits, pow-zero (2 ^ bits))
-power bits (suc n) = rw (mul-suc bits n) (pow-add 2 (bits * n) bits ∙ ap (λ (x : ℕ). x * 2 ^ bits) (power bits n) ∙ sym (pow-suc (2 ^ bits) n))
+pub pow-mul : (bits n : ℕ) → 2 ^ (bits * n) ≡ (2 ^ bits) ^ n
+pow-mul bits zero = rw (mul-zero bits, pow-zero (2 ^ bits))
+pow-mul bits (suc n) = rw (mul-suc bits n) (pow-add 2 (bits * n) bits ∙ ap (λ (x : ℕ). x * 2 ^ bits) (pow-mul bits n) ∙ sym (pow-suc (2 ^ bits) n))
 
 -- The number of some actions of one name.
 pub number-empty : (names : ℕ) → number (empty names) ≡ 0
@@ -88,4 +88,4 @@ compared-goes {small} {large} x n h =
 pub word-several : (n : ℕ) → n < 12 → number (several 12 n 1) ≡ (1 * 2 ^ (5 * n)) % 2 ^ 64
 word-several n h =
     let small : 2 ^ (5 * n) < 2 ^ 64 = pow-lt {j = 64} (omega arith) in
-    number-several 12 n 1 h ∙ ap (λ (x : ℕ). 1 * x) (sym (power 5 n)) ∙ sym (mod-eq-of-lt (rw (one-mul (2 ^ (5 * n))) small))
+    number-several 12 n 1 h ∙ ap (λ (x : ℕ). 1 * x) (sym (pow-mul 5 n)) ∙ sym (mod-eq-of-lt (rw (one-mul (2 ^ (5 * n))) small))

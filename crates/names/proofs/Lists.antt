@@ -17,7 +17,7 @@ use Rattle.meaning.specs.Descriptions.{Pair}
 use Rattle.meaning.specs.Rounds.{pick, target}
 use Rattle.meaning.proofs.Bags.{number-plus}
 use Rattle.labels.specs.Bags.{bag}
-use Rattle.labels.specs.Pairs.{pairOf, pairsIn}
+use Rattle.areas.specs.Pairs.{pairOf, pairsIn}
 use Rattle.names.specs.Names.{listed, targets}
 use Rattle.labels.proofs.Words.{number-bag, number-several, number-none}
 use Rattle.names.proofs.Counts.{bag-cleared, number-less}

@@ -8,8 +8,8 @@ use native.Mathlib.Omega.{arith}
 use lib.ListN.{length, getD, take, drop, length-append, length-drop}
 use lib.Seq.{drop-cons, drop-nil, take-append-le, drop-append-le, drop-append-add, drop-at}
 use Rattle.table.specs.Encoded.{filled, termWords, orderWords, termsWords, storeOf, termFor, slotsFrom, tableOf}
-use Rattle.table.specs.Packed.{termWord, wordTerm}
-use Rattle.table.proofs.Filled.{filled-length, slots-length}
+use Rattle.slots.specs.Packing.{termWord, wordTerm}
+use Rattle.table.proofs.Filled.{length-filled, length-slots}
 use Rattle.table.proofs.Packed.{term-back}
 use Rattle.meaning.specs.Descriptions as D
 use Rattle.meaning.specs.Legal.{Legal}
@@ -54,7 +54,7 @@ unfolding termsWords
 drop-terms zero ts = refl
 drop-terms (suc n) [] = drop-nil (32 * suc n)
 drop-terms (suc n) (t ∷ ts) =
-    let e : 32 * suc n ≡ length (filled 32 0 (termWords t)) + 32 * n = omega (arith, filled-length 0 32 (termWords t)) in
+    let e : 32 * suc n ≡ length (filled 32 0 (termWords t)) + 32 * n = omega (arith, length-filled 0 32 (termWords t)) in
     rw e (drop-append-add (filled 32 0 (termWords t)) (termsWords ts) (32 * n) ∙ drop-terms n ts)
 
 -- a list of so many words, taken from its 32
@@ -67,21 +67,21 @@ module _ (d : D.Description) (o : D.Order) where
   unfolding storeOf termsWords
   term-words n count h few e small =
       let all = filled 3072 0 (termsWords (d .terms)) in
-      let long = filled-length 0 3072 (termsWords (d .terms)) in
+      let long = length-filled 0 3072 (termsWords (d .terms)) in
       let ws = termWords (D.termAt d n) in
       let inside = length-drop (32 * n) all in
       ap (take count) (drop-append-le (32 * n) all (filled 32 0 (orderWords o)) (omega arith))
       ∙ take-append-le count (drop (32 * n) all) (filled 32 0 (orderWords o)) (omega arith)
       ∙ ap (take count) (drop-filled (32 * n) 3072 0 (termsWords (d .terms)) ∙ ap (filled (3072 - 32 * n) 0) (drop-terms n (d .terms) ∙ ap termsWords (drop-cons (d .terms) n D.delta h)))
       ∙ take-filled count (3072 - 32 * n) 0 (filled 32 0 ws ++ termsWords (drop (suc n) (d .terms))) (omega arith)
-      ∙ filled-taken count 0 (filled 32 0 ws ++ termsWords (drop (suc n) (d .terms))) (omega (arith, filled-length 0 32 ws, length-append (filled 32 0 ws) (termsWords (drop (suc n) (d .terms)))))
-      ∙ take-append-le count (filled 32 0 ws) (termsWords (drop (suc n) (d .terms))) (omega (arith, filled-length 0 32 ws))
+      ∙ filled-taken count 0 (filled 32 0 ws ++ termsWords (drop (suc n) (d .terms))) (omega (arith, length-filled 0 32 ws, length-append (filled 32 0 ws) (termsWords (drop (suc n) (d .terms)))))
+      ∙ take-append-le count (filled 32 0 ws) (termsWords (drop (suc n) (d .terms))) (omega (arith, length-filled 0 32 ws))
       ∙ first-whole count ws e small
 
   pub order-words : (count : ℕ) → length (orderWords o) ≡ count → count ≤ 32 → take count (drop 3072 (storeOf d o)) ≡ orderWords o
   unfolding storeOf
   order-words count e small =
-      ap (take count) (drop-at (filled 3072 0 (termsWords (d .terms))) (filled 32 0 (orderWords o)) 3072 (filled-length 0 3072 (termsWords (d .terms))))
+      ap (take count) (drop-at (filled 3072 0 (termsWords (d .terms))) (filled 32 0 (orderWords o)) 3072 (length-filled 0 3072 (termsWords (d .terms))))
       ∙ first-whole count (orderWords o) e small
 
 -- The term of a slot, and the body of an equation.
@@ -97,7 +97,7 @@ slot-of : (d : D.Description) (n : ℕ) → n < D.termCount d → D.termCount d 
 unfolding tableOf
 slot-of d n h few =
     let e : 0 + n ≡ n = omega arith in
-    let l = slots-length 0 (d .terms) in
+    let l = length-slots 0 (d .terms) in
     getD-filled 96 0 0 (slotsFrom 0 (d .terms)) n (omega arith) (omega arith)
     ∙ slot-from 0 n (d .terms) h ∙ ap (λ (m : ℕ). termWord (termFor m (D.termAt d n))) e
 
