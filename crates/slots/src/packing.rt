@@ -1,7 +1,8 @@
-// A term packed in a word: its kind in the lowest five bits, then up to three numbers of 16 bits each.
+// A term packed in a word: its kind in the lowest five bits, then up to three numbers of 16 bits each. A number that takes more
+// than 16 bits is cut; a legal description has none.
 //
-// The kinds count as in the enum of terms, the operators with a list from 12 on. A number that takes more than 16 bits is cut;
-// a legal description has none.
+// A kind's number is its place among the terms of docs/FORMAT.md, but act and delta have changed places: delta is 0, so that a
+// slot which was never written is a deadlock. Sync asks for operands that are multi-actions, and such a slot is none.
 use crate::Operator;
 use crate::Place;
 use crate::Term;
@@ -9,6 +10,7 @@ ghost use mathlib.Core.Path.{_≡_};
 ghost use Prim.Native.Nat.{_≤_};
 ghost use Rattle.slots.specs.Packing.{packed, operatorWord, termWord, plainOf, operatorAt, wordTerm};
 
+// A kind's number and the three numbers in one word.
 fn packed(kind: u64, t: usize, u: usize, entries: usize) -> u64
     requires { ⌜ kind ≤ 16 ⌝ }
     ensures { λ r. ⌜ r ≡ packed kind t u entries ⌝ }
@@ -19,6 +21,7 @@ fn packed(kind: u64, t: usize, u: usize, entries: usize) -> u64
     kind + 32 * first + 2097152 * second + 137438953472 * third
 }
 
+// The word of an operator with its operand: the list's place, then the operand, then how many entries the list has.
 fn pack_operator(o: Operator, u: usize) -> u64
     ensures { λ r. ⌜ r ≡ operatorWord o u ⌝ }
 {
