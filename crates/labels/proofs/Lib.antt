@@ -1,7 +1,8 @@
 -- The laws of packed labels, each file after those that it cites.
-pub mod Stored
+
+-- number-bag, pow-mul, number-several, compared-step, word-several: words and their digits to base 32, and a shift as a factor
 pub mod Words
+-- size-word, number-zero, folded-few: the size of a word's bag by a division
 pub mod Sizes
-pub mod Moving
-pub mod Meant
-pub mod Uniqueness
+-- Packs, bag-number, size-number, sum-number, inside-number, difference-number, single-number: words do what labels do
+pub mod Refinement

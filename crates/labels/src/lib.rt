@@ -1,6 +1,6 @@
 // A label packed in a word: name n's count stands in the five bits from bit 5n on, so that the word is the label's number.
-// The word's size is met in `packing` alone, which reads, writes and compares labels; what is made of bags of actions is
-// in `bags`. Every function answers for every word, also one that packs no label.
+// What is made of bags of actions is in `bags`; the empty label and the order of labels are in `packing`. How labels stand in
+// lent words is said in the crate `areas`. Every function answers for every word, also one that packs no label.
 pub mod bags;
 pub mod packing;
 

@@ -15,7 +15,7 @@ use Rattle.meaning.specs.Legal.{Each, LegalPair}
 use Rattle.meaning.proofs.Bags.{number-plus}
 use Rattle.labels.specs.Bags.{bag}
 use Rattle.labels.proofs.Words.{number-empty, number-several}
-use Rattle.labels.proofs.Meant.{Packs, padded, count-padded, number-padded, digits, bag-number}
+use Rattle.labels.proofs.Refinement.{Packs, padded, count-padded, number-padded, labelOf-number-padded, bag-number}
 use Rattle.names.specs.Names.{listed, targets}
 
 -- A label's zeros change nothing.
@@ -95,6 +95,6 @@ target-legal names (p ∷ ps) h n l = picked (eqb n (p .left)) (h .0 .1) (target
 pub renamed-number : (names : ℕ) (ps : List Pair) (a : Label) → names ≤ 12 → Each (LegalPair names) ps → Packs names a
     → number (renamed 12 (λ n. getD (targets ps) n 0) (labelOf 12 (number a))) ≡ number (renamed names (target ps) a)
 renamed-number names ps a l h p =
-    rw (digits names l 12 a l p)
+    rw (labelOf-number-padded names l 12 a l p)
     (renamed-padded names (12 - names) 0 (target ps) (λ n. getD (targets ps) n 0) a l
     (λ n q r. let s : n < names = omega (arith, p .wide) in (getD-targets ps n (omega arith), target-legal names ps h n s)))

@@ -1,16 +1,16 @@
 // What is made of the names of a packed label: how often one occurs, lists of names hidden or blocked, renaming. Every function
 // answers for every word, also one that packs no label.
+use areas::word_at;
 use labels::Label;
 use labels::NAMES;
 use labels::bags::single;
-use labels::packing::word_at;
 ghost use mathlib.Core.Path.{_≡_};
 ghost use mathlib.Core.List.{[], _∷_};
 ghost use lib.ListN.{getD};
 ghost use Rattle.meaning.specs.Labels.{number, count, labelOf, clear, without, renamed};
 ghost use Rattle.labels.specs.Packing.{code, packed};
 ghost use Rattle.labels.specs.Bags.{bag};
-ghost use Rattle.labels.specs.Pairs.{pairsIn};
+ghost use Rattle.areas.specs.Pairs.{pairsIn};
 ghost use Rattle.names.specs.Names.{Counted, targets};
 
 // How often name n occurs. The word's last four bits stand for a thirteenth name, which no description has.

@@ -12,9 +12,9 @@ use Rattle.meaning.specs.Descriptions as D
 use Rattle.meaning.specs.Legal.{Each, Legal, LegalLabel, LegalPair, LegalRule, LegalOperator, LegalTerm}
 use Rattle.meaning.proofs.Digits.{small, labelOf-number}
 use Rattle.meaning.proofs.Least.{term-legal}
-use Rattle.labels.specs.Pairs.{pairsIn}
-use Rattle.labels.proofs.Stored.{pairs-read}
-use Rattle.table.specs.Packed.{wordTerm}
+use Rattle.areas.specs.Pairs.{pairsIn}
+use Rattle.areas.proofs.Entries.{pairsIn-pairWords}
+use Rattle.slots.specs.Packing.{wordTerm}
 use Rattle.table.specs.Encoded.{ruleWords, operatorWords, termWords, storeOf, operatorFor, termFor, tableOf}
 use Rattle.table.specs.Encoded as E
 use Rattle.table.specs.Decoded.{listIn, rulesOf, operatorOf, termOf}
@@ -40,10 +40,10 @@ lefts-small : {names : ℕ} (ps : List D.Pair) → names ≤ 12 → Each (LegalP
 lefts-small [] few h = tt
 lefts-small (p ∷ ps) few h = (omega (arith, h .0 .0), lefts-small ps few (h .1))
 
-pub rules-length : (rs : List D.Rule) → length (ruleWords rs) ≡ length rs * 2
+pub length-ruleWords : (rs : List D.Rule) → length (ruleWords rs) ≡ length rs * 2
 unfolding ruleWords
-rules-length [] = refl
-rules-length (r ∷ rs) = omega (arith, rules-length rs)
+length-ruleWords [] = refl
+length-ruleWords (r ∷ rs) = omega (arith, length-ruleWords rs)
 
 module _ (d : D.Description) (o : D.Order) (few : D.termCount d ≤ 96) (narrow : D.names d ≤ 12) (n : ℕ) (h : n < D.termCount d) where
   names-fit : (ns : List ℕ) → Rising ns → Each (λ x. x < D.names d) ns → length ns * 1 ≤ 32
@@ -62,7 +62,7 @@ module _ (d : D.Description) (o : D.Order) (few : D.termCount d ≤ 96) (narrow 
     list-stored (D.rename ps) e l =
         stored (D.rename ps) 1 (length ps) e (length-map ps E.pairWord ∙ sym (mul-one (length ps)))
         (omega (arith, rising-pairs (D.names d) ps (l .1) (l .2)))
-    list-stored (D.comm rs) e l = stored (D.comm rs) 2 (length rs) e (rules-length rs) (omega (arith, l .1))
+    list-stored (D.comm rs) e l = stored (D.comm rs) 2 (length rs) e (length-ruleWords rs) (omega (arith, l .1))
     list-stored (D.allow ls) e l = stored (D.allow ls) 1 (length ls) e (length-map ls number ∙ sym (mul-one (length ls))) (omega (arith, l .0))
 
     operator-decoded : (op : D.Operator) → D.termAt d n ≡ D.wrap op t → LegalOperator (D.names d) op
@@ -70,7 +70,7 @@ module _ (d : D.Description) (o : D.Order) (few : D.termCount d ≤ 96) (narrow 
     operator-decoded (D.block ns) e l = ap D.block (list-stored (D.block ns) e l)
     operator-decoded (D.hide ns) e l = ap D.hide (list-stored (D.hide ns) e l)
     operator-decoded (D.rename ps) e l =
-        ap (λ (ws : List ℕ). D.rename (pairsIn ws)) (list-stored (D.rename ps) e l) ∙ ap D.rename (pairs-read ps (lefts-small ps narrow (l .1)))
+        ap (λ (ws : List ℕ). D.rename (pairsIn ws)) (list-stored (D.rename ps) e l) ∙ ap D.rename (pairsIn-pairWords ps (lefts-small ps narrow (l .1)))
     operator-decoded (D.comm rs) e l =
         ap (λ (ws : List ℕ). D.comm (rulesOf (D.names d) ws)) (list-stored (D.comm rs) e l) ∙ ap D.comm (rules-back (D.names d) rs (l .2))
     operator-decoded (D.allow ls) e l =

@@ -8,15 +8,16 @@ use native.Mathlib.Omega.{arith}
 use lib.ListN.{length, take, drop, set, replicate, length-append}
 use lib.Seq.{take-at, drop-at}
 use Rattle.meaning.specs.Descriptions as D
+use Rattle.areas.specs.Areas.{zeroed}
 use Rattle.table.specs.Encoded.{filled, termWords, termsWords, termFor, slotsFrom}
-use Rattle.table.specs.Packed.{termWord}
+use Rattle.slots.specs.Packing.{termWord}
 
 module _ {A : Type 0} (x : A) where
-  pub filled-length : (n : ℕ) (ys : List A) → length (filled n x ys) ≡ n
+  pub length-filled : (n : ℕ) (ys : List A) → length (filled n x ys) ≡ n
   unfolding filled
-  filled-length zero ys = refl
-  filled-length (suc n) [] = ap suc (filled-length n [])
-  filled-length (suc n) (y ∷ ys) = ap suc (filled-length n ys)
+  length-filled zero ys = refl
+  length-filled (suc n) [] = ap suc (length-filled n [])
+  length-filled (suc n) (y ∷ ys) = ap suc (length-filled n ys)
 
   pub filled-replicate : (n : ℕ) → replicate n x ≡ filled n x []
   unfolding filled
@@ -53,11 +54,19 @@ module _ {A : Type 0} (x : A) where
   filled-front zero (y ∷ ys) h = absurd (not-suc-le-zero h)
   filled-front (suc n) (y ∷ ys) h = ap {B = List A} (λ l. y ∷ l) (filled-front n ys (le-of-suc-le-suc h))
 
+-- An area that is set to 0 as far as it reaches.
+pub zeroed-filled : (n : ℕ) (ws : List ℕ) → length ws ≤ n → zeroed n ws ≡ filled (length ws) 0 []
+unfolding zeroed filled
+zeroed-filled zero [] h = refl
+zeroed-filled zero (w ∷ ws) h = absurd (omega arith)
+zeroed-filled (suc n) [] h = refl
+zeroed-filled (suc n) (w ∷ ws) h = ap (λ (r : List ℕ). 0 ∷ r) (zeroed-filled n ws (le-of-suc-le-suc h))
+
 -- The slots.
-pub slots-length : (n : ℕ) (ts : List D.Term) → length (slotsFrom n ts) ≡ length ts
+pub length-slots : (n : ℕ) (ts : List D.Term) → length (slotsFrom n ts) ≡ length ts
 unfolding slotsFrom
-slots-length n [] = refl
-slots-length n (t ∷ ts) = ap suc (slots-length (suc n) ts)
+length-slots n [] = refl
+length-slots n (t ∷ ts) = ap suc (length-slots (suc n) ts)
 
 slots-append : (n : ℕ) (ts : List D.Term) (t : D.Term) → slotsFrom n (ts ++ (t ∷ [])) ≡ slotsFrom n ts ++ (termWord (termFor (n + length ts) t) ∷ [])
 unfolding slotsFrom
@@ -71,13 +80,13 @@ pub slots-more : (size x : ℕ) (ts : List D.Term) (t : D.Term)
     → set (filled size x (slotsFrom 0 ts)) (length ts) (termWord (termFor (length ts) t)) ≡ filled size x (slotsFrom 0 (ts ++ (t ∷ [])))
 slots-more size x ts t =
     let h : 0 + length ts ≡ length ts = omega arith in
-    rw (slots-append 0 ts t, h, ← filled-more x size (slotsFrom 0 ts) (termWord (termFor (length ts) t)), slots-length)
+    rw (slots-append 0 ts t, h, ← filled-more x size (slotsFrom 0 ts) (termWord (termFor (length ts) t)), length-slots)
 
 -- The store: the terms' lists one after the other, 32 words each.
-pub words-length : (ts : List D.Term) → length (termsWords ts) ≡ 32 * length ts
+pub length-termsWords : (ts : List D.Term) → length (termsWords ts) ≡ 32 * length ts
 unfolding termsWords
-words-length [] = refl
-words-length (t ∷ ts) = rw (length-append, filled-length, words-length ts) (omega arith)
+length-termsWords [] = refl
+length-termsWords (t ∷ ts) = rw (length-append, length-filled, length-termsWords ts) (omega arith)
 
 words-append : (ts : List D.Term) (t : D.Term) → termsWords (ts ++ (t ∷ [])) ≡ termsWords ts ++ filled 32 0 (termWords t)
 unfolding termsWords
@@ -89,25 +98,27 @@ module _ (size at k : ℕ) (ts : List D.Term) (a : at ≡ 32 * length ts) (e : s
   store = filled size 0 (termsWords ts)
 
   free : store ≡ termsWords ts ++ (filled 32 0 [] ++ filled k 0 [])
-  free = let l = words-length ts in filled-after 0 size (32 + k) (termsWords ts) (omega arith) ∙ ap (λ r. termsWords ts ++ r) (filled-two 0 (32 + k) 32 k refl)
+  free =
+      let l = length-termsWords ts in
+      filled-after 0 size (32 + k) (termsWords ts) (omega arith) ∙ ap (λ r. termsWords ts ++ r) (filled-two 0 (32 + k) 32 k refl)
 
   after-terms : drop at store ≡ filled 32 0 [] ++ filled k 0 []
-  after-terms = let l = words-length ts in rw free (drop-at (termsWords ts) (filled 32 0 [] ++ filled k 0 []) at (omega arith))
+  after-terms = let l = length-termsWords ts in rw free (drop-at (termsWords ts) (filled 32 0 [] ++ filled k 0 []) at (omega arith))
 
   -- the part of the next term
   pub part-free : take 32 (drop at store) ≡ filled 32 0 []
-  part-free = rw after-terms (take-at (filled 32 0 []) (filled k 0 []) 32 (filled-length 0 32 []))
+  part-free = rw after-terms (take-at (filled 32 0 []) (filled k 0 []) 32 (length-filled 0 32 []))
 
   before : take at store ≡ termsWords ts
-  before = let l = words-length ts in rw free (take-at (termsWords ts) (filled 32 0 [] ++ filled k 0 []) at (omega arith))
+  before = let l = length-termsWords ts in rw free (take-at (termsWords ts) (filled 32 0 [] ++ filled k 0 []) at (omega arith))
 
   behind : drop 32 (drop at store) ≡ filled k 0 []
-  behind = rw after-terms (drop-at (filled 32 0 []) (filled k 0 []) 32 (filled-length 0 32 []))
+  behind = rw after-terms (drop-at (filled 32 0 []) (filled k 0 []) 32 (length-filled 0 32 []))
 
   with-part : (t : D.Term) → filled size 0 (termsWords ts ++ filled 32 0 (termWords t)) ≡ termsWords ts ++ (filled 32 0 (termWords t) ++ filled k 0 [])
   with-part t =
-      let l = words-length ts in
-      let f = filled-length 0 32 (termWords t) in
+      let l = length-termsWords ts in
+      let f = length-filled 0 32 (termWords t) in
       filled-past 0 size (32 + k) (termsWords ts) (filled 32 0 (termWords t)) (omega arith)
       ∙ ap (λ r. termsWords ts ++ r) (filled-after 0 (32 + k) k (filled 32 0 (termWords t)) (omega arith))
 

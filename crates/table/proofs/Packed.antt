@@ -1,50 +1,16 @@
--- A term packed in a word and taken out again: its kind is kept, and a term of small numbers comes back whole.
+-- A term of a legal description comes back from its word.
 -- Assumes nothing.
-use mathlib.Core.Path.{_≡_, refl, ap, _∙_}
+use mathlib.Core.Path.{_≡_, refl}
 use mathlib.Core.List.{List, [], _∷_, map}
-use Prim.Native.Nat.{ℕ, suc, _+_, _*_, _/_, _%_, _^_, _≤_, _<_, zero-le}
-use native.Mathlib.Nat.{mod-eq-of-lt}
+use Prim.Native.Nat.{ℕ, suc, _+_, _*_, _≤_, _<_, zero-le}
 use native.Mathlib.Omega.{arith}
 use lib.ListN.{length, length-map}
 use Rattle.meaning.specs.Sets.{Rising}
 use Rattle.meaning.specs.Descriptions as D
 use Rattle.meaning.specs.Legal.{Each, LegalPair, LegalOperator, LegalTerm}
-use Rattle.labels.proofs.Words.{power}
 use Rattle.table.specs.Encoded.{termFor}
-use Rattle.table.specs.Packed.{packed, termWord, kindTerm, wordTerm}
-
--- what is moved up by so many bits again and again, as long as it stays in the word
-pub moved-up : (bits x n : ℕ) → x * (2 ^ bits) ^ n < 2 ^ 64 → (x * 2 ^ (bits * n)) % 2 ^ 64 ≡ x * (2 ^ bits) ^ n
-moved-up bits x n h = ap (λ (p : ℕ). (x * p) % 2 ^ 64) (power bits n) ∙ mod-eq-of-lt h
-
--- the numbers of a packed word
-module _ (k t u entries : ℕ) (h : k < 32) where
-  kind-of : packed k t u entries % 32 ≡ k
-  unfolding packed
-  kind-of = omega arith
-
-  first-of : packed k t u entries / 32 % 65536 ≡ t % 65536
-  unfolding packed
-  first-of = omega arith
-
-  second-of : packed k t u entries / 2097152 % 65536 ≡ u % 65536
-  unfolding packed
-  second-of = omega arith
-
-  third-of : packed k t u entries / 137438953472 % 65536 ≡ entries % 65536
-  unfolding packed
-  third-of = omega arith
-
-  pub taken-out : wordTerm (packed k t u entries) ≡ kindTerm k (t % 65536) (u % 65536) (entries % 65536)
-  unfolding wordTerm
-  taken-out = rw (kind-of, first-of, second-of, third-of)
-
-  pub comes-back : t < 65536 → u < 65536 → entries < 65536 → wordTerm (packed k t u entries) ≡ kindTerm k t u entries
-  comes-back a b c =
-      let x : t % 65536 ≡ t = omega arith in
-      let y : u % 65536 ≡ u = omega arith in
-      let z : entries % 65536 ≡ entries = omega arith in
-      rw (taken-out, x, y, z)
+use Rattle.slots.specs.Packing.{packed, termWord, kindTerm, wordTerm}
+use Rattle.slots.proofs.Packed.{wordTerm-small}
 
 -- Strictly ascending numbers below m are at most m.
 rising-from : (m x : ℕ) (xs : List ℕ) → Rising (x ∷ xs) → Each (λ y. y < m) (x ∷ xs) → x + suc (length xs) ≤ m
@@ -64,18 +30,22 @@ rising-pairs m ps low up = omega (arith, rising-few m (map (λ p. p .left) ps) u
 
 -- The terms of a legal description: every number of theirs is small.
 module _ (d : D.Description) (narrow : D.names d ≤ 12) (few : D.equations d ≤ 16) (n : ℕ) (h : n < 96) where
-  wrap-back : (o : D.Operator) (u : ℕ) → u < n → LegalOperator (D.names d) o → wordTerm (termWord (termFor n (D.wrap o u))) ≡ termFor n (D.wrap o u)
-  wrap-back (D.block ns) u b l = comes-back 12 (32 * n) u (length ns) (omega arith) (omega arith) (omega arith) (omega (arith, rising-few (D.names d) ns (l .2) (l .1)))
-  wrap-back (D.hide ns) u b l = comes-back 13 (32 * n) u (length ns) (omega arith) (omega arith) (omega arith) (omega (arith, rising-few (D.names d) ns (l .2) (l .1)))
-  wrap-back (D.rename ps) u b l = comes-back 14 (32 * n) u (length ps) (omega arith) (omega arith) (omega arith) (omega (arith, rising-pairs (D.names d) ps (l .1) (l .2)))
-  wrap-back (D.comm rs) u b l = comes-back 15 (32 * n) u (length rs) (omega arith) (omega arith) (omega arith) (omega (arith, l .1))
-  wrap-back (D.allow ls) u b l = comes-back 16 (32 * n) u (length ls) (omega arith) (omega arith) (omega arith) (omega (arith, l .0))
+  listed-back : (k u entries : ℕ) → k < 32 → u < n → entries ≤ 32 → wordTerm (packed k (32 * n) u entries) ≡ kindTerm k (32 * n) u entries
+  listed-back k u entries s b e = wordTerm-small k (32 * n) u entries s (omega arith) (omega arith) (omega arith)
+
+  wrap-back : (o : D.Operator) (u : ℕ) → u < n → LegalOperator (D.names d) o
+      → wordTerm (termWord (termFor n (D.wrap o u))) ≡ termFor n (D.wrap o u)
+  wrap-back (D.block ns) u b l = listed-back 12 u (length ns) (omega arith) b (omega (arith, rising-few (D.names d) ns (l .2) (l .1)))
+  wrap-back (D.hide ns) u b l = listed-back 13 u (length ns) (omega arith) b (omega (arith, rising-few (D.names d) ns (l .2) (l .1)))
+  wrap-back (D.rename ps) u b l = listed-back 14 u (length ps) (omega arith) b (omega (arith, rising-pairs (D.names d) ps (l .1) (l .2)))
+  wrap-back (D.comm rs) u b l = listed-back 15 u (length rs) (omega arith) b (omega (arith, l .1))
+  wrap-back (D.allow ls) u b l = listed-back 16 u (length ls) (omega arith) b (omega (arith, l .0))
 
   two-back : (k t u : ℕ) → k < 32 → (t < n) × (u < n) → wordTerm (packed k t u 0) ≡ kindTerm k t u 0
-  two-back k t u s b = comes-back k t u 0 s (omega (arith, b .0)) (omega (arith, b .1)) (omega arith)
+  two-back k t u s b = wordTerm-small k t u 0 s (omega (arith, b .0)) (omega (arith, b .1)) (omega arith)
 
   one-back : (k u : ℕ) → k < 32 → u < 96 → wordTerm (packed k 0 u 0) ≡ kindTerm k 0 u 0
-  one-back k u s b = comes-back k 0 u 0 s (omega arith) (omega arith) (omega arith)
+  one-back k u s b = wordTerm-small k 0 u 0 s (omega arith) (omega arith) (omega arith)
 
   pub term-back : (t : D.Term) → LegalTerm d n t → wordTerm (termWord (termFor n t)) ≡ termFor n t
   unfolding wordTerm

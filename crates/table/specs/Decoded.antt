@@ -5,15 +5,15 @@ use mathlib.Core.Bool.{true, false}
 use Prim.Native.Nat.{ℕ, zero, suc, _*_, _/_, _%_}
 use lib.Dec.{eqb}
 use lib.ListN.{take, drop}
-use Rattle.table.specs.declared.Place.{Place}
-use Rattle.table.specs.declared.Operator.{Operator}
-use Rattle.table.specs.declared.Operator.the-variants.{Block, Hide, Rename, Comm, Allow}
-use Rattle.table.specs.declared.Term.{Term}
-use Rattle.table.specs.declared.Term.the-variants.{Delta, Tau, Act, Ref, Sum, Cond, Choice, IfElse, Seq, Merge, LMerge, Sync, Wrap}
+use Rattle.slots.specs.declared.Place.{Place}
+use Rattle.slots.specs.declared.Operator.{Operator}
+use Rattle.slots.specs.declared.Operator.the-variants.{Block, Hide, Rename, Comm, Allow}
+use Rattle.slots.specs.declared.Term.{Term}
+use Rattle.slots.specs.declared.Term.the-variants.{Delta, Tau, Act, Ref, Sum, Cond, Choice, IfElse, Seq, Merge, LMerge, Sync, Wrap}
 use Rattle.meaning.specs.Bytes.{Text}
 use Rattle.meaning.specs.Labels.{labelOf}
 use Rattle.meaning.specs.Descriptions as D
-use Rattle.labels.specs.Pairs.{pairsIn}
+use Rattle.areas.specs.Pairs.{pairsIn}
 
 -- A name's bytes, the first in the lowest eight bits of its word; a byte 0 ends it.
 unfoldable pub nameOf : ℕ → ℕ → Text

@@ -4,19 +4,19 @@
 use mathlib.Core.List.{List, [], _∷_, _++_, map}
 use Prim.Native.Nat.{ℕ, zero, suc, _+_, _*_}
 use lib.ListN.{length}
-use Rattle.table.specs.declared.Place.{Place}
-use Rattle.table.specs.declared.Operator.{Operator}
-use Rattle.table.specs.declared.Operator.the-variants.{Block, Hide, Rename, Comm, Allow}
-use Rattle.table.specs.declared.Term.{Term}
-use Rattle.table.specs.declared.Term.the-variants.{Delta, Tau, Act, Ref, Sum, Cond, Choice, IfElse, Seq, Merge, LMerge, Sync, Wrap}
+use Rattle.slots.specs.declared.Place.{Place}
+use Rattle.slots.specs.declared.Operator.{Operator}
+use Rattle.slots.specs.declared.Operator.the-variants.{Block, Hide, Rename, Comm, Allow}
+use Rattle.slots.specs.declared.Term.{Term}
+use Rattle.slots.specs.declared.Term.the-variants.{Delta, Tau, Act, Ref, Sum, Cond, Choice, IfElse, Seq, Merge, LMerge, Sync, Wrap}
 use Rattle.table.specs.declared.Order.{Order}
 use Rattle.table.specs.declared.Order.the-variants.{All, Only}
 use Rattle.table.specs.declared.Table.{Table}
-use Rattle.table.specs.Packed.{termWord}
+use Rattle.slots.specs.Packing.{termWord}
 use Rattle.meaning.specs.Bytes.{Text}
 use Rattle.meaning.specs.Labels.{number}
 use Rattle.meaning.specs.Descriptions as D
-pub use Rattle.labels.specs.Pairs.{pairWord}
+pub use Rattle.areas.specs.Pairs.{pairWord}
 
 -- the first so many of a list, with a filler where it has fewer
 unfoldable pub filled : {A : Type 0} → ℕ → A → List A → List A

@@ -2,5 +2,3 @@
 pub mod Decoded
 pub mod Encoded
 pub mod Terms
-pub mod Packed
-pub mod Areas

@@ -1,8 +1,8 @@
 -- A term of the code whose operands are all that it has, as a term of a description.
 -- Assumes nothing.
 use mathlib.Core.List.{[]}
-use Rattle.table.specs.declared.Term.{Term}
-use Rattle.table.specs.declared.Term.the-variants.{Delta, Tau, Act, Ref, Sum, Cond, Choice, IfElse, Seq, Merge, LMerge, Sync, Wrap}
+use Rattle.slots.specs.declared.Term.{Term}
+use Rattle.slots.specs.declared.Term.the-variants.{Delta, Tau, Act, Ref, Sum, Cond, Choice, IfElse, Seq, Merge, LMerge, Sync, Wrap}
 use Rattle.table.specs.Decoded.{termOf}
 use Rattle.meaning.specs.Descriptions as D
 

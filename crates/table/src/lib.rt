@@ -1,12 +1,10 @@
 // The table of a description: what reading makes of a text, and what the sets are worked out from.
 //
-// A term is an enum; the five operators with a list are an inner enum, each with the place of its list in a list
-// store that stands beside the table. The order is kept beside the table too.
-
-pub mod areas;
+// Terms stand in slots, each packed in a word as the crate `slots` says. Their lists stand in a list store beside the table. The
+// order is kept beside the table too.
 pub mod lists;
-pub mod packing;
 
+use slots::Place;
 ghost use mathlib.Core.Path.{_≡_};
 ghost use Rattle.table.specs.Encoded.{blank, tableOf};
 
@@ -19,36 +17,7 @@ pub const TERMS: usize = 96;
 // The words of the list store: 32 for each term, and as many for the order.
 pub const STORE_WORDS: usize = 3104;
 
-// Where a list stands in the store: its first word, and how many entries it has.
-pub struct Place {
-    pub at: usize,
-    pub entries: usize,
-}
-
-pub enum Operator {
-    Block(Place),
-    Hide(Place),
-    Rename(Place),
-    Comm(Place),
-    Allow(Place),
-}
-
-pub enum Term {
-    Delta,
-    Tau,
-    Act(usize),
-    Ref(usize),
-    Sum(usize),
-    Cond(usize),
-    Choice(usize, usize),
-    IfElse(usize, usize),
-    Seq(usize, usize),
-    Merge(usize, usize),
-    LMerge(usize, usize),
-    Sync(usize, usize),
-    Wrap(Operator, usize),
-}
-
+// What is asked for: all labels, or only those of a list.
 pub enum Order {
     All,
     Only(Place),

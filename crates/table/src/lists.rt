@@ -1,5 +1,5 @@
 // The lists of terms and orders, in the list store beside the table.
-use crate::Place;
+use slots::Place;
 ghost use mathlib.Core.Path.{_≡_};
 ghost use lib.ListN.{take, drop};
 ghost use Rattle.table.specs.Decoded.{wordsAt};

@@ -1,0 +1,11 @@
+-- Any two results that meet a promise are equal, where the promise is not an equation on the result itself.
+-- Assumes nothing.
+use mathlib.Core.Path.{_≡_}
+use mathlib.Core.List.{List}
+use Prim.Native.Nat.{ℕ}
+use Rattle.meaning.proofs.Alike.{alike}
+use Rattle.areas.specs.Rows.{held}
+
+-- The labels that are held settle the words.
+pub held-unique : (words₁ words₂ ls : List ℕ) → held words₁ ≡ ls → held words₂ ≡ ls → words₁ ≡ words₂
+held-unique words₁ words₂ ls p q = alike p q

@@ -1,0 +1,20 @@
+-- Labels in a row of words: one word holds one label.
+-- Assumes nothing.
+use mathlib.Core.Bool.{_&&_}
+use mathlib.Core.List.{List, _++_}
+use Prim.Native.Nat.{ℕ, _+_, _-_}
+use lib.Dec.{leb, ltb}
+use lib.ListN.{length, take, drop}
+use Rattle.meaning.specs.Rounds.{pick}
+
+-- The numbers of the labels that the words hold, in the order in which they stand. They settle the words.
+abbrev pub held : List ℕ → List ℕ
+held words = words
+
+-- The labels from one place up to another, each one place further up; the one at the second is lost. They move if the second
+-- is a place of the list and not before the first.
+unfoldable pub movedUp : ℕ → ℕ → List ℕ → List ℕ
+movedUp from to ls =
+    pick (leb from to && ltb to (length ls))
+    (take (from + 1) ls ++ take (to - from) (drop from ls) ++ drop (to + 1) ls)
+    ls

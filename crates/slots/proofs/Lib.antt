@@ -1,0 +1,2 @@
+-- wordTerm-packed, wordTerm-small: what comes out of the word of a kind and its numbers
+pub mod Packed

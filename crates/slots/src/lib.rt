@@ -1,0 +1,35 @@
+// A term of a description as the code looks at it, and the word in which a slot of the table keeps it.
+//
+// A term is an enum; the five operators with a list are an inner enum, each with the place of its list in a list store that
+// stands beside the table.
+pub mod packing;
+
+// Where a list stands in the store: its first word, and how many entries it has.
+pub struct Place {
+    pub at: usize,
+    pub entries: usize,
+}
+
+pub enum Operator {
+    Block(Place),
+    Hide(Place),
+    Rename(Place),
+    Comm(Place),
+    Allow(Place),
+}
+
+pub enum Term {
+    Delta,
+    Tau,
+    Act(usize),
+    Ref(usize),
+    Sum(usize),
+    Cond(usize),
+    Choice(usize, usize),
+    IfElse(usize, usize),
+    Seq(usize, usize),
+    Merge(usize, usize),
+    LMerge(usize, usize),
+    Sync(usize, usize),
+    Wrap(Operator, usize),
+}
