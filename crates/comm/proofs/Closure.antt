@@ -15,7 +15,7 @@ use Rattle.sets.specs.declared.Built.{Built}
 use Rattle.sets.specs.declared.Built.the-variants.{TooLarge, Holds}
 use Rattle.sets.specs.declared.Offer.{Offer}
 use Rattle.sets.specs.declared.Offer.the-variants.{Nothing, TooLong, Next}
-use Rattle.sets.specs.Parts.{setAt, roomAt, reachOf}
+use Rattle.parts.specs.Parts.{setAt, roomAt, reachOf}
 use Rattle.sets.specs.Inserting.{inserted, Entered}
 use Rattle.sets.specs.Building.{Building, done, next, followed, enter, taken, Grown}
 use Rattle.sets.proofs.Steps.{Steady, steady-done, steady-next, steady-followed, steady-taken, steady-enter, Going, going-start, going-length, going-end, going-stop, going-as, going-holds, going-large, going-last, grown-as, followed-stops, followed-stays, followed-going, followed-ends, insertedThen}

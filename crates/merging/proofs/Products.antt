@@ -16,8 +16,8 @@ use Rattle.meaning.specs.Rounds.{pick}
 use Rattle.labels.specs.Bags.{sumOf}
 use Rattle.labels.proofs.Meant.{Packs, sum-number}
 use Rattle.sets.specs.declared.Built.{Built}
-use Rattle.sets.specs.declared.Part.{Part}
-use Rattle.sets.specs.Parts.{wordsOf, roomAt}
+use Rattle.parts.specs.declared.Part.{Part}
+use Rattle.parts.specs.Parts.{wordsOf, roomAt}
 use Rattle.sets.specs.Building.{Building, Grown, enter, summed}
 use Rattle.sets.proofs.Meant.{AllPack, each-outcome}
 use Rattle.sets.proofs.Outcomes.{Offered, one, over, Anything, Result, taken-outcome}

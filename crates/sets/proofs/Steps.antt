@@ -16,10 +16,10 @@ use Rattle.sets.specs.declared.Built.{Built}
 use Rattle.sets.specs.declared.Built.the-variants.{TooLarge, Holds}
 use Rattle.sets.specs.declared.Offer.{Offer}
 use Rattle.sets.specs.declared.Offer.the-variants.{Nothing, TooLong, Next}
-use Rattle.sets.specs.Parts.{setAt, laid, roomAt, reachOf}
+use Rattle.parts.specs.Parts.{setAt, laid, roomAt, reachOf}
 use Rattle.sets.specs.Inserting.{present, putIn, pickInserted, inserted, Entered}
 use Rattle.sets.specs.Building.{Building, done, stopped, pickBuilt, answerOf, goesOn, next, each, followed, enter, taken, Grown}
-use Rattle.sets.proofs.Laid.{Fits, length-setAt, laid-self, length-laid, setAt-laid, laid-laid}
+use Rattle.parts.proofs.Laid.{Fits, length-setAt, laid-self, length-laid, setAt-laid, laid-laid}
 
 -- The length of a set under each step.
 pub length-putIn : (s : List ℕ) (w : ℕ) → length (putIn s w) ≡ suc (length s)

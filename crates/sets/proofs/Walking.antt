@@ -10,23 +10,14 @@ use lib.ListN.{length, getD, take, drop, length-take, drop-of-length-le}
 use lib.Seq.{take-take, take-all, slice-cons}
 use Rattle.sets.specs.declared.Built.{Built}
 use Rattle.sets.specs.declared.Built.the-variants.{TooLarge, Holds}
-use Rattle.sets.specs.declared.Part.{Part}
-use Rattle.sets.specs.declared.Target.{Target}
-use Rattle.sets.specs.Parts.{setAt, laid, partBefore, wordsOf, roomAt, reachOf}
+use Rattle.parts.specs.declared.Part.{Part}
+use Rattle.parts.specs.declared.Target.{Target}
+use Rattle.parts.specs.Parts.{setAt, laid, partBefore, wordsOf, roomAt, reachOf}
 use Rattle.sets.specs.Building.{Building, answerOf, next, each, Grown, GrownAt}
-use Rattle.sets.proofs.Laid.{setAt-reach, getD-laid, take-laid, take-min}
+use Rattle.parts.proofs.Laid.{setAt-reach, getD-laid, take-laid, part-end}
 use Rattle.sets.proofs.Steps.{Steady, Going, going-start, going-length, going-end, going-as, going-holds, going-large}
 
--- A part before a place, by its end in the list; it does not change while the set is built.
-take-both : (m n : ℕ) (l : List ℕ) → take m (take n l) ≡ take (min m n) l
-take-both m n l = elim (decLe m n) [
-  | yes h ↦ let e : min m n ≡ m = omega arith in rw e (take-take m n l h)
-  | no h ↦ let e : min m n ≡ n = omega arith in rw e (take-all m (take n l) (rw (length-take n l) (omega arith)))
-]
-
-pub part-end : (at from to : ℕ) (ls : List ℕ) → partBefore at from to ls ≡ drop from (take (min (min to at) (length ls)) ls)
-part-end at from to ls = ap (drop from) (take-both to at ls ∙ sym (take-min (min to at) ls))
-
+-- A part before a place does not change while the set is built.
 pub part-stays : {at len : ℕ} {before now : List ℕ} {rest : List ℕ → Building} {goal : Building} (from to : ℕ) → Going at before now len rest goal
     → partBefore at from to now ≡ partBefore at from to before
 part-stays {at} {before = before} from to x =

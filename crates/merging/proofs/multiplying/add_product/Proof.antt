@@ -4,7 +4,7 @@ use mathlib.Core.Path.{ap, _∙_}
 use Prim.Native.Nat.{_-_}
 use native.Mathlib.Omega.{arith}
 use borrow.Author.Needs.{needs}
-use Rattle.sets.specs.Parts.{wordsOf}
+use Rattle.parts.specs.Parts.{wordsOf}
 use Rattle.merging.specs.Multiplying.{row}
 use Rattle.merging.proofs.Products.{steady-row, row-stays}
 use Rattle.sets.proofs.Walking.{Walk, walk-start, walk-length, walk-end, walk-holds, walk-large, walked}

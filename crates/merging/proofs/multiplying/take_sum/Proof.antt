@@ -1,7 +1,7 @@
 -- `merging::multiplying::take_sum` meets its contract. Assumes nothing.
 use mathlib.Core.Path.{refl, sym}
 use borrow.Author.Needs.{needs}
-use Rattle.sets.proofs.Laid.{laid-self}
+use Rattle.parts.proofs.Laid.{laid-self}
 use Rattle.merging.proofs.multiplying.take_sum.Statement.{statement}
 use Rattle.merging.proofs.multiplying.take_sum.Tie as tie
 

@@ -5,8 +5,8 @@ use labels::packing::below;
 use labels::packing::read_label;
 ghost use mathlib.Core.Path.{_≡_};
 ghost use Rattle.labels.specs.Packing.{held};
-ghost use Rattle.sets.specs.Parts.{partBefore, wordsOf};
-ghost use Rattle.sets.specs.Comparing.{ascent};
+ghost use Rattle.parts.specs.Parts.{partBefore, wordsOf};
+ghost use Rattle.parts.specs.Comparing.{ascent};
 
 // Up to where a part that stands before a place ascends.
 pub fn ascent_end(words: &[u64], part: Part, at: usize) -> usize

@@ -1,4 +1,4 @@
--- `sets::comparing::ascent_end` meets its contract. The loop's invariant: the labels up to the i-th ascend; the measure is how
+-- `parts::comparing::ascent_end` meets its contract. The loop's invariant: the labels up to the i-th ascend; the measure is how
 -- many are left. Assumes nothing.
 use mathlib.Core.Path.{_≡_, sym, ap₂, _∙_}
 use Prim.Native.Nat.{_+_, _-_}
@@ -7,9 +7,9 @@ use borrow.Author.Needs.{needs}
 use borrow.Author.Tests.{ltb-true, ltb-false, not-true, not-false}
 use lib.Dec.{ltb}
 use lib.ListN.{getD}
-use Rattle.sets.proofs.Ascents.{Climb, climb-start, climb-goes, climb-stops, climb-ends, ascent-part, ascent-none}
-use Rattle.sets.proofs.comparing.ascent_end.Statement.{statement}
-use Rattle.sets.proofs.comparing.ascent_end.Tie as tie
+use Rattle.parts.proofs.Ascents.{Climb, climb-start, climb-goes, climb-stops, climb-ends, ascent-part, ascent-none}
+use Rattle.parts.proofs.comparing.ascent_end.Statement.{statement}
+use Rattle.parts.proofs.comparing.ascent_end.Tie as tie
 
 abbrev Inv-loop : tie.InvT-loop
 Inv-loop words at from end i₀ i = Climb words from end i

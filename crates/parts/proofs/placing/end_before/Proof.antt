@@ -1,8 +1,8 @@
--- `sets::placing::end_before` meets its contract; written out so that a change is refused here and not at a caller.
+-- `parts::placing::end_before` meets its contract; written out so that a change is refused here and not at a caller.
 -- Assumes nothing.
 use borrow.Author.Needs.{needs}
-use Rattle.sets.proofs.placing.end_before.Statement.{statement}
-use Rattle.sets.proofs.placing.end_before.Tie as tie
+use Rattle.parts.proofs.placing.end_before.Statement.{statement}
+use Rattle.parts.proofs.placing.end_before.Tie as tie
 
 smaller-requires : tie.Need-smaller-requires
 smaller-requires c κs = search needs

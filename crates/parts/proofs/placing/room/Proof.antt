@@ -1,8 +1,8 @@
--- `sets::placing::room` meets its contract; written out so that a change is refused here and not at a caller.
+-- `parts::placing::room` meets its contract; written out so that a change is refused here and not at a caller.
 -- Assumes nothing.
 use borrow.Author.Needs.{needs}
-use Rattle.sets.proofs.placing.room.Statement.{statement}
-use Rattle.sets.proofs.placing.room.Tie as tie
+use Rattle.parts.proofs.placing.room.Statement.{statement}
+use Rattle.parts.proofs.placing.room.Tie as tie
 
 labels-in-requires : tie.Need-labels-in-requires
 labels-in-requires c κs = search needs

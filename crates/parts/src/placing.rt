@@ -5,7 +5,7 @@ ghost use mathlib.Core.Path.{_≡_};
 ghost use Prim.Native.Nat.{min};
 ghost use lib.ListN.{length};
 ghost use Rattle.labels.specs.Packing.{held};
-ghost use Rattle.sets.specs.Parts.{roomAt, reachOf};
+ghost use Rattle.parts.specs.Parts.{roomAt, reachOf};
 
 fn smaller(a: usize, b: usize) -> usize
     ensures { λ r. ⌜ r ≡ min a b ⌝ }

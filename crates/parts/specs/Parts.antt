@@ -3,7 +3,7 @@
 use mathlib.Core.List.{List, _++_}
 use Prim.Native.Nat.{ℕ, _+_, _-_, min}
 use lib.ListN.{length, take, drop}
-use Rattle.sets.specs.declared.Part.{Part}
+use Rattle.parts.specs.declared.Part.{Part}
 
 -- The labels from one place up to another, and those that stand before a third place as well.
 abbrev pub part : ℕ → ℕ → List ℕ → List ℕ
