@@ -23,7 +23,7 @@ use Rattle.sets.proofs.Meant.{AllPack, each-outcome}
 use Rattle.sets.proofs.Outcomes.{Offered, one, over, Anything, Result, taken-outcome}
 use Rattle.sets.proofs.Walking.{Walk, walk-words}
 use Rattle.sets.proofs.Steps.{grown-as, Steady, steady-each, steady-enter, steady-taken}
-use Rattle.merging.specs.Multiplying.{added, row, multiplied}
+use Rattle.products.specs.Multiplying.{added, row, multiplied}
 
 pub steady-added : (room a w : ℕ) → Steady room (added room a w)
 steady-added room a w = steady-taken room (enter room) (summed (sumOf a w)) (steady-enter room)

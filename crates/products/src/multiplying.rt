@@ -12,7 +12,7 @@ use sets::inserting::enter;
 ghost use Rattle.labels.specs.Packing.{held, code};
 ghost use Rattle.parts.specs.Parts.{wordsOf};
 ghost use Rattle.sets.specs.Building.{GrownAt, enter, taken, summed};
-ghost use Rattle.merging.specs.Multiplying.{row, multiplied};
+ghost use Rattle.products.specs.Multiplying.{row, multiplied};
 
 // A sum goes into a set, unless it has over 31 actions.
 fn take_sum(words: &mut [u64], target: Target, result: Sum) -> Built

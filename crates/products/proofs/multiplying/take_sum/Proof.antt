@@ -1,9 +1,9 @@
--- `merging::multiplying::take_sum` meets its contract. Assumes nothing.
+-- `products::multiplying::take_sum` meets its contract. Assumes nothing.
 use mathlib.Core.Path.{refl, sym}
 use borrow.Author.Needs.{needs}
 use Rattle.parts.proofs.Laid.{laid-self}
-use Rattle.merging.proofs.multiplying.take_sum.Statement.{statement}
-use Rattle.merging.proofs.multiplying.take_sum.Tie as tie
+use Rattle.products.proofs.multiplying.take_sum.Statement.{statement}
+use Rattle.products.proofs.multiplying.take_sum.Tie as tie
 
 enum-told : tie.Need-enum-told
 enum-told c = search needs

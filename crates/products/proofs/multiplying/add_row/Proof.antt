@@ -1,14 +1,14 @@
--- `merging::multiplying::add_row` meets its contract. The loop's invariant: the sums with the labels from the i-th on are to come; the
+-- `products::multiplying::add_row` meets its contract. The loop's invariant: the sums with the labels from the i-th on are to come; the
 -- measure is how many they are. Assumes nothing.
 use mathlib.Core.Path.{ap, _∙_}
 use Prim.Native.Nat.{_-_}
 use native.Mathlib.Omega.{arith}
 use borrow.Author.Needs.{needs}
-use Rattle.merging.specs.Multiplying.{added}
-use Rattle.merging.proofs.Products.{steady-added}
+use Rattle.products.specs.Multiplying.{added}
+use Rattle.products.proofs.Products.{steady-added}
 use Rattle.sets.proofs.Walking.{Walk, walk-start, walk-length, walk-end, walk-holds, walk-large, walked}
-use Rattle.merging.proofs.multiplying.add_row.Statement.{statement}
-use Rattle.merging.proofs.multiplying.add_row.Tie as tie
+use Rattle.products.proofs.multiplying.add_row.Statement.{statement}
+use Rattle.products.proofs.multiplying.add_row.Tie as tie
 
 abbrev Inv-loop : tie.InvT-loop
 Inv-loop words₀ label at most count₀ end i₀ words count i = Walk (λ room. added room (label .word)) at most words₀ count₀ end i₀ words count i

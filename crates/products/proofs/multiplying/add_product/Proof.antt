@@ -1,15 +1,15 @@
--- `merging::multiplying::add_product` meets its contract. The loop's invariant: the products with the labels from the i-th on are to come; the
+-- `products::multiplying::add_product` meets its contract. The loop's invariant: the products with the labels from the i-th on are to come; the
 -- measure is how many they are. Assumes nothing.
 use mathlib.Core.Path.{ap, _∙_}
 use Prim.Native.Nat.{_-_}
 use native.Mathlib.Omega.{arith}
 use borrow.Author.Needs.{needs}
 use Rattle.parts.specs.Parts.{wordsOf}
-use Rattle.merging.specs.Multiplying.{row}
-use Rattle.merging.proofs.Products.{steady-row, row-stays}
+use Rattle.products.specs.Multiplying.{row}
+use Rattle.products.proofs.Products.{steady-row, row-stays}
 use Rattle.sets.proofs.Walking.{Walk, walk-start, walk-length, walk-end, walk-holds, walk-large, walked}
-use Rattle.merging.proofs.multiplying.add_product.Statement.{statement}
-use Rattle.merging.proofs.multiplying.add_product.Tie as tie
+use Rattle.products.proofs.multiplying.add_product.Statement.{statement}
+use Rattle.products.proofs.multiplying.add_product.Tie as tie
 
 abbrev Inv-loop : tie.InvT-loop
 Inv-loop words₀ by at most count₀ end i₀ words count i = Walk (λ room. row room (wordsOf at by words₀)) at most words₀ count₀ end i₀ words count i
