@@ -22,9 +22,13 @@ setAt at len ls = take len (drop at ls)
 unfoldable pub laid : ℕ → List ℕ → List ℕ → List ℕ
 laid at set ls = take at ls ++ set ++ drop (at + length set) ls
 
--- How many labels a set at a place may hold: as many as are given, 1,024, and as the list has places.
-abbrev pub roomAt : ℕ → ℕ → ℕ → ℕ
-roomAt at most end = min (min most 1024) (end - at)
+-- How many labels a set at a place may hold: as many as are given, as a set may have, and as the list has places.
+abbrev pub mostLabels : ℕ
+mostLabels = 1024
 
+abbrev pub roomAt : ℕ → ℕ → ℕ → ℕ
+roomAt at most end = min (min most mostLabels) (end - at)
+
+-- how many of `len` labels from a place on lie in the list
 abbrev pub reachOf : ℕ → ℕ → ℕ → ℕ
 reachOf at len end = min len (end - at)

@@ -7,6 +7,7 @@ ghost use lib.ListN.{length};
 ghost use Rattle.labels.specs.Packing.{held};
 ghost use Rattle.parts.specs.Parts.{roomAt, reachOf};
 
+// The smaller of two numbers.
 fn smaller(a: usize, b: usize) -> usize
     ensures { λ r. ⌜ r ≡ min a b ⌝ }
 {

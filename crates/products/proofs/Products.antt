@@ -19,7 +19,7 @@ use Rattle.sets.specs.declared.Built.{Built}
 use Rattle.parts.specs.declared.Part.{Part}
 use Rattle.parts.specs.Parts.{wordsOf, roomAt}
 use Rattle.sets.specs.Building.{Building, Grown, enter, summed}
-use Rattle.sets.proofs.Meant.{AllPack, each-outcome}
+use Rattle.sets.proofs.Refinement.{AllPack, each-outcome}
 use Rattle.sets.proofs.Outcomes.{Offered, one, over, Anything, Result, taken-outcome}
 use Rattle.sets.proofs.Walking.{Walk, walk-words}
 use Rattle.sets.proofs.Steps.{grown-as, Steady, steady-each, steady-enter, steady-taken}
@@ -36,7 +36,8 @@ pub row-stays : {step : ℕ → ℕ → List ℕ → Building} {at most : ℕ} {
     (x : Walk step at most before start end from now count i) (by : Part) (w : ℕ) {after : List ℕ} {r : Built}
     → Grown (row (roomAt at most (length now)) (wordsOf at by now) w) at count now after r
     → Grown (row (roomAt at most (length now)) (wordsOf at by before) w) at count now after r
-row-stays {at = at} {most} {now = now} x by w g = grown-as (λ s. ap (λ (b : List ℕ). row (roomAt at most (length now)) b w s) (walk-words x by)) g
+row-stays {at = at} {most} {now = now} x by w g =
+    grown-as (λ s. ap (λ (b : List ℕ). row (roomAt at most (length now)) b w s) (walk-words x by)) g
 
 -- What it makes of the numbers of labels.
 plus-offers : {names : ℕ} (t : Bool) (c : Label) → ltb 31 (size c) ≡ t → length c ≡ names
@@ -44,11 +45,13 @@ plus-offers : {names : ℕ} (t : Bool) (c : Label) → ltb 31 (size c) ≡ t →
 plus-offers true c e w = over c (ltb-true 31 (size c) e)
 plus-offers false c e w = one c (record { wide = w; few = ltb-false 31 (size c) e })
 
-sum-offers : (names : ℕ) → names ≤ 12 → (a b : Label) → Packs names a → Packs names b → Offered names (summed (sumOf (number a) (number b))) (plus a b ∷ [])
+sum-offers : (names : ℕ) → names ≤ 12 → (a b : Label) → Packs names a → Packs names b
+    → Offered names (summed (sumOf (number a) (number b))) (plus a b ∷ [])
 sum-offers names few a b p q =
-    rw (sum-number a b few p q) (plus-offers (ltb 31 (size (plus a b))) (plus a b) refl (length-plus names a b (p .wide) (q .wide)))
+    rw (sum-number a b few p q) (plus-offers _ (plus a b) refl (length-plus names a b (p .wide) (q .wide)))
 
-row-outcome : (names room : ℕ) → names ≤ 12 → (a : Label) → Packs names a → (l M : List Label) → AllPack names l → AllPack names M
+row-outcome : (names room : ℕ) → names ≤ 12 → (a : Label) → Packs names a
+    → (l M : List Label) → AllPack names l → AllPack names M
     → Result names room (spread (λ b. plus a b ∷ []) l ++ M) (row room (map number l) (number a) (map number (ascending M)))
 row-outcome names room few a x l M p q =
     each-outcome names room Anything (λ K L w v i. tt) (added room (number a)) (λ b. plus a b ∷ [])
@@ -63,6 +66,10 @@ pub product-outcome : (names room : ℕ) → names ≤ 12 → (s t M : List Labe
     → Result names room (product s t ++ M) (multiplied room (map number s) (map number t) (map number (ascending M)))
 unfolding product
 product-outcome names room few s t M p q r =
-    each-outcome names room Anything (λ K L w v i. tt) (row room (map number t)) (λ a. map (plus a) t)
-    (λ a N x y i. subst (λ (l : List Label). Result names room (l ++ N) (row room (map number t) (number a) (map number (ascending N)))) (spread-turn (plus a) t)
-    (row-outcome names room few a x t N q y)) s M p r tt
+    each-outcome names room Anything (λ K L w v i. tt) (row room (map number t)) (λ a. map (plus a) t) rows s M p r tt
+  where
+    rows : (a : Label) (N : List Label) → Packs names a → AllPack names N → Anything N
+        → Result names room (map (plus a) t ++ N) (row room (map number t) (number a) (map number (ascending N)))
+    rows a N x y i =
+        subst (λ (l : List Label). Result names room (l ++ N) (row room (map number t) (number a) (map number (ascending N))))
+        (spread-turn (plus a) t) (row-outcome names room few a x t N q y)

@@ -3,6 +3,7 @@ use crate::Way;
 use comm::following::MOST_APPLICATIONS;
 use comm::following::close;
 use labels::Label;
+use labels::NAMES;
 use labels::packing::labels_in;
 use labels::packing::read_label;
 use labels::packing::same;
@@ -48,17 +49,17 @@ fn allowed(list: &[u64], label: Label) -> bool
 }
 
 // The map of a renaming, made of the list once for the part; the other ways have none.
-fn map_for(way: Way, list: &[u64]) -> [u64; 12]
+fn map_for(way: Way, list: &[u64]) -> [u64; NAMES]
     ensures { λ r. ⌜ MapFor way (now (list .entry)) r ⌝ }
 {
     match way {
         Way::Rename => renaming(list),
-        _ => [0u64; 12],
+        _ => [0u64; NAMES],
     }
 }
 
 // What a way makes of a label.
-fn made(way: Way, list: &[u64], map: [u64; 12], label: Label) -> Offer
+fn made(way: Way, list: &[u64], map: [u64; NAMES], label: Label) -> Offer
     requires { ⌜ MapFor way (now list) map ⌝ }
     ensures { λ r. ⌜ r ≡ offerOf way (now (list .entry)) (code label) ⌝ }
 {

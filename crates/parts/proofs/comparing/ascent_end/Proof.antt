@@ -7,7 +7,7 @@ use borrow.Author.Needs.{needs}
 use borrow.Author.Tests.{ltb-true, ltb-false, not-true, not-false}
 use lib.Dec.{ltb}
 use lib.ListN.{getD}
-use Rattle.parts.proofs.Ascents.{Climb, climb-start, climb-goes, climb-stops, climb-ends, ascent-part, ascent-none}
+use Rattle.parts.proofs.Ascents.{Climb, climb-start, climb-step, climb-stop, climb-end, ascent-before, ascent-nil}
 use Rattle.parts.proofs.comparing.ascent_end.Statement.{statement}
 use Rattle.parts.proofs.comparing.ascent_end.Tie as tie
 
@@ -22,18 +22,17 @@ end-before-requires c κs = search needs
 
 returns : tie.Need-returns Inv-loop μ-loop
 returns c =
-    let ended = c .before in
-    let a = ended .before .before .args in
+    let end = c .before .end-before in
+    let a = c .before .before .before .args in
     let p = a .part in
-    let end = ended .end-before in
-    ascent-part (a .at) (p .from) (p .to) (end .result) (end .result) (a .words .now) (end .ensures) (omega arith)
-    (ascent-none (p .from) (end .result) (a .words .now) (c .if1 .taken))
+    let ls = a .words .now in
+    ascent-before (a .at) (p .from) (p .to) (end .result) (end .result) ls (end .ensures) (omega arith)
+    (ascent-nil (p .from) (end .result) ls (c .if1 .taken))
 
 loop-holds : tie.Need-loop-holds Inv-loop μ-loop
 loop-holds c =
     let ended = c .before in
-    let a = ended .before .before .args in
-    climb-start (a .words .now) (a .part .from) (ended .end-before .result) (c .if1 .left) (omega (arith, ended .end-before .ensures))
+    climb-start (ended .before .before .args .words .now) (c .if1 .left) (omega (arith, ended .end-before .ensures))
 
 add-loop : tie.Need-add-loop Inv-loop μ-loop
 add-loop c = search needs
@@ -61,14 +60,15 @@ add-result c = omega (arith, c .before .before .before .before .before .loop .in
 
 returns-2 : tie.Need-returns-2 Inv-loop μ-loop
 returns-2 c =
-    let looped = c .before .before .before .before .before in
+    let tested = c .before .before .before .before in
+    let looped = tested .before in
     let ended = looped .before .before in
     let a = ended .before .before .args in
     let ls = a .words .now in
     let i = looped .loop .i in
-    ascent-part (a .at) (a .part .from) (a .part .to) (ended .end-before .result) (i + 1) ls (ended .end-before .ensures)
-    (omega (arith, c .before .before .before .before .loop-test .taken))
-    (climb-stops (looped .loop .inv) (c .before .before .before .before .loop-test .taken)
+    ascent-before (a .at) (a .part .from) (a .part .to) (ended .end-before .result) (i + 1) ls (ended .end-before .ensures)
+    (omega (arith, tested .loop-test .taken))
+    (climb-stop (looped .loop .inv) (tested .loop-test .taken)
     (ltb-false (getD ls i 0) (getD ls (i + 1) 0) (sym (compared (c .before)) ∙ not-true (c .before .below .result) (c .if2 .taken))))
 
 add-i : tie.Need-add-i Inv-loop μ-loop
@@ -79,10 +79,11 @@ loop-less c = omega arith
 
 loop-again : tie.Need-loop-again Inv-loop μ-loop
 loop-again c =
-    let looped = c .before .before .before .before .before in
+    let tested = c .before .before .before .before in
+    let looped = tested .before in
     let ls = looped .before .before .before .before .args .words .now in
     let i = looped .loop .i in
-    climb-goes (looped .loop .inv) (c .before .before .before .before .loop-test .taken)
+    climb-step (looped .loop .inv) (tested .loop-test .taken)
     (ltb-true (getD ls i 0) (getD ls (i + 1) 0) (sym (compared (c .before)) ∙ not-false (c .before .below .result) (c .if2 .left)))
 
 returns-3 : tie.Need-returns-3 Inv-loop μ-loop
@@ -90,8 +91,8 @@ returns-3 c =
     let ended = c .before .before .before in
     let a = ended .before .before .args in
     let end = ended .end-before in
-    ascent-part (a .at) (a .part .from) (a .part .to) (end .result) (end .result) (a .words .now) (end .ensures) (omega arith)
-    (climb-ends (c .before .loop .inv) (c .loop-test .left))
+    ascent-before (a .at) (a .part .from) (a .part .to) (end .result) (end .result) (a .words .now) (end .ensures) (omega arith)
+    (climb-end (c .before .loop .inv) (c .loop-test .left))
 
 pub ascent-end-spec : {M : Type 1} → statement M
 ascent-end-spec =

@@ -1,18 +1,19 @@
--- `products::multiplying::add_product` meets its contract. The loop's invariant: the products with the labels from the i-th on are to come; the
--- measure is how many they are. Assumes nothing.
-use mathlib.Core.Path.{ap, _∙_}
+-- `products::multiplying::add_product` meets its contract. The loop's invariant: the products with the labels from the i-th on are
+-- to come; the measure is how many they are. Assumes nothing.
+use mathlib.Core.Path.{_∙_}
 use Prim.Native.Nat.{_-_}
 use native.Mathlib.Omega.{arith}
 use borrow.Author.Needs.{needs}
 use Rattle.parts.specs.Parts.{wordsOf}
 use Rattle.products.specs.Multiplying.{row}
 use Rattle.products.proofs.Products.{steady-row, row-stays}
-use Rattle.sets.proofs.Walking.{Walk, walk-start, walk-length, walk-end, walk-holds, walk-large, walked}
+use Rattle.sets.proofs.Walking.{Walk, walk-start, walk-length, walk-end, walk-holds, walk-large, walked-part}
 use Rattle.products.proofs.multiplying.add_product.Statement.{statement}
 use Rattle.products.proofs.multiplying.add_product.Tie as tie
 
 abbrev Inv-loop : tie.InvT-loop
-Inv-loop words₀ by at most count₀ end i₀ words count i = Walk (λ room. row room (wordsOf at by words₀)) at most words₀ count₀ end i₀ words count i
+Inv-loop words₀ by at most count₀ end i₀ words count i =
+    Walk (λ room. row room (wordsOf at by words₀)) at most words₀ count₀ end i₀ words count i
 
 abbrev μ-loop : tie.MeasureT-loop
 μ-loop words₀ by at most count₀ end i₀ words count i = end - i
@@ -24,7 +25,7 @@ end-before-requires : tie.Need-end-before-requires Inv-loop μ-loop
 end-before-requires c κs = search needs
 
 loop-holds : tie.Need-loop-holds Inv-loop μ-loop
-loop-holds c = walk-start _ _ _ _ _ _ _ (omega (arith, c .before .before .reach .ensures, c .end-before .ensures))
+loop-holds c = walk-start (omega (arith, c .before .before .reach .ensures, c .end-before .ensures))
 
 read-label-requires : tie.Need-read-label-requires Inv-loop μ-loop
 read-label-requires c κs = search needs
@@ -40,20 +41,20 @@ enum-told c = search needs
 
 same-length : tie.Need-same-length Inv-loop μ-loop
 same-length c =
-    let looped = c .before .before .before .before .before .before .before .before .before in
-    c .before .before .before .before .add-row .kept .0 ∙ walk-length (looped .loop .inv) .0
+    let rowed = c .before .before .before .before in
+    let looped = rowed .before .before .before .before .before in
+    rowed .add-row .kept .0 ∙ walk-length (looped .loop .inv) .0
 
 returns : tie.Need-returns Inv-loop μ-loop
 returns c =
-    let read = c .before .before .before .before .before .before in
+    let rowed = c .before .before .before .before in
+    let read = rowed .before .before in
     let looped = read .before .before .before in
     let a = looped .before .before .before .before .before .before .args in
-    let grown = row-stays (looped .loop .inv) (a .by) (read .read-label .result .word) (c .before .before .before .before .add-row .ensures) in
-    walked (λ room. row room (wordsOf (a .target .at) (a .by) (a .words .now))) (a .target) (a .part)
-    (looped .before .before .before .reach .ensures) (looped .before .end-before .ensures)
-    (walk-large (looped .loop .inv) (λ room. steady-row room (wordsOf (a .target .at) (a .by) (a .words .now)))
-    (read .before .before .loop-test .taken) (read .read-label .result .word)
-    (ap (λ x. x .word) (read .read-label .ensures)) grown (c .enum-told .given .1))
+    let by = wordsOf (a .target .at) (a .by) (a .words .now) in
+    walked-part (λ room. row room by) (a .target) (a .part) (looped .before .before .before .reach .ensures) (looped .before .end-before .ensures)
+    (walk-large (looped .loop .inv) (λ room. steady-row room by) (read .before .before .loop-test .taken) (read .read-label .ensures)
+    (row-stays (looped .loop .inv) (a .by) (read .read-label .result .word) (rowed .add-row .ensures)) (c .enum-told .given .1))
 
 add-i : tie.Need-add-i Inv-loop μ-loop
 add-i c = omega arith
@@ -63,13 +64,13 @@ loop-less c = omega arith
 
 loop-again : tie.Need-loop-again Inv-loop μ-loop
 loop-again c =
-    let read = c .before .before .before .before .before .before .before in
+    let rowed = c .before .before .before .before .before in
+    let read = rowed .before .before in
     let looped = read .before .before .before in
     let a = looped .before .before .before .before .before .before .args in
-    let grown = row-stays (looped .loop .inv) (a .by) (read .read-label .result .word) (c .before .before .before .before .before .add-row .ensures) in
-    walk-holds (looped .loop .inv) (λ room. steady-row room (wordsOf (a .target .at) (a .by) (a .words .now)))
-    (read .before .before .loop-test .taken) (read .read-label .result .word)
-    (ap (λ x. x .word) (read .read-label .ensures)) grown (c .before .step .given .0 .0) (c .before .step .given .1)
+    let by = wordsOf (a .target .at) (a .by) (a .words .now) in
+    walk-holds (looped .loop .inv) (λ room. steady-row room by) (read .before .before .loop-test .taken) (read .read-label .ensures)
+    (row-stays (looped .loop .inv) (a .by) (read .read-label .result .word) (rowed .add-row .ensures)) (c .before .step .given .1)
 
 same-length-2 : tie.Need-same-length-2 Inv-loop μ-loop
 same-length-2 c = walk-length (c .before .loop .inv) .0
@@ -78,7 +79,7 @@ returns-2 : tie.Need-returns-2 Inv-loop μ-loop
 returns-2 c =
     let looped = c .before in
     let a = looped .before .before .before .before .before .before .args in
-    walked (λ room. row room (wordsOf (a .target .at) (a .by) (a .words .now))) (a .target) (a .part)
+    walked-part (λ room. row room (wordsOf (a .target .at) (a .by) (a .words .now))) (a .target) (a .part)
     (looped .before .before .before .reach .ensures) (looped .before .end-before .ensures)
     (walk-end (looped .loop .inv) (c .loop-test .left))
 

@@ -1,17 +1,18 @@
 -- `products::multiplying::add_row` meets its contract. The loop's invariant: the sums with the labels from the i-th on are to come; the
 -- measure is how many they are. Assumes nothing.
-use mathlib.Core.Path.{ap, _∙_}
+use mathlib.Core.Path.{_∙_}
 use Prim.Native.Nat.{_-_}
 use native.Mathlib.Omega.{arith}
 use borrow.Author.Needs.{needs}
 use Rattle.products.specs.Multiplying.{added}
 use Rattle.products.proofs.Products.{steady-added}
-use Rattle.sets.proofs.Walking.{Walk, walk-start, walk-length, walk-end, walk-holds, walk-large, walked}
+use Rattle.sets.proofs.Walking.{Walk, walk-start, walk-length, walk-end, walk-holds, walk-large, walked-part}
 use Rattle.products.proofs.multiplying.add_row.Statement.{statement}
 use Rattle.products.proofs.multiplying.add_row.Tie as tie
 
 abbrev Inv-loop : tie.InvT-loop
-Inv-loop words₀ label at most count₀ end i₀ words count i = Walk (λ room. added room (label .word)) at most words₀ count₀ end i₀ words count i
+Inv-loop words₀ label at most count₀ end i₀ words count i =
+    Walk (λ room. added room (label .word)) at most words₀ count₀ end i₀ words count i
 
 abbrev μ-loop : tie.MeasureT-loop
 μ-loop words₀ label at most count₀ end i₀ words count i = end - i
@@ -23,7 +24,7 @@ end-before-requires : tie.Need-end-before-requires Inv-loop μ-loop
 end-before-requires c κs = search needs
 
 loop-holds : tie.Need-loop-holds Inv-loop μ-loop
-loop-holds c = walk-start _ _ _ _ _ _ _ (omega (arith, c .before .before .reach .ensures, c .end-before .ensures))
+loop-holds c = walk-start (omega (arith, c .before .before .reach .ensures, c .end-before .ensures))
 
 read-label-requires : tie.Need-read-label-requires Inv-loop μ-loop
 read-label-requires c κs = search needs
@@ -42,18 +43,21 @@ enum-told c = search needs
 
 same-length : tie.Need-same-length Inv-loop μ-loop
 same-length c =
-    let looped = c .before .before .before .before .before .before .before .before .before .before in
-    c .before .before .before .before .take-sum .kept .0 ∙ walk-length (looped .loop .inv) .0
+    let took = c .before .before .before .before in
+    let looped = took .before .before .before .before .before .before in
+    took .take-sum .kept .0 ∙ walk-length (looped .loop .inv) .0
 
 returns : tie.Need-returns Inv-loop μ-loop
 returns c =
-    let read = c .before .before .before .before .before .before .before in
+    let took = c .before .before .before .before in
+    let summed = took .before .before in
+    let read = summed .before in
     let looped = read .before .before .before in
     let a = looped .before .before .before .before .before .before .args in
-    let grown = rw (c .before .before .before .before .before .before .sum .ensures) at (c .before .before .before .before .take-sum .ensures) in
-    walked (λ room. added room (a .label .word)) (a .target) (a .by) (looped .before .before .before .reach .ensures) (looped .before .end-before .ensures)
-    (walk-large (looped .loop .inv) (λ room. steady-added room (a .label .word)) (read .before .before .loop-test .taken) (read .read-label .result .word)
-    (ap (λ x. x .word) (read .read-label .ensures)) grown (c .enum-told .given .1))
+    let label = a .label .word in
+    walked-part (λ room. added room label) (a .target) (a .by) (looped .before .before .before .reach .ensures) (looped .before .end-before .ensures)
+    (walk-large (looped .loop .inv) (λ room. steady-added room label) (read .before .before .loop-test .taken) (read .read-label .ensures)
+    (rw (summed .sum .ensures) at (took .take-sum .ensures)) (c .enum-told .given .1))
 
 add-i : tie.Need-add-i Inv-loop μ-loop
 add-i c = omega arith
@@ -63,13 +67,13 @@ loop-less c = omega arith
 
 loop-again : tie.Need-loop-again Inv-loop μ-loop
 loop-again c =
-    let read = c .before .before .before .before .before .before .before .before in
+    let took = c .before .before .before .before .before in
+    let summed = took .before .before in
+    let read = summed .before in
     let looped = read .before .before .before in
     let a = looped .before .before .before .before .before .before .args in
-    let grown = rw (c .before .before .before .before .before .before .before .sum .ensures) at
-    (c .before .before .before .before .before .take-sum .ensures) in
-    walk-holds (looped .loop .inv) (λ room. steady-added room (a .label .word)) (read .before .before .loop-test .taken) (read .read-label .result .word)
-    (ap (λ x. x .word) (read .read-label .ensures)) grown (c .before .step .given .0 .0) (c .before .step .given .1)
+    walk-holds (looped .loop .inv) (λ room. steady-added room (a .label .word)) (read .before .before .loop-test .taken) (read .read-label .ensures)
+    (rw (summed .sum .ensures) at (took .take-sum .ensures)) (c .before .step .given .1)
 
 same-length-2 : tie.Need-same-length-2 Inv-loop μ-loop
 same-length-2 c = walk-length (c .before .loop .inv) .0
@@ -78,7 +82,8 @@ returns-2 : tie.Need-returns-2 Inv-loop μ-loop
 returns-2 c =
     let looped = c .before in
     let a = looped .before .before .before .before .before .before .args in
-    walked (λ room. added room (a .label .word)) (a .target) (a .by) (looped .before .before .before .reach .ensures) (looped .before .end-before .ensures)
+    walked-part (λ room. added room (a .label .word)) (a .target) (a .by)
+    (looped .before .before .before .reach .ensures) (looped .before .end-before .ensures)
     (walk-end (looped .loop .inv) (c .loop-test .left))
 
 pub add-row-spec : {M : Type 1} → statement M

@@ -26,16 +26,16 @@ module _ (names : ℕ) where
   abbrev pub AllPack : List Label → Type 0
   AllPack M = (a : Label) → a ∈ M → Packs names a
 
-  below : (a b : Label) → Packs names a → Packs names b → a ≺ b → number a < number b
-  below a b p q h = number-below a b (packs-small p) (packs-small q) (p .wide ∙ sym (q .wide)) h
+  number-≺ : (a b : Label) → Packs names a → Packs names b → a ≺ b → number a < number b
+  number-≺ a b p q h = number-below a b (packs-small p) (packs-small q) (p .wide ∙ sym (q .wide)) h
 
   pub compare-number : (a b : Label) → Packs names a → Packs names b → compare (number a) (number b) ≡ order a b
   compare-number a b p q = go (order a b) (order-says a b)
     where
       go : (o : Ordering) → Says _≺_ o a b → compare (number a) (number b) ≡ o
-      go Ordering·lt h = compare-lt (number a) (number b) (below a b p q h)
+      go Ordering·lt h = compare-lt (number a) (number b) (number-≺ a b p q h)
       go Ordering·eq h = compare-eq (number a) (number b) (ap number h)
-      go Ordering·gt h = compare-gt (number a) (number b) (below b a q p h)
+      go Ordering·gt h = compare-gt (number a) (number b) (number-≺ b a q p h)
 
   placed-number : (o : Ordering) (a b : Label) (s more : List Label)
       → placedBy o (number a) (number b) (map number s) (map number more) ≡ map number (placed o a b s more)
@@ -43,7 +43,8 @@ module _ (names : ℕ) where
   placed-number Ordering·eq a b s more = refl
   placed-number Ordering·gt a b s more = refl
 
-  pub insert-number : (a : Label) (s : List Label) → Packs names a → AllPack s → insertNumber (number a) (map number s) ≡ map number (insert a s)
+  pub insert-number : (a : Label) (s : List Label) → Packs names a → AllPack s
+      → insertNumber (number a) (map number s) ≡ map number (insert a s)
   unfolding insertNumber insert
   insert-number a [] p q = refl
   insert-number a (b ∷ s) p q =
@@ -88,14 +89,19 @@ module _ (names room : ℕ) (I : List Label → Type 0) (moves : (M N : List Lab
 
   outcome-same : (M N : List Label) (b : Building) → Within M N → Within N M → Outcome M b → Outcome N b
   outcome-same M N b w v (inl x) =
-      inl (record { built = x .built ∙ ap (λ (s : List Label). done (map number s)) (ascending-same M N w v); packs = λ a m. x .packs a (v a m); kept = moves M N w v (x .kept) })
+      inl (record {
+        built = x .built ∙ ap (λ (s : List Label). done (map number s)) (ascending-same M N w v);
+        packs = λ a m. x .packs a (v a m);
+        kept = moves M N w v (x .kept);
+      })
   outcome-same M N b w v (inr x) = inr (x .0, too-much-more room M N w (x .1))
 
   module _ (step : ℕ → List ℕ → Building) (gives : Label → List Label)
-      (good : (a : Label) (M : List Label) → Packs names a → AllPack names M → I M → Outcome (gives a ++ M) (step (number a) (map number (ascending M)))) where
+      (good : (a : Label) (M : List Label) → Packs names a → AllPack names M → I M
+      → Outcome (gives a ++ M) (step (number a) (map number (ascending M)))) where
     -- the members, in whichever order they come
-    swap : (xs ys zs : List Label) → Within (ys ++ (xs ++ zs)) ((xs ++ ys) ++ zs)
-    swap xs ys zs a m = elim (in-append a ys (xs ++ zs) .0 m) [
+    in-swap : (xs ys zs : List Label) → Within (ys ++ (xs ++ zs)) ((xs ++ ys) ++ zs)
+    in-swap xs ys zs a m = elim (in-append a ys (xs ++ zs) .0 m) [
       | inl k ↦ in-append a (xs ++ ys) zs .1 (inl (in-append a xs ys .1 (inr k)))
       | inr k ↦ elim (in-append a xs zs .0 k) [
         | inl l ↦ in-append a (xs ++ ys) zs .1 (inl (in-append a xs ys .1 (inl l)))
@@ -103,8 +109,8 @@ module _ (names room : ℕ) (I : List Label → Type 0) (moves : (M N : List Lab
       ]
     ]
 
-    swap-back : (xs ys zs : List Label) → Within ((xs ++ ys) ++ zs) (ys ++ (xs ++ zs))
-    swap-back xs ys zs a m = elim (in-append a (xs ++ ys) zs .0 m) [
+    in-swap-back : (xs ys zs : List Label) → Within ((xs ++ ys) ++ zs) (ys ++ (xs ++ zs))
+    in-swap-back xs ys zs a m = elim (in-append a (xs ++ ys) zs .0 m) [
       | inl k ↦ elim (in-append a xs ys .0 k) [
         | inl l ↦ in-append a ys (xs ++ zs) .1 (inr (in-append a xs zs .1 (inl l)))
         | inr l ↦ in-append a ys (xs ++ zs) .1 (inl l)
@@ -112,36 +118,43 @@ module _ (names room : ℕ) (I : List Label → Type 0) (moves : (M N : List Lab
       | inr k ↦ in-append a ys (xs ++ zs) .1 (inr (in-append a xs zs .1 (inr k)))
     ]
 
-    more-within : (xs ys zs : List Label) → Within (xs ++ zs) ((xs ++ ys) ++ zs)
-    more-within xs ys zs a m = swap xs ys zs a (in-append a ys (xs ++ zs) .1 (inr m))
+    within-more : (xs ys zs : List Label) → Within (xs ++ zs) ((xs ++ ys) ++ zs)
+    within-more xs ys zs a m = in-swap xs ys zs a (in-append a ys (xs ++ zs) .1 (inr m))
 
-    goes : (a : Label) (l M : List Label) (b : Building) → Outcome (gives a ++ M) b
+    next-outcome : (a : Label) (l M : List Label) (b : Building) → Outcome (gives a ++ M) b
         → ((N : List Label) → AllPack names N → I N → Outcome (spread gives l ++ N) (each step (map number l) (map number (ascending N))))
         → Outcome ((gives a ++ spread gives l) ++ M) (next b (each step (map number l)))
-    goes a l M b (inl x) more =
+    next-outcome a l M b (inl x) more =
         outcome-same (spread gives l ++ (gives a ++ M)) ((gives a ++ spread gives l) ++ M) (next b (each step (map number l)))
-        (swap (gives a) (spread gives l) M) (swap-back (gives a) (spread gives l) M)
+        (in-swap (gives a) (spread gives l) M) (in-swap-back (gives a) (spread gives l) M)
         (rw (x .built) (more (gives a ++ M) (x .packs) (x .kept)))
-    goes a l M b (inr x) more =
+    next-outcome a l M b (inr x) more =
         inr (
           ap (λ (t : Bool). goesOn t b (each step (map number l)) .whole) (x .0) ∙ x .0,
-          too-much-more room (gives a ++ M) ((gives a ++ spread gives l) ++ M) (more-within (gives a) (spread gives l) M) (x .1),
+          too-much-more room (gives a ++ M) ((gives a ++ spread gives l) ++ M) (within-more (gives a) (spread gives l) M) (x .1),
         )
 
-    pub each-outcome : (l M : List Label) → AllPack names l → AllPack names M → I M → Outcome (spread gives l ++ M) (each step (map number l) (map number (ascending M)))
+    pub each-outcome : (l M : List Label) → AllPack names l → AllPack names M → I M
+        → Outcome (spread gives l ++ M) (each step (map number l) (map number (ascending M)))
     unfolding each spread
     each-outcome [] M p q i = inl (record { built = refl; packs = q; kept = i })
     each-outcome (a ∷ l) M p q i =
-        goes a l M (step (number a) (map number (ascending M))) (good a M (p a (inl refl)) q i) (λ N r j. each-outcome l N (λ c m. p c (inr m)) r j)
+        next-outcome a l M (step (number a) (map number (ascending M))) (good a M (p a (inl refl)) q i)
+        (λ N r j. each-outcome l N (λ c m. p c (inr m)) r j)
 
   -- one label more
-  pub enter-outcome : (a : Label) (M : List Label) → Packs names a → AllPack names M → I (a ∷ M) → Outcome (a ∷ M) (enter room (number a) (map number (ascending M)))
+  pub enter-outcome : (a : Label) (M : List Label) → Packs names a → AllPack names M → I (a ∷ M)
+      → Outcome (a ∷ M) (enter room (number a) (map number (ascending M)))
   unfolding ascending Entering
   enter-outcome a M p q i = entered (rising-enter room (number a) (map number (ascending M)) (numbers-rising names M q))
     where
-      is : insertNumber (number a) (map number (ascending M)) ≡ map number (insert a (ascending M))
-      is = insert-number names a (ascending M) p (ascending-packs names M q)
+      in-order : insertNumber (number a) (map number (ascending M)) ≡ map number (insert a (ascending M))
+      in-order = insert-number names a (ascending M) p (ascending-packs names M q)
 
       entered : Entering room (number a) (map number (ascending M)) → Outcome (a ∷ M) (enter room (number a) (map number (ascending M)))
-      entered (inl e) = inl (record { built = e ∙ ap done is; packs = λ c. elim [ inl k ↦ subst (Packs names) (sym k) p | inr m ↦ q c m ]; kept = i })
-      entered (inr e) = inr (ap (λ (b : Building). b .whole) (e .0), inl (rw (← length-map (insert a (ascending M)) number, ← is) (e .1)))
+      entered (inl e) = inl (record {
+        built = e ∙ ap done in-order;
+        packs = λ c. elim [ inl k ↦ subst (Packs names) (sym k) p | inr m ↦ q c m ];
+        kept = i;
+      })
+      entered (inr e) = inr (ap (λ (b : Building). b .whole) (e .0), inl (rw (← length-map (insert a (ascending M)) number, ← in-order) (e .1)))
