@@ -15,21 +15,24 @@ use Rattle.sets.specs.declared.Built.{Built}
 use Rattle.sets.specs.declared.Built.the-variants.{TooLarge, Holds}
 use Rattle.sets.specs.declared.Offer.{Offer}
 use Rattle.sets.specs.declared.Offer.the-variants.{Nothing, TooLong, Next}
-use Rattle.sets.specs.Parts.{setAt, roomAt, reachOf}
+use Rattle.parts.specs.Parts.{setAt, roomAt, reachOf}
 use Rattle.sets.specs.Inserting.{inserted, Entered}
 use Rattle.sets.specs.Building.{Building, done, next, followed, enter, taken, Grown}
-use Rattle.sets.proofs.Steps.{Steady, steady-done, steady-next, steady-followed, steady-taken, steady-enter, Going, going-start, going-length, going-end, going-stop, going-as, going-holds, going-large, going-last, grown-as, followed-stops, followed-stays, followed-going, followed-ends, insertedThen}
+use Rattle.sets.proofs.Steps.{Steady, steady-done, steady-next, steady-followed, steady-taken, steady-enter, Going, going-start}
+use Rattle.sets.proofs.Steps.{going-length, going-end, going-stop, going-as, going-holds, going-large, going-last, grown-as}
+use Rattle.sets.proofs.Steps.{followed-stops, followed-stays, followed-going, followed-ends, insertedThen}
 use Rattle.comm.specs.Following.{eachRule, closed}
 use Rattle.comm.specs.Rules.{Exchange, exchangesIn, exchangeOf}
 
 -- What follows never shortens a set and never takes it past the room.
 module _ (room : ℕ) where
-  pub steady-eachRule : (step : ℕ → List ℕ → Building) (rs : List Exchange) (w : ℕ) → ((v : ℕ) → Steady room (step v)) → Steady room (eachRule step rs w)
+  pub steady-eachRule : (step : ℕ → List ℕ → Building) (rs : List Exchange) (w : ℕ) → ((v : ℕ) → Steady room (step v))
+      → Steady room (eachRule step rs w)
   unfolding eachRule
   steady-eachRule step [] w p = steady-done room
   steady-eachRule step (r ∷ rs) w p =
-      steady-next room (taken step (exchangeOf (r .left) (r .right) w)) (eachRule step rs w) (steady-taken room step (exchangeOf (r .left) (r .right) w) p)
-      (steady-eachRule step rs w p)
+      let o = exchangeOf (r .left) (r .right) w in
+      steady-next room (taken step o) (eachRule step rs w) (steady-taken room step o p) (steady-eachRule step rs w p)
 
   pub steady-closed : (rs : List Exchange) (depth w : ℕ) → Steady room (closed room rs depth w)
   unfolding closed
@@ -38,22 +41,22 @@ module _ (room : ℕ) where
       steady-followed room w (eachRule (closed room rs depth) rs w) (steady-eachRule (closed room rs depth) rs w (steady-closed rs depth))
 
 -- The rules from a label of the list on.
-exchanges-more : (ls : List ℕ) (i : ℕ) → i + 1 < length ls
+exchanges-cons : (ls : List ℕ) (i : ℕ) → i + 1 < length ls
     → exchangesIn (drop i ls) ≡ record { left = getD ls i 0; right = getD ls (i + 1) 0 } ∷ exchangesIn (drop (i + 2) ls)
 unfolding exchangesIn
-exchanges-more ls i h =
+exchanges-cons ls i h =
     let e : i + 1 ≡ suc i = add-one i in
     let f : i + 2 ≡ suc (suc i) = omega arith in
     rw (e, f, drop-cons ls i 0 (omega arith), drop-cons ls (suc i) 0 (omega arith))
 
-none-left : (l : List ℕ) → length l ≤ 1 → exchangesIn l ≡ []
+exchanges-short : (l : List ℕ) → length l ≤ 1 → exchangesIn l ≡ []
 unfolding exchangesIn
-none-left [] h = refl
-none-left (x ∷ []) h = refl
-none-left (x ∷ y ∷ l) h = absurd (omega arith)
+exchanges-short [] h = refl
+exchanges-short (x ∷ []) h = refl
+exchanges-short (x ∷ y ∷ l) h = absurd (omega arith)
 
-exchanges-end : (ls : List ℕ) (i : ℕ) → length ls ≤ i + 1 → exchangesIn (drop i ls) ≡ []
-exchanges-end ls i h = none-left (drop i ls) (rw (length-drop i ls) (omega arith))
+exchanges-nil : (ls : List ℕ) (i : ℕ) → length ls ≤ i + 1 → exchangesIn (drop i ls) ≡ []
+exchanges-nil ls i h = exchanges-short (drop i ls) (rw (length-drop i ls) (omega arith))
 
 -- The loop over the rules: what those from the i-th label of the list on make of w is to come.
 abbrev rulesFrom : (room depth w : ℕ) → List ℕ → ℕ → List ℕ → Building
@@ -69,55 +72,60 @@ pub following-start : (at len most depth w : ℕ) (rules before : List ℕ) → 
 following-start at len most depth w rules before h =
     record { within = zero-le; going = going-start at before len (rulesFrom (roomAt at most (length before)) depth w rules 0) h }
 
-module _ {at len most depth w : ℕ} {rules before now : List ℕ} {count i : ℕ} (x : Following at len most depth w rules before now count i) where
+module _ {at len most depth w : ℕ} {rules before now : List ℕ} {count i : ℕ}
+    (x : Following at len most depth w rules before now count i) where
+  abbrev room : ℕ
+  room = roomAt at most (length before)
+
   abbrev Followed : List ℕ → Built → Type 0
-  Followed after r = Grown (eachRule (closed (roomAt at most (length before)) (exchangesIn rules) depth) (exchangesIn rules) w) at len before after r
+  Followed after r = Grown (eachRule (closed room (exchangesIn rules) depth) (exchangesIn rules) w) at len before after r
 
   abbrev rest : ℕ → List ℕ → Building
-  rest = rulesFrom (roomAt at most (length before)) depth w rules
+  rest = rulesFrom room depth w rules
 
   pub following-end : length rules ≤ i + 1 → Followed now (Holds count)
   unfolding eachRule
-  following-end h = let p = going-end (x .going) (λ s. rw (exchanges-end rules i h)) in record { answer = p .0; words = p .1 }
+  following-end h = let p = going-end (x .going) (λ s. rw (exchanges-nil rules i h)) in record { answer = p .0; words = p .1 }
 
   module _ (h : i + 1 < length rules) {o : Offer} (made : o ≡ exchangeOf (getD rules i 0) (getD rules (i + 1) 0) w) where
-    offered : Going at before now count (λ s. next (taken (closed (roomAt at most (length before)) (exchangesIn rules) depth) o s) (rest (i + 2)))
+    going-offered : Going at before now count (λ s. next (taken (closed room (exchangesIn rules) depth) o s) (rest (i + 2)))
         (rest 0 (setAt at len before))
     unfolding eachRule
-    offered = going-as _ (x .going) (λ s. rw (exchanges-more rules i h, made))
+    going-offered = going-as _ (x .going) (λ s. rw (exchanges-cons rules i h, made))
 
     pub following-nothing : o ≡ Nothing → Following at len most depth w rules before now count (i + 2)
-    following-nothing e = record { within = omega arith; going = going-as (rest (i + 2)) offered (λ s. rw e) }
+    following-nothing e = record { within = omega arith; going = going-as (rest (i + 2)) going-offered (λ s. rw e) }
 
     pub following-long : o ≡ TooLong → Followed now TooLarge
-    following-long e = let p = going-stop offered (λ s. rw e) in record { answer = p .0; words = p .1 }
+    following-long e = let p = going-stop going-offered (λ s. rw e) in record { answer = p .0; words = p .1 }
 
     module _ (a : Label) (e : o ≡ Next a) {after : List ℕ} {r : Built}
         (g : Grown (closed (roomAt at most (length now)) (exchangesIn rules) depth (code a)) at count now after r) where
       abbrev step : ℕ → List ℕ → Building
       step room = closed room (exchangesIn rules) depth (code a)
 
-      steady : (room : ℕ) → Steady room (step room)
-      steady room = steady-closed room (exchangesIn rules) depth (code a)
+      steady-step : (room : ℕ) → Steady room (step room)
+      steady-step room = steady-closed room (exchangesIn rules) depth (code a)
 
-      goes : Going at before now count (λ s. next (step (roomAt at most (length before)) s) (rest (i + 2))) (rest 0 (setAt at len before))
-      goes = going-as _ offered (λ s. rw e)
+      going-step : Going at before now count (λ s. next (step room s) (rest (i + 2))) (rest 0 (setAt at len before))
+      going-step = going-as _ going-offered (λ s. rw e)
 
       pub following-next : (n : ℕ) → r ≡ Holds n → Following at len most depth w rules before after n (i + 2)
-      following-next n f = record { within = omega arith; going = going-holds most step (rest (i + 2)) steady goes g n f }
+      following-next n f = record { within = omega arith; going = going-holds most step (rest (i + 2)) steady-step going-step g n f }
 
       pub following-large : r ≡ TooLarge → Followed after TooLarge
-      following-large f = let p = going-large most step (rest (i + 2)) steady goes g f in record { answer = p .0; words = p .1 }
+      following-large f = let p = going-large most step (rest (i + 2)) steady-step going-step g f in record { answer = p .0; words = p .1 }
 
 -- A label and what follows from it.
-pub more : ℕ → List Exchange → ℕ → ℕ → List ℕ → Building
-more room rs zero w = done
-more room rs (suc depth) w = eachRule (closed room rs depth) rs w
+followers : ℕ → List Exchange → ℕ → ℕ → List ℕ → Building
+followers room rs zero w = done
+followers room rs (suc depth) w = eachRule (closed room rs depth) rs w
 
-pub closed-is : (room : ℕ) (rs : List Exchange) (depth w : ℕ) (s : List ℕ) → followed (inserted room w s) w (more room rs depth w) s ≡ closed room rs depth w s
-unfolding closed more
-closed-is room rs zero w s = refl
-closed-is room rs (suc depth) w s = refl
+closed-followers : (room : ℕ) (rs : List Exchange) (depth w : ℕ) (s : List ℕ)
+    → insertedThen room w (followers room rs depth w) s ≡ closed room rs depth w s
+unfolding closed followers
+closed-followers room rs zero w s = refl
+closed-followers room rs (suc depth) w s = refl
 
 -- without applications it is the label alone
 pub closed-alone : (room : ℕ) (rs : List Exchange) (depth w : ℕ) → depth ≡ 0 → (s : List ℕ) → enter room w s ≡ closed room rs depth w s
@@ -125,16 +133,18 @@ unfolding closed
 closed-alone room rs depth w z s = rw z
 
 module _ {at len most w : ℕ} {ls after : List ℕ} {o : Inserted} (x : Entered at len most w ls after o) (rs : List Exchange) (depth : ℕ) where
-  pub closed-stops : o ≡ Full → Grown (closed (roomAt at most (length ls)) rs depth w) at len ls after TooLarge
-  closed-stops e = grown-as (closed-is (roomAt at most (length ls)) rs depth w) (followed-stops x (more (roomAt at most (length ls)) rs depth w) e)
+  abbrev space : ℕ
+  space = roomAt at most (length ls)
+
+  pub closed-stops : o ≡ Full → Grown (closed space rs depth w) at len ls after TooLarge
+  closed-stops e = grown-as (closed-followers space rs depth w) (followed-stops x (followers space rs depth w) e)
 
   module _ (count : ℕ) (reached : count ≡ reachOf at len (length ls)) where
-    pub closed-stays : o ≡ Present → Grown (closed (roomAt at most (length ls)) rs depth w) at len ls after (Holds count)
-    closed-stays e =
-        grown-as (closed-is (roomAt at most (length ls)) rs depth w) (followed-stays x count reached (more (roomAt at most (length ls)) rs depth w) e)
+    pub closed-stays : o ≡ Present → Grown (closed space rs depth w) at len ls after (Holds count)
+    closed-stays e = grown-as (closed-followers space rs depth w) (followed-stays x count reached (followers space rs depth w) e)
 
-    pub closed-ends : o ≡ Added → depth ≡ 0 → Grown (closed (roomAt at most (length ls)) rs depth w) at len ls after (Holds (count + 1))
-    closed-ends e z = grown-as (closed-alone (roomAt at most (length ls)) rs depth w z) (followed-ends x count reached e)
+    pub closed-ends : o ≡ Added → depth ≡ 0 → Grown (closed space rs depth w) at len ls after (Holds (count + 1))
+    closed-ends e z = grown-as (closed-alone space rs depth w z) (followed-ends x count reached e)
 
     -- the room and the length that the rules are followed with
     pub closed-within : o ≡ Added → count + 1 ≤ length after - at
@@ -142,16 +152,15 @@ module _ {at len most w : ℕ} {ls after : List ℕ} {o : Inserted} (x : Entered
 
     pub closed-goes : o ≡ Added → (depth ≡ 0 → ⊥) → {last : List ℕ} {r : Built}
         → Grown (eachRule (closed (roomAt at most (length after)) rs (depth - 1)) rs w) at (count + 1) after last r
-        → Grown (closed (roomAt at most (length ls)) rs depth w) at len ls last r
-    unfolding more
+        → Grown (closed space rs depth w) at len ls last r
+    unfolding followers
     closed-goes e n g =
         let d : depth ≡ suc (depth - 1) = omega arith in
         let step : ℕ → List ℕ → Building = λ room. eachRule (closed room rs (depth - 1)) rs w in
         let p = going-last most step (λ room. steady-eachRule room (closed room rs (depth - 1)) rs w (steady-closed room rs (depth - 1)))
-        (followed-going x count reached (step (roomAt at most (length ls))) e) g in
+        (followed-going x count reached (step space) e) g in
         grown-as (λ s. deeper s d) (record { answer = p .0; words = p .1 })
       where
         deeper : (s : List ℕ) → depth ≡ suc (depth - 1)
-            → insertedThen (roomAt at most (length ls)) w (eachRule (closed (roomAt at most (length ls)) rs (depth - 1)) rs w) s
-            ≡ closed (roomAt at most (length ls)) rs depth w s
-        deeper s d = closed-is (roomAt at most (length ls)) rs (suc (depth - 1)) w s ∙ ap (λ (k : ℕ). closed (roomAt at most (length ls)) rs k w s) (sym d)
+            → insertedThen space w (eachRule (closed space rs (depth - 1)) rs w) s ≡ closed space rs depth w s
+        deeper s d = closed-followers space rs (suc (depth - 1)) w s ∙ ap (λ (k : ℕ). closed space rs k w s) (sym d)

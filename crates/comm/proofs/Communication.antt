@@ -31,8 +31,8 @@ use Rattle.sets.specs.Inserting.{present, putIn, pickInserted, inserted, insert
 use Rattle.sets.specs.Building.{Building, done, goesOn, next, each, followed, taken}
 use Rattle.sets.proofs.Sorting.{insert-present, insert-absent}
 use Rattle.sets.proofs.Steps.{length-putIn}
-use Rattle.sets.proofs.Meant.{AllPack, insert-number, numbers-rising, ascending-same, TooMuch, too-much-more, Outcome, each-outcome}
-use Rattle.comm.specs.Following.{eachRule, closed}
+use Rattle.sets.proofs.Refinement.{AllPack, insert-number, numbers-rising, ascending-same, TooMuch, too-much-more, Outcome, each-outcome}
+use Rattle.comm.specs.Following.{eachRule, mostApplications, closed}
 use Rattle.comm.specs.Rules.{Exchange, exchangesIn, pickOffer, exchangeOf}
 
 -- Rules are read as they are stored.
@@ -47,7 +47,8 @@ rules-read names (r ∷ rs) = ap (λ (l : List Exchange). exchange names r ∷ l
 -- What follows from a label by applications, one after the other.
 data Follows (names : ℕ) (rs : List Rule) : Label → Label → Type 0 where
   here : {a : Label} → Follows names rs a a
-  then : {a b : Label} (r : Rule) → r ∈ rs → T (inside (r .left) a) → Follows names rs (replaced names r a) b → Follows names rs a b
+  then : {a b : Label} (r : Rule) → r ∈ rs → T (inside (r .left) a) → Follows names rs (replaced names r a) b
+      → Follows names rs a b
 
 pub rule-legal : (names : ℕ) (rs : List Rule) → Each (LegalRule names) rs → (r : Rule) → r ∈ rs → LegalRule names r
 rule-legal names (q ∷ rs) h r (inl e) = rw e (h .0)
@@ -66,9 +67,16 @@ module _ (names : ℕ) (few : names ≤ 12) (rs : List Rule) (legal : Each (Lega
       inr (in-spread (communicated k names rs) (applied names rs a) (replaced names r a) b (in-applied names rs a r m t)
       (follows-in (replaced names r a) b f k (let l = fewer-left names r a (rule-legal names rs legal r m .1) t in omega arith)))
 
-  -- All that the rules make of a label is in a list; a list that is closed under the rules holds all that follows.
+  -- What a rule makes of a label is in a list, and what some rules make of it; a list that is closed under the rules holds all
+  -- that follows.
+  abbrev pub Gives : Rule → Label → List Label → Type 0
+  Gives r a N = T (inside (r .left) a) → replaced names r a ∈ N
+
+  abbrev AllOf : List Rule → Label → List Label → Type 0
+  AllOf rules a N = (r : Rule) → r ∈ rules → Gives r a N
+
   abbrev pub All : Label → List Label → Type 0
-  All a N = (r : Rule) → r ∈ rs → T (inside (r .left) a) → replaced names r a ∈ N
+  All a N = AllOf rs a N
 
   abbrev pub Closed : List Label → Type 0
   Closed N = (a : Label) → a ∈ N → All a N
@@ -81,7 +89,8 @@ module _ (names : ℕ) (few : names ≤ 12) (rs : List Rule) (legal : Each (Lega
   communicated-in (suc k) N c a b m (inr q) =
       let x = in-spread→ (communicated k names rs) (applied names rs a) b q in
       let y = in-applied→ names rs a (x .source) (x .there) in
-      communicated-in k N c (x .source) b (subst (λ (z : Label). z ∈ N) (sym (y .gives)) (c a m (y .rule) (y .listed) (y .fits))) (x .gives)
+      let there = subst (λ (z : Label). z ∈ N) (sym (y .gives)) (c a m (y .rule) (y .listed) (y .fits)) in
+      communicated-in k N c (x .source) b there (x .gives)
 
   -- What one rule offers.
   replaced-packs : (r : Rule) → r ∈ rs → (a : Label) → Packs names a → T (inside (r .left) a) → Packs names (replaced names r a)
@@ -131,12 +140,16 @@ module _ (names : ℕ) (few : names ≤ 12) (rs : List Rule) (legal : Each (Lega
   Walk M May Must b = ((N : List Label) × Walked M May Must N b) ⊎ Refused M May b
 
   -- nothing put in; one walk after another
-  stays : (M : List Label) (May : Label → Type 0) (Must : List Label → Type 0) → AllPack names M → Must M → Walk M May Must (done (numbers M))
-  stays M May Must p m = inl (M, record { built = refl; packs = p; more = λ c k. k; only = λ c k. inl k; closed′ = λ c k. inl k; must = m })
+  walk-stays : (M : List Label) (May : Label → Type 0) (Must : List Label → Type 0) → AllPack names M → Must M
+      → Walk M May Must (done (numbers M))
+  walk-stays M May Must p m =
+      inl (M, record { built = refl; packs = p; more = λ c k. k; only = λ c k. inl k; closed′ = λ c k. inl k; must = m })
 
-  walked-on : {M N : List Label} {May Other : Label → Type 0} {Must Last Both : List Label → Type 0} {b c : Building} → ((x : Label) → Other x → May x)
-      → Walked M Other Must N b → ((K : List Label) → Within N K → Must N → Last K → Both K) → Walk N May Last c → Walk M May Both c
-  walked-on {M} {N} {May} inner x join (inl (K, y)) = inl (
+  walked-on : {M N : List Label} {May Other : Label → Type 0} {Must Last Both : List Label → Type 0} {b c : Building}
+      → ((x : Label) → Other x → May x) → Walked M Other Must N b
+      → ((K : List Label) → Within N K → Must N → Last K → Both K) → Walk N May Last c
+      → Walk M May Both c
+  walked-on inner x join (inl (K, y)) = inl (
     K,
     record {
       built = y .built;
@@ -150,40 +163,45 @@ module _ (names : ℕ) (few : names ≤ 12) (rs : List Rule) (legal : Each (Lega
       must = join K (y .more) (x .must) (y .must);
     },
   )
-  walked-on {M} {N} {May} inner x join (inr y) = inr (record {
+  walked-on inner x join (inr y) = inr (record {
     part = y .part;
     stops = y .stops;
     much = y .much;
     only = λ e m. elim (y .only e m) [ inl k ↦ elim (x .only e k) [ inl l ↦ inl l | inr l ↦ inr (inner e l) ] | inr k ↦ inr k ];
   })
 
-  next-walk : {M : List Label} {May Other : Label → Type 0} {Must Last Both : List Label → Type 0} {b : Building} (rest : List ℕ → Building)
-      → ((x : Label) → Other x → May x) → ((N K : List Label) → Within N K → Must N → Last K → Both K) → Walk M Other Must b
-      → ((N : List Label) → AllPack names N → Walk N May Last (rest (numbers N))) → Walk M May Both (next b rest)
-  next-walk rest inner join (inl (N, x)) more = walked-on inner x (join N) (rw (x .built) (more N (x .packs)))
-  next-walk {b = b} rest inner join (inr x) more = inr (record {
+  walk-next : {M : List Label} {May Other : Label → Type 0} {Must Last Both : List Label → Type 0} {b : Building} (rest : List ℕ → Building)
+      → ((x : Label) → Other x → May x) → ((N K : List Label) → Within N K → Must N → Last K → Both K)
+      → Walk M Other Must b → ((N : List Label) → AllPack names N → Walk N May Last (rest (numbers N)))
+      → Walk M May Both (next b rest)
+  walk-next rest inner join (inl (N, x)) more = walked-on inner x (join N) (rw (x .built) (more N (x .packs)))
+  walk-next {b = b} rest inner join (inr x) more = inr (record {
     part = x .part;
     stops = ap (λ (t : Bool). goesOn t b rest .whole) (x .stops) ∙ x .stops;
     much = x .much;
     only = λ e m. elim (x .only e m) [ inl k ↦ inl k | inr k ↦ inr (inner e k) ];
   })
 
-  -- The rules one by one, where what each gives is walked.
-  abbrev MustAll : Label → List Rule → List Label → Type 0
-  MustAll a rules N = (r : Rule) → r ∈ rules → T (inside (r .left) a) → replaced names r a ∈ N
+  -- What may be put in with a label, and the walk that puts it in.
+  abbrev From : Label → Label → Type 0
+  From a = Follows names rs a
 
+  abbrev PutIn : Label → List Label → Building → Type 0
+  PutIn a M b = Walk M (From a) (λ N. a ∈ N) b
+
+  -- The rules one by one, where what each gives is walked.
   module _ (step : ℕ → List ℕ → Building) (depth : ℕ)
-      (deep : (a : Label) (M : List Label) → Packs names a → AllPack names M → size a ≤ depth → Walk M (Follows names rs a) (λ N. a ∈ N) (step (number a) (numbers M))) where
-    rule-walk : (r : Rule) → r ∈ rs → (a : Label) → Packs names a → size a ≤ suc depth → (t : Bool) → inside (r .left) a ≡ t → (M : List Label) → AllPack names M
-        → Walk M (Follows names rs a) (λ N. T (inside (r .left) a) → replaced names r a ∈ N) (taken step (pickOffer t (Next (packed (number (replaced names r a))))) (numbers M))
-    rule-walk r m a p h false e M q = stays M (Follows names rs a) (λ N. T (inside (r .left) a) → replaced names r a ∈ N) q (λ t. absurd (subst T e t))
-    rule-walk r m a p h true e M q =
+      (deep : (a : Label) (M : List Label) → Packs names a → AllPack names M → size a ≤ depth → PutIn a M (step (number a) (numbers M)))
+      (a : Label) (p : Packs names a) (h : size a ≤ suc depth) where
+    rule-walk : (r : Rule) → r ∈ rs → (t : Bool) → inside (r .left) a ≡ t → (M : List Label) → AllPack names M
+        → Walk M (From a) (Gives r a) (taken step (pickOffer t (Next (packed (number (replaced names r a))))) (numbers M))
+    rule-walk r m false e M q = walk-stays M (From a) (Gives r a) q (λ t. absurd (subst T e t))
+    rule-walk r m true e M q =
         let t : T (inside (r .left) a) = rw e tt in
         let l = fewer-left names r a (rule-legal names rs legal r m .1) t in
         widen t (deep (replaced names r a) M (replaced-packs r m a p t) q (omega arith))
       where
-        widen : T (inside (r .left) a) → {b : Building} → Walk M (Follows names rs (replaced names r a)) (λ N. replaced names r a ∈ N) b
-            → Walk M (Follows names rs a) (λ N. T (inside (r .left) a) → replaced names r a ∈ N) b
+        widen : T (inside (r .left) a) → {b : Building} → PutIn (replaced names r a) M b → Walk M (From a) (Gives r a) b
         widen t (inl (N, x)) = inl (
           N,
           record {
@@ -202,15 +220,23 @@ module _ (names : ℕ) (few : names ≤ 12) (rs : List Rule) (legal : Each (Lega
           only = λ c k. elim (x .only c k) [ inl l ↦ inl l | inr l ↦ inr (then r m t l) ];
         })
 
-    rules-walk : (rules : List Rule) → ((r : Rule) → r ∈ rules → r ∈ rs) → (a : Label) → Packs names a → size a ≤ suc depth → (M : List Label) → AllPack names M
-        → Walk M (Follows names rs a) (MustAll a rules) (eachRule step (map (exchange names) rules) (number a) (numbers M))
+    -- what the first rule gives, and what the others give
+    gives-cons : (r : Rule) (rules : List Rule) (N K : List Label) → Within N K → Gives r a N → AllOf rules a K → AllOf (r ∷ rules) a K
+    gives-cons r rules N K k first others s (inl e) t =
+        subst (λ (z : Rule). replaced names z a ∈ K) (sym e) (k (replaced names r a) (first (subst (λ (z : Rule). T (inside (z .left) a)) e t)))
+    gives-cons r rules N K k first others s (inr n) t = others s n t
+
+    rules-walk : (rules : List Rule) → ((r : Rule) → r ∈ rules → r ∈ rs) → (M : List Label) → AllPack names M
+        → Walk M (From a) (AllOf rules a) (eachRule step (map (exchange names) rules) (number a) (numbers M))
     unfolding eachRule
-    rules-walk [] w a p h M q = stays M (Follows names rs a) (MustAll a []) q (λ r m. absurd m)
-    rules-walk (r ∷ rules) w a p h M q =
-        next-walk {Must = λ N. T (inside (r .left) a) → replaced names r a ∈ N} {Last = MustAll a rules} {Both = MustAll a (r ∷ rules)} {b = taken step (exchangeOf (number (r .left)) (number (single names (r .right))) (number a)) (numbers M)} (eachRule step (map (exchange names) rules) (number a)) (λ x f. f)
-        (λ N K k here′ last s m t. elim m [ inl e ↦ subst (λ (z : Rule). replaced names z a ∈ K) (sym e) (k (replaced names r a) (here′ (subst (λ (z : Rule). T (inside (z .left) a)) e t))) | inr n ↦ last s n t ])
-        (rw (exchange-offers r (w r (inl refl)) a p (inside (r .left) a) refl) (rule-walk r (w r (inl refl)) a p h (inside (r .left) a) refl M q))
-        (λ N j. rules-walk rules (λ s m. w s (inr m)) a p h N j)
+    rules-walk [] w M q = walk-stays M (From a) (AllOf [] a) q (λ r m. absurd m)
+    rules-walk (r ∷ rules) w M q =
+        let listed = w r (inl refl) in
+        let offer = exchangeOf (number (r .left)) (number (single names (r .right))) (number a) in
+        walk-next {Must = Gives r a} {Last = AllOf rules a} {Both = AllOf (r ∷ rules) a} {b = taken step offer (numbers M)}
+        (eachRule step (map (exchange names) rules) (number a)) (λ x f. f) (gives-cons r rules)
+        (rw (exchange-offers r listed a p (inside (r .left) a) refl) (rule-walk r listed (inside (r .left) a) refl M q))
+        (λ N j. rules-walk rules (λ s m. w s (inr m)) N j)
 
   -- What an insertion finds.
   data Finds (a : Label) (M : List Label) (o : Inserted) : Type 0 where
@@ -247,81 +273,98 @@ module _ (names : ℕ) (few : names ≤ 12) (rs : List Rule) (legal : Each (Lega
     finds true u e f = there refl (finds-there e)
     finds false true e f = added refl (finds-new e)
     finds false false e f =
-        full refl (let k = ltb-false (length (numbers M)) room f in let l = ap length (finds-new e) in let n = length-putIn (numbers M) (number a) in
-        rw (← length-map (ascending (a ∷ M)) number) (omega arith))
+        let k = ltb-false (length (numbers M)) room f in
+        let l = ap length (finds-new e) in
+        let n = length-putIn (numbers M) (number a) in
+        full refl (rw (← length-map (ascending (a ∷ M)) number) (omega arith))
 
-    found : Finds a M (inserted room (number a) (numbers M))
+    finds-inserted : Finds a M (inserted room (number a) (numbers M))
     unfolding inserted
-    found = finds (present (numbers M) (number a)) (ltb (length (numbers M)) room) refl refl
+    finds-inserted = finds (present (numbers M) (number a)) (ltb (length (numbers M)) room) refl refl
 
     -- a label put in, and followed by the rules
-    after-found : (o : Inserted) → Finds a M o → (more : List ℕ → Building) → Walk (a ∷ M) (Follows names rs a) (MustAll a rs) (more (numbers (a ∷ M)))
-        → Walk M (Follows names rs a) (λ N. a ∈ N) (followed o (number a) more (numbers M))
-    after-found o (there e m) more w = rw e (stays M (Follows names rs a) (λ N. a ∈ N) q m)
-    after-found o (full e h) more w =
-        rw e (inr (record { part = a ∷ M; stops = refl; much = inl h; only = λ c. elim [ inl k ↦ inr (subst (Follows names rs a) (sym k) here) | inr k ↦ inl k ] }))
-    after-found o (added e f) more w = rw (e, f) (put w)
+    only-label : {x : Label} → (x ∈ (a ∷ M)) ⊎ From a x → (x ∈ M) ⊎ From a x
+    only-label (inl (inl e)) = inr (subst (From a) (sym e) here)
+    only-label (inl (inr m)) = inl m
+    only-label (inr f) = inr f
+
+    after-inserted : (o : Inserted) → Finds a M o → (more : List ℕ → Building) → Walk (a ∷ M) (From a) (AllOf rs a) (more (numbers (a ∷ M)))
+        → PutIn a M (followed o (number a) more (numbers M))
+    after-inserted o (there e m) more w = rw e (walk-stays M (From a) (λ N. a ∈ N) q m)
+    after-inserted o (full e h) more w =
+        rw e (inr (record { part = a ∷ M; stops = refl; much = inl h; only = λ c m. only-label (inl m) }))
+    after-inserted o (added e f) more w = rw (e, f) (put w)
       where
-        put : {b : Building} → Walk (a ∷ M) (Follows names rs a) (MustAll a rs) b → Walk M (Follows names rs a) (λ N. a ∈ N) b
+        put : {b : Building} → Walk (a ∷ M) (From a) (AllOf rs a) b → PutIn a M b
         put (inl (N, x)) = inl (
           N,
           record {
             built = x .built;
             packs = x .packs;
             more = λ c m. x .more c (inr m);
-            only = λ c m. elim (x .only c m) [ inl k ↦ elim k [ inl l ↦ inr (subst (Follows names rs a) (sym l) here) | inr l ↦ inl l ] | inr k ↦ inr k ];
-            closed′ = λ c m. elim (x .closed′ c m) [ inl k ↦ elim k [ inl l ↦ inr (subst (λ (z : Label). All z N) (sym l) (x .must)) | inr l ↦ inl l ] | inr k ↦ inr k ];
+            only = λ c m. only-label (x .only c m);
+            closed′ = λ c m. elim (x .closed′ c m) [
+              | inl k ↦ elim k [ inl l ↦ inr (subst (λ (z : Label). All z N) (sym l) (x .must)) | inr l ↦ inl l ]
+              | inr k ↦ inr k
+            ];
             must = x .more a (inl refl);
           },
         )
-        put (inr x) = inr (record {
-          part = x .part;
-          stops = x .stops;
-          much = x .much;
-          only = λ c m. elim (x .only c m) [ inl k ↦ elim k [ inl l ↦ inr (subst (Follows names rs a) (sym l) here) | inr l ↦ inl l ] | inr k ↦ inr k ];
-        })
+        put (inr x) = inr (record { part = x .part; stops = x .stops; much = x .much; only = λ c m. only-label (x .only c m) })
+
+  abbrev closing : ℕ → ℕ → List ℕ → Building
+  closing depth = closed room (map (exchange names) rs) depth
 
   closed-walk : (depth : ℕ) (a : Label) (M : List Label) → Packs names a → AllPack names M → size a ≤ depth
-      → Walk M (Follows names rs a) (λ N. a ∈ N) (closed room (map (exchange names) rs) depth (number a) (numbers M))
+      → PutIn a M (closing depth (number a) (numbers M))
   unfolding closed
   closed-walk zero a M p q h =
-      after-found a M p q (inserted room (number a) (numbers M)) (found a M p q) done
-      (stays (a ∷ M) (Follows names rs a) (MustAll a rs) (both a M p q) (λ r m t. absurd (let l = fewer-left names r a (rule-legal names rs legal r m .1) t in omega arith)))
+      after-inserted a M p q (inserted room (number a) (numbers M)) (finds-inserted a M p q) done
+      (walk-stays (a ∷ M) (From a) (AllOf rs a) (both a M p q)
+      (λ r m t. absurd (let l = fewer-left names r a (rule-legal names rs legal r m .1) t in omega arith)))
   closed-walk (suc depth) a M p q h =
-      after-found a M p q (inserted room (number a) (numbers M)) (found a M p q) (eachRule (closed room (map (exchange names) rs) depth) (map (exchange names) rs) (number a))
-      (rules-walk (closed room (map (exchange names) rs) depth) depth (closed-walk depth) rs (λ r m. m) a p h (a ∷ M) (both a M p q))
+      after-inserted a M p q (inserted room (number a) (numbers M)) (finds-inserted a M p q)
+      (eachRule (closing depth) (map (exchange names) rs) (number a))
+      (rules-walk (closing depth) depth (closed-walk depth) a p h rs (λ r m. m) (a ∷ M) (both a M p q))
 
   -- The closure of a label beside a closed list.
   pub closed-moves : (M N : List Label) → Within M N → Within N M → Closed M → Closed N
   closed-moves M N w v c a m r n t = w (replaced names r a) (c a (v a m) r n t)
 
+  -- what a label gives by all applications, and the list before it
+  abbrev gained : Label → List Label → List Label
+  gained a M = communicated (size a) names rs a ++ M
+
   comm-good : (a : Label) (M : List Label) → Packs names a → AllPack names M → Closed M
-      → Outcome names room Closed closed-moves (communicated (size a) names rs a ++ M) (closed room (map (exchange names) rs) 31 (number a) (numbers M))
-  comm-good a M p q c = ends (closed-walk 31 a M p q (p .few))
+      → Outcome names room Closed closed-moves (gained a M) (closing mostApplications (number a) (numbers M))
+  comm-good a M p q c = ends (closed-walk mostApplications a M p q (p .few))
     where
-      inner : (x : Label) → (x ∈ M) ⊎ Follows names rs a x → x ∈ (communicated (size a) names rs a ++ M)
+      inner : (x : Label) → (x ∈ M) ⊎ From a x → x ∈ gained a M
       inner x (inl m) = in-append x (communicated (size a) names rs a) M .1 (inr m)
       inner x (inr f) = in-append x (communicated (size a) names rs a) M .1 (inl (follows-in a x f (size a) (le-refl (size a))))
 
-      ends : Walk M (Follows names rs a) (λ N. a ∈ N) (closed room (map (exchange names) rs) 31 (number a) (numbers M))
-          → Outcome names room Closed closed-moves (communicated (size a) names rs a ++ M) (closed room (map (exchange names) rs) 31 (number a) (numbers M))
-      ends (inr x) = inr (x .stops, too-much-more room (x .part) (communicated (size a) names rs a ++ M) (λ e m. inner e (x .only e m)) (x .much))
+      ends : PutIn a M (closing mostApplications (number a) (numbers M))
+          → Outcome names room Closed closed-moves (gained a M) (closing mostApplications (number a) (numbers M))
+      ends (inr x) = inr (x .stops, too-much-more room (x .part) (gained a M) (λ e m. inner e (x .only e m)) (x .much))
       ends (inl (N, x)) =
           let k : Closed N = λ e m. elim (x .closed′ e m) [ inl l ↦ (λ r n t. x .more (replaced names r e) (c e l r n t)) | inr l ↦ l ] in
-          let out : Within (communicated (size a) names rs a ++ M) N =
-          λ e m. elim (in-append e (communicated (size a) names rs a) M .0 m) [ inl l ↦ communicated-in (size a) N k a e (x .must) l | inr l ↦ x .more e l ] in
-          let back : Within N (communicated (size a) names rs a ++ M) = λ e m. inner e (x .only e m) in
+          let out : Within (gained a M) N = λ e m. elim (in-append e (communicated (size a) names rs a) M .0 m) [
+            | inl l ↦ communicated-in (size a) N k a e (x .must) l
+            | inr l ↦ x .more e l
+          ] in
+          let back : Within N (gained a M) = λ e m. inner e (x .only e m) in
           inl (record {
-            built = x .built ∙ ap (λ (s : List Label). done (map number s)) (ascending-same N (communicated (size a) names rs a ++ M) back out);
+            built = x .built ∙ ap (λ (s : List Label). done (map number s)) (ascending-same N (gained a M) back out);
             packs = λ e m. x .packs e (out e m);
-            kept = closed-moves N (communicated (size a) names rs a ++ M) back out k;
+            kept = closed-moves N (gained a M) back out k;
           })
 
   -- The labels of a list through comm.
   pub comm-outcome : (l M : List Label) → AllPack names l → AllPack names M → Closed M
       → Outcome names room Closed closed-moves (spread (λ a. communicated (size a) names rs a) l ++ M)
-      (each (closed room (exchangesIn (ruleLabels names rs)) 31) (map number l) (numbers M))
+      (each (closed room (exchangesIn (ruleLabels names rs)) mostApplications) (map number l) (numbers M))
   comm-outcome l M p q c =
-      subst (λ (xs : List Exchange). Outcome names room Closed closed-moves (spread (λ a. communicated (size a) names rs a) l ++ M)
-      (each (λ w. closed room xs 31 w) (map number l) (numbers M))) (sym (rules-read names rs))
-      (each-outcome names room Closed closed-moves (λ w. closed room (map (exchange names) rs) 31 w) (λ a. communicated (size a) names rs a) comm-good l M p q c)
+      let gives : Label → List Label = λ a. communicated (size a) names rs a in
+      subst (λ (xs : List Exchange). Outcome names room Closed closed-moves (spread gives l ++ M)
+      (each (λ w. closed room xs mostApplications w) (map number l) (numbers M))) (sym (rules-read names rs))
+      (each-outcome names room Closed closed-moves (λ w. closing mostApplications w) gives comm-good l M p q c)

@@ -11,6 +11,11 @@ unfoldable pub eachRule : (ℕ → List ℕ → Building) → List Exchange → 
 eachRule step [] w s = done s
 eachRule step (r ∷ rs) w s = next (taken step (exchangeOf (r .left) (r .right) w) s) (eachRule step rs w)
 
+-- How many applications one after the other are followed: an application leaves fewer actions than there were, and a label has
+-- at most 31.
+abbrev pub mostApplications : ℕ
+mostApplications = 31
+
 -- A label with all that follows from it by at most so many applications, one after the other. From a label that was there
 -- already nothing is followed again. Which labels are in when the room runs out depends on the order of the walk, so the walk
 -- is what is written here. Where the room does not run out, the set holds the labels before and all that follow by rules, and no

@@ -4,12 +4,12 @@
 use crate::rules::offer;
 use labels::Label;
 use labels::packing::labels_in;
+use parts::Target;
+use parts::placing::reach;
 use sets::Built;
 use sets::Inserted;
 use sets::Offer;
-use sets::Target;
 use sets::inserting::insert;
-use sets::placing::reach;
 ghost use Prim.Native.Nat.{_-_, _≤_};
 ghost use lib.ListN.{length};
 ghost use Rattle.labels.specs.Packing.{held, code};

@@ -1,3 +1,2 @@
-// Two parts in one set: their union, and their product, every sum of a label of the one and a label of the other.
+// Two parts in one set: their union.
 pub mod joining;
-pub mod multiplying;

@@ -4,14 +4,19 @@ use labels::Label;
 use labels::bags::single;
 use libc::STDOUT_FILENO;
 use merging::joining::union;
-use merging::multiplying::add_product;
+use parts::MOST_LABELS;
+use parts::Part;
+use parts::Target;
+use products::multiplying::add_product;
 use sets::Built;
-use sets::Part;
-use sets::Target;
 use sets::inserting::insert;
 use ways::Way;
 use ways::imaging::add_image;
 
+// How many words there are for all sets.
+const WORDS: usize = 4096;
+
+// How many labels a set holds; none if it would pass a limit.
 fn count(answer: Built) -> usize {
     match answer {
         Built::TooLarge => 0,
@@ -21,17 +26,8 @@ fn count(answer: Built) -> usize {
 
 // Twice as many dies: the labels of both, and their sums.
 fn merged(words: &mut [u64], dies: Part, at: usize) -> usize {
-    let len = count(union(words, dies, dies, at, 1024));
-    count(add_product(
-        words,
-        dies,
-        dies,
-        Target {
-            at,
-            len,
-            most: 1024,
-        },
-    ))
+    let len = count(union(words, dies, dies, at, MOST_LABELS));
+    count(add_product(words, dies, dies, target(at, len)))
 }
 
 // A part and a target, by their numbers.
@@ -43,10 +39,11 @@ fn target(at: usize, len: usize) -> Target {
     Target {
         at,
         len,
-        most: 1024,
+        most: MOST_LABELS,
     }
 }
 
+// A line: what is counted, and how many.
 fn show(text: &[u8], n: usize) {
     io::write_all(STDOUT_FILENO, text);
     io::print_decimal(STDOUT_FILENO, n as u64);
@@ -54,7 +51,7 @@ fn show(text: &[u8], n: usize) {
 }
 
 fn main() {
-    let mut words = [0u64; 4096];
+    let mut words = [0u64; WORDS];
     // a die that starts, is done or is busy; two, four and eight of them stand behind one another
     insert(&mut words, target(0, 0), single(0));
     insert(&mut words, target(0, 1), single(1));

@@ -1,11 +1,23 @@
 -- The laws of sets in words, each file after those that it cites.
-pub mod Laid
+-- halving-start, halving-up, halving-down, halving-end: the loop of `place`; place-splits: what stands before the place of a
+-- label and after it; rising-first: the first label of an ascending list
 pub mod Halving
+-- set-moved, pushed-laid: a set opened for a label
+pub mod Opening
+-- entered-present, entered-full, entered-added: the three answers of `insert`
 pub mod Insertion
+-- length-putIn, inserted-room; steady-..: no step shortens a set or takes it past the room; going-..: what is built and what is
+-- to come are the goal; followed-..: what follows an insertion; next-holds, next-large, built-holds, built-large, each-append
 pub mod Steps
+-- part-stays: a part stays while a set behind it is built; walk-start, walk-holds, walk-large, walk-end: a loop over a part;
+-- walked-part: its promise
 pub mod Walking
-pub mod Ascents
+-- compare-lt, compare-gt, compare-eq; insert-present, insert-absent, rising-enter: insertion in an ascending list is the insertion
+-- in order; rising-insert, insert-longer
 pub mod Sorting
-pub mod Meant
+-- insert-number, numbers-rising, each-outcome, enter-outcome: what is built of numbers is what `meaning` makes of the labels
+pub mod Refinement
+-- taken-outcome: the same of a label that is offered
 pub mod Outcomes
+-- placed-unique, entered-unique, grown-unique: any two results are equal, and the words that they leave
 pub mod Uniqueness

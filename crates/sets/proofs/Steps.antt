@@ -1,9 +1,9 @@
 -- Sets that are built step by step: a step never shortens a set and never takes it past the room; and what the words hold
 -- after some steps, with what is to come, is what is wanted.
 -- Assumes nothing.
-use mathlib.Core.Path.{_≡_, refl, sym, ap, ap₂, _∙_}
+use mathlib.Core.Path.{_≡_, refl, sym, ap, ap₂, _∙_, _≡⟨_⟩_, _∎}
 use mathlib.Core.Bool.{Bool, true, false}
-use mathlib.Core.List.{List, [], _∷_}
+use mathlib.Core.List.{List, [], _∷_, _++_}
 use Prim.Native.Nat.{ℕ, suc, _+_, _-_, _≤_, _<_, max}
 use native.Mathlib.Omega.{arith}
 use borrow.Author.Tests.{ltb-true}
@@ -16,10 +16,10 @@ use Rattle.sets.specs.declared.Built.{Built}
 use Rattle.sets.specs.declared.Built.the-variants.{TooLarge, Holds}
 use Rattle.sets.specs.declared.Offer.{Offer}
 use Rattle.sets.specs.declared.Offer.the-variants.{Nothing, TooLong, Next}
-use Rattle.sets.specs.Parts.{setAt, laid, roomAt, reachOf}
+use Rattle.parts.specs.Parts.{setAt, laid, roomAt, reachOf}
 use Rattle.sets.specs.Inserting.{present, putIn, pickInserted, inserted, Entered}
 use Rattle.sets.specs.Building.{Building, done, stopped, pickBuilt, answerOf, goesOn, next, each, followed, enter, taken, Grown}
-use Rattle.sets.proofs.Laid.{Fits, length-setAt, laid-self, length-laid, setAt-laid, laid-laid}
+use Rattle.parts.proofs.Laid.{Fits, length-setAt, laid-self, length-laid, setAt-laid, laid-laid}
 
 -- The length of a set under each step.
 pub length-putIn : (s : List ℕ) (w : ℕ) → length (putIn s w) ≡ suc (length s)
@@ -59,10 +59,15 @@ module _ (room : ℕ) where
   unfolding Steady
   steady-followed w more p s = go (inserted room w s) refl
     where
-      go : (o : Inserted) → inserted room w s ≡ o → (length s ≤ length (followed o w more s .set)) × (length (followed o w more s .set) ≤ max (length s) room)
+      go : (o : Inserted) → inserted room w s ≡ o
+          → (length s ≤ length (followed o w more s .set)) × (length (followed o w more s .set) ≤ max (length s) room)
       go Full e = omega arith
       go Present e = omega arith
-      go Added e = let l = inserted-room room w s e in let k = length-putIn s w in let q = p (putIn s w) in omega arith
+      go Added e =
+          let l = inserted-room room w s e in
+          let k = length-putIn s w in
+          let q = p (putIn s w) in
+          omega arith
 
   pub steady-taken : (step : ℕ → List ℕ → Building) (o : Offer) → ((w : ℕ) → Steady room (step w)) → Steady room (taken step o)
   unfolding Steady
@@ -82,11 +87,27 @@ pub built-large : (t : Bool) (m : ℕ) → TooLarge ≡ pickBuilt t m → t ≡ 
 built-large true m e = cc
 built-large false m e = refl
 
-pub next-holds : (b : Building) (more : List ℕ → Building) (n : ℕ) → Holds n ≡ answerOf b → (next b more ≡ more (b .set)) × (n ≡ length (b .set))
+pub next-holds : (b : Building) (more : List ℕ → Building) (n : ℕ) → Holds n ≡ answerOf b
+    → (next b more ≡ more (b .set)) × (n ≡ length (b .set))
 next-holds b more n e = let p = built-holds (b .whole) (length (b .set)) n e in (ap (λ (t : Bool). goesOn t b more) (p .0), p .1)
 
 pub next-large : (b : Building) (more : List ℕ → Building) → TooLarge ≡ answerOf b → next b more ≡ b
 next-large b more e = ap (λ (t : Bool). goesOn t b more) (built-large (b .whole) (length (b .set)) e)
+
+-- Each label of one list and then each of another.
+pub each-append : (f : ℕ → List ℕ → Building) (xs ys s : List ℕ) → each f (xs ++ ys) s ≡ next (each f xs s) (each f ys)
+unfolding each
+each-append f [] ys s = refl
+each-append f (x ∷ xs) ys s = nested (f x s .whole) (f x s) refl (λ t. each-append f xs ys t)
+  where
+    nested : (t : Bool) (b : Building) → b .whole ≡ t → ((u : List ℕ) → each f (xs ++ ys) u ≡ next (each f xs u) (each f ys))
+        → goesOn t b (each f (xs ++ ys)) ≡ next (goesOn t b (each f xs)) (each f ys)
+    nested true b e h = h (b .set)
+    nested false b e h = sym (ap (λ (t : Bool). goesOn t b (each f ys)) e)
+
+-- What is laid of a building.
+pub laid-set : (at : ℕ) (ls : List ℕ) {b c : Building} → b ≡ c → laid at (b .set) ls ≡ laid at (c .set) ls
+laid-set at ls e = ap (λ (b : Building). laid at (b .set) ls) e
 
 -- The words hold a set as far as it is built; what is to come makes the goal of it.
 pub record Going (at : ℕ) (before now : List ℕ) (len : ℕ) (rest : List ℕ → Building) (goal : Building) : Type 0 where
@@ -96,7 +117,8 @@ pub record Going (at : ℕ) (before now : List ℕ) (len : ℕ) (rest : List ℕ
   pub fits : Fits at set before
   pub goes : rest set ≡ goal
 
-pub going-start : (at : ℕ) (ls : List ℕ) (len : ℕ) (build : List ℕ → Building) → len ≤ length ls - at → Going at ls ls len build (build (setAt at len ls))
+pub going-start : (at : ℕ) (ls : List ℕ) (len : ℕ) (build : List ℕ → Building) → len ≤ length ls - at
+    → Going at ls ls len build (build (setAt at len ls))
 going-start at ls len build h = record {
   set = setAt at len ls;
   held = sym (laid-self at len ls);
@@ -112,74 +134,102 @@ module _ {at len : ℕ} {before now : List ℕ} {rest : List ℕ → Building} {
       (e, let f = x .fits in let c = x .count in omega arith)
 
   -- the end, and a step that is stopped before any label
-  pub going-end : Going at before now len rest goal → ((s : List ℕ) → rest s ≡ done s) → (Holds len ≡ answerOf goal) × (now ≡ laid at (goal .set) before)
-  going-end x h = let e = sym (h (x .set)) ∙ x .goes in (ap Holds (x .count) ∙ ap answerOf e, x .held ∙ ap (λ (b : Building). laid at (b .set) before) e)
+  pub going-end : Going at before now len rest goal → ((s : List ℕ) → rest s ≡ done s)
+      → (Holds len ≡ answerOf goal) × (now ≡ laid at (goal .set) before)
+  going-end x h =
+      let e = sym (h (x .set)) ∙ x .goes in
+      (ap Holds (x .count) ∙ ap answerOf e, x .held ∙ laid-set at before e)
 
-  pub going-stop : Going at before now len rest goal → ((s : List ℕ) → rest s ≡ stopped s) → (TooLarge ≡ answerOf goal) × (now ≡ laid at (goal .set) before)
-  going-stop x h = let e = sym (h (x .set)) ∙ x .goes in (ap answerOf e, x .held ∙ ap (λ (b : Building). laid at (b .set) before) e)
+  pub going-stop : Going at before now len rest goal → ((s : List ℕ) → rest s ≡ stopped s)
+      → (TooLarge ≡ answerOf goal) × (now ≡ laid at (goal .set) before)
+  going-stop x h =
+      let e = sym (h (x .set)) ∙ x .goes in
+      (ap answerOf e, x .held ∙ laid-set at before e)
 
   -- what is to come, said otherwise
-  pub going-as : (other : List ℕ → Building) → Going at before now len rest goal → ((s : List ℕ) → rest s ≡ other s) → Going at before now len other goal
+  pub going-as : (other : List ℕ → Building) → Going at before now len rest goal → ((s : List ℕ) → rest s ≡ other s)
+      → Going at before now len other goal
   going-as other x h = record { set = x .set; held = x .held; count = x .count; fits = x .fits; goes = sym (h (x .set)) ∙ x .goes }
 
 -- A step that a function takes at the words as they are: whatever is to come, it is the step at the set; it leads on, or
 -- stops, or is all that was to come.
-module _ (most : ℕ) (step : ℕ → List ℕ → Building) {at len : ℕ} {before now after : List ℕ} {r : Built} {rest : List ℕ → Building} {goal : Building}
-    (steady : (room : ℕ) → Steady room (step room)) (x : Going at before now len rest goal) (g : Grown (step (roomAt at most (length now))) at len now after r) where
-  stepped : step (roomAt at most (length now)) (setAt at len now) ≡ step (roomAt at most (length before)) (x .set)
-  stepped =
+module _ (most : ℕ) (step : ℕ → List ℕ → Building)
+    {at len : ℕ} {before now after : List ℕ} {r : Built} {rest : List ℕ → Building} {goal : Building}
+    (steady : (room : ℕ) → Steady room (step room)) (x : Going at before now len rest goal)
+    (g : Grown (step (roomAt at most (length now))) at len now after r) where
+  abbrev stepped : Building
+  stepped = step (roomAt at most (length before)) (x .set)
+
+  step-same : step (roomAt at most (length now)) (setAt at len now) ≡ stepped
+  step-same =
       ap₂ (λ (n : ℕ) (s : List ℕ). step (roomAt at most n) s) (going-length x .0)
       (ap₂ (λ (n : ℕ) (l : List ℕ). setAt at n l) (x .count) (x .held) ∙ setAt-laid at (x .set) before (x .fits))
 
-  bounds : let b = step (roomAt at most (length before)) (x .set) in (length (x .set) ≤ length (b .set)) × (length (b .set) ≤ length before - at)
+  step-bounds : (length (x .set) ≤ length (stepped .set)) × (length (stepped .set) ≤ length before - at)
   unfolding Steady
-  bounds = let p = steady (roomAt at most (length before)) (x .set) in let f = x .fits in omega arith
+  step-bounds = let p = steady (roomAt at most (length before)) (x .set) in let f = x .fits in omega arith
 
-  answers : r ≡ answerOf (step (roomAt at most (length before)) (x .set))
-  answers = g .answer ∙ ap answerOf stepped
+  step-answer : r ≡ answerOf stepped
+  step-answer = g .answer ∙ ap answerOf step-same
 
-  after-is : after ≡ laid at (step (roomAt at most (length before)) (x .set) .set) before
-  after-is =
-      g .words ∙ ap₂ (λ (b : Building) (l : List ℕ). laid at (b .set) l) stepped (x .held)
-      ∙ laid-laid at (x .set) before (x .fits) (step (roomAt at most (length before)) (x .set) .set) (bounds .0)
+  step-words : after ≡ laid at (stepped .set) before
+  step-words =
+      after
+      ≡⟨ g .words ⟩ laid at (step (roomAt at most (length now)) (setAt at len now) .set) now
+      ≡⟨ ap₂ (λ (b : Building) (l : List ℕ). laid at (b .set) l) step-same (x .held) ⟩ laid at (stepped .set) (laid at (x .set) before)
+      ≡⟨ laid-laid at (x .set) before (x .fits) (stepped .set) (step-bounds .0) ⟩ laid at (stepped .set) before ∎
 
-module _ (most : ℕ) (step : ℕ → List ℕ → Building) (rest : List ℕ → Building) {at len : ℕ} {before now after : List ℕ} {r : Built} {goal : Building}
-    (steady : (room : ℕ) → Steady room (step room)) (x : Going at before now len (λ s. next (step (roomAt at most (length before)) s) rest) goal)
+module _ (most : ℕ) (step : ℕ → List ℕ → Building) (rest : List ℕ → Building)
+    {at len : ℕ} {before now after : List ℕ} {r : Built} {goal : Building}
+    (steady : (room : ℕ) → Steady room (step room))
+    (x : Going at before now len (λ s. next (step (roomAt at most (length before)) s) rest) goal)
     (g : Grown (step (roomAt at most (length now))) at len now after r) where
   pub going-holds : (n : ℕ) → r ≡ Holds n → Going at before after n rest goal
   going-holds n e =
       let b = step (roomAt at most (length before)) (x .set) in
-      let p = next-holds b rest n (sym e ∙ answers most step steady x g) in
-      record { set = b .set; held = after-is most step steady x g; count = p .1; fits = bounds most step steady x g .1; goes = sym (p .0) ∙ x .goes }
+      let p = next-holds b rest n (sym e ∙ step-answer most step steady x g) in
+      record {
+        set = b .set;
+        held = step-words most step steady x g;
+        count = p .1;
+        fits = step-bounds most step steady x g .1;
+        goes = sym (p .0) ∙ x .goes;
+      }
 
   pub going-large : r ≡ TooLarge → (TooLarge ≡ answerOf goal) × (after ≡ laid at (goal .set) before)
   going-large e =
-      let a = sym e ∙ answers most step steady x g in
+      let a = sym e ∙ step-answer most step steady x g in
       let q = sym (next-large (step (roomAt at most (length before)) (x .set)) rest a) ∙ x .goes in
-      (a ∙ ap answerOf q, after-is most step steady x g ∙ ap (λ (b : Building). laid at (b .set) before) q)
+      (a ∙ ap answerOf q, step-words most step steady x g ∙ laid-set at before q)
 
-pub going-last : (most : ℕ) (step : ℕ → List ℕ → Building) {at len : ℕ} {before now after : List ℕ} {r : Built} {goal : Building}
-    → ((room : ℕ) → Steady room (step room)) → Going at before now len (step (roomAt at most (length before))) goal
-    → Grown (step (roomAt at most (length now))) at len now after r → (r ≡ answerOf goal) × (after ≡ laid at (goal .set) before)
+pub going-last : (most : ℕ) (step : ℕ → List ℕ → Building)
+    {at len : ℕ} {before now after : List ℕ} {r : Built} {goal : Building}
+    → ((room : ℕ) → Steady room (step room))
+    → Going at before now len (step (roomAt at most (length before))) goal
+    → Grown (step (roomAt at most (length now))) at len now after r
+    → (r ≡ answerOf goal) × (after ≡ laid at (goal .set) before)
 going-last most step {at} {before = before} steady x g =
-    (answers most step steady x g ∙ ap answerOf (x .goes), after-is most step steady x g ∙ ap (λ (b : Building). laid at (b .set) before) (x .goes))
+    (step-answer most step steady x g ∙ ap answerOf (x .goes), step-words most step steady x g ∙ laid-set at before (x .goes))
 
-pub grown-as : {f g : List ℕ → Building} {at len : ℕ} {before after : List ℕ} {r : Built} → ((s : List ℕ) → f s ≡ g s) → Grown f at len before after r
-    → Grown g at len before after r
+pub grown-as : {f g : List ℕ → Building} {at len : ℕ} {before after : List ℕ} {r : Built} → ((s : List ℕ) → f s ≡ g s)
+    → Grown f at len before after r → Grown g at len before after r
 grown-as {at = at} {len} {before} h x =
     let e = h (setAt at len before) in
-    record { answer = x .answer ∙ ap answerOf e; words = x .words ∙ ap (λ (b : Building). laid at (b .set) before) e }
+    record { answer = x .answer ∙ ap answerOf e; words = x .words ∙ laid-set at before e }
 
 -- What follows an insertion.
 abbrev pub insertedThen : ℕ → ℕ → (List ℕ → Building) → List ℕ → Building
 insertedThen room w more s = followed (inserted room w s) w more s
 
 module _ {at len most w : ℕ} {ls after : List ℕ} {o : Inserted} (x : Entered at len most w ls after o) where
-  pub followed-stops : (more : List ℕ → Building) → o ≡ Full → Grown (insertedThen (roomAt at most (length ls)) w more) at len ls after TooLarge
+  abbrev room : ℕ
+  room = roomAt at most (length ls)
+
+  pub followed-stops : (more : List ℕ → Building) → o ≡ Full → Grown (insertedThen room w more) at len ls after TooLarge
   followed-stops more e = let i = sym (x .answer) ∙ e in record { answer = rw i; words = x .words ∙ rw (e, i) }
 
   module _ (count : ℕ) (reached : count ≡ reachOf at len (length ls)) where
-    pub followed-stays : (more : List ℕ → Building) → o ≡ Present → Grown (insertedThen (roomAt at most (length ls)) w more) at len ls after (Holds count)
+    pub followed-stays : (more : List ℕ → Building) → o ≡ Present → Grown (insertedThen room w more) at len ls after (Holds count)
     followed-stays more e =
         let i = sym (x .answer) ∙ e in
         let l : count ≡ length (setAt at len ls) = reached ∙ sym (length-setAt at len ls) in
@@ -187,13 +237,13 @@ module _ {at len most w : ℕ} {ls after : List ℕ} {o : Inserted} (x : Entered
 
     -- a label was put in: what goes on from there
     pub followed-going : (more : List ℕ → Building) → o ≡ Added
-        → Going at ls after (count + 1) more (insertedThen (roomAt at most (length ls)) w more (setAt at len ls))
+        → Going at ls after (count + 1) more (insertedThen room w more (setAt at len ls))
     followed-going more e =
         let i = sym (x .answer) ∙ e in
         let k = length-putIn (setAt at len ls) w in
         let l = length-setAt at len ls in
-        let room = inserted-room (roomAt at most (length ls)) w (setAt at len ls) i in
+        let roomy = inserted-room room w (setAt at len ls) i in
         record { set = putIn (setAt at len ls) w; held = x .words ∙ rw e; count = omega arith; fits = omega arith; goes = rw i }
 
-    pub followed-ends : o ≡ Added → Grown (enter (roomAt at most (length ls)) w) at len ls after (Holds (count + 1))
+    pub followed-ends : o ≡ Added → Grown (enter room w) at len ls after (Holds (count + 1))
     followed-ends e = let p = going-end (followed-going done e) (λ s. refl) in record { answer = p .0; words = p .1 }

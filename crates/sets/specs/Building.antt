@@ -14,8 +14,8 @@ use Rattle.sets.specs.declared.Built.{Built}
 use Rattle.sets.specs.declared.Built.the-variants.{TooLarge, Holds}
 use Rattle.sets.specs.declared.Offer.{Offer}
 use Rattle.sets.specs.declared.Offer.the-variants.{Nothing, TooLong, Next}
-use Rattle.sets.specs.declared.Target.{Target}
-use Rattle.sets.specs.Parts.{setAt, laid, roomAt}
+use Rattle.parts.specs.declared.Target.{Target}
+use Rattle.parts.specs.Parts.{setAt, laid, roomAt}
 use Rattle.sets.specs.Inserting.{putIn, inserted}
 
 -- A set as far as it is built, and whether all went in.

@@ -1,5 +1,3 @@
 -- What the functions on sets of packed labels mean: definitions over lists of numbers, each the number of a label.
-pub mod Parts
-pub mod Comparing
 pub mod Inserting
 pub mod Building

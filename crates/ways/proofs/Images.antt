@@ -1,4 +1,5 @@
--- Whether a label is listed, from the i-th entry on; and what a way makes of a label never shortens a set nor takes it past the room.
+-- Whether a label is listed, from the i-th entry on; and what a way makes of a label never shortens a set nor takes it past the
+-- room.
 -- Assumes nothing.
 use mathlib.Core.Path.{_≡_}
 use mathlib.Core.Bool.{true, false}
@@ -19,7 +20,8 @@ pub listed-here : (w : ℕ) (list : List ℕ) (i : ℕ) → i < length list → 
 unfolding listedIn
 listed-here w list i h e = rw (drop-cons list i 0 h, ← e)
 
-pub listed-later : (w : ℕ) (list : List ℕ) (i : ℕ) → i < length list → false ≡ eqb w (getD list i 0) → listedIn w (drop i list) ≡ listedIn w (drop (i + 1) list)
+pub listed-later : (w : ℕ) (list : List ℕ) (i : ℕ) → i < length list → false ≡ eqb w (getD list i 0)
+    → listedIn w (drop i list) ≡ listedIn w (drop (i + 1) list)
 unfolding listedIn
 listed-later w list i h e = rw (add-one i, drop-cons list i 0 h, ← e)
 
@@ -29,4 +31,5 @@ listed-nowhere w list i h = rw (drop-of-length-le list h)
 
 pub steady-imaged : (room : ℕ) (way : Way) (list : List ℕ) (w : ℕ) → Steady room (imaged room way list w)
 steady-imaged room way list w =
-    steady-taken room (closed room (exchangesIn list) (depthOf way)) (offerOf way list w) (steady-closed room (exchangesIn list) (depthOf way))
+    let rules = exchangesIn list in
+    steady-taken room (closed room rules (depthOf way)) (offerOf way list w) (steady-closed room rules (depthOf way))

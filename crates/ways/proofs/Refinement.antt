@@ -24,7 +24,7 @@ use Rattle.sets.specs.declared.Offer.{Offer}
 use Rattle.sets.specs.declared.Offer.the-variants.{Nothing, TooLong, Next}
 use Rattle.sets.specs.Building.{each, enter, taken}
 use Rattle.sets.proofs.Outcomes.{Offered, none, one, Anything, Result, taken-outcome}
-use Rattle.sets.proofs.Meant.{AllPack, compare-number, each-outcome}
+use Rattle.sets.proofs.Refinement.{AllPack, compare-number, each-outcome}
 use Rattle.comm.specs.Following.{closed}
 use Rattle.comm.specs.Rules.{pickOffer, Exchange, exchangesIn}
 use Rattle.ways.specs.declared.Way.{Way}
@@ -44,8 +44,9 @@ pub way-outcome : (names room : ℕ) (way : Way) (list : List ℕ) (gives : Labe
     → Result names room (spread gives l ++ M) (each (imaged room way list) (map number l) (map number (ascending M)))
 way-outcome names room way list gives d good l M p q =
     each-outcome names room Anything (λ K L w v i. tt) (imaged room way list) gives
-    (λ a N r s i. rw d (rw (sym (taken-alone room (exchangesIn list) (offerOf way list (number a)) (map number (ascending N))))
-    (taken-outcome names room (good a r) N s))) l M p q tt
+    (λ a N r s i.
+    let alone = taken-alone room (exchangesIn list) (offerOf way list (number a)) (map number (ascending N)) in
+    rw d (rw (sym alone) (taken-outcome names room (good a r) N s))) l M p q tt
 
 -- Each way.
 pub copy-offers : {names : ℕ} (list : List ℕ) (a : Label) → Packs names a → Offered names (offerOf Copy list (number a)) (a ∷ [])
@@ -55,35 +56,44 @@ kept-offers : {names : ℕ} (t : Bool) (a : Label) → Packs names a → Offered
 kept-offers true a p = one a p
 kept-offers false a p = none
 
-pub block-offers : (names : ℕ) → names ≤ 12 → (ns : List ℕ) (a : Label) → Packs names a → Offered names (offerOf Block ns (number a)) (keep (clear ns) a)
+pub block-offers : (names : ℕ) → names ≤ 12 → (ns : List ℕ) (a : Label) → Packs names a
+    → Offered names (offerOf Block ns (number a)) (keep (clear ns) a)
 block-offers names few ns a p = rw (clear-number names few ns a p) (kept-offers (clear ns a) a p)
 
-pub hide-offers : (names : ℕ) → names ≤ 12 → (ns : List ℕ) (a : Label) → Packs names a → Offered names (offerOf Hide ns (number a)) (turn (without ns) a)
+pub hide-offers : (names : ℕ) → names ≤ 12 → (ns : List ℕ) (a : Label) → Packs names a
+    → Offered names (offerOf Hide ns (number a)) (turn (without ns) a)
 hide-offers names few ns a p =
-    rw (without-number names few ns a p)
-    (one (without ns a) (record { wide = length-without ns a ∙ p .wide; few = let h = size-without ns a in let k = p .few in omega arith }))
+    let h = size-without ns a in
+    let k = p .few in
+    rw (without-number names few ns a p) (one (without ns a) (record { wide = length-without ns a ∙ p .wide; few = omega arith }))
 
-pub rename-offers : (names : ℕ) → names ≤ 12 → (ps : List Pair) → Each (LegalPair names) ps → Each (λ p. p .left < 32) ps → (a : Label) → Packs names a
+pub rename-offers : (names : ℕ) → names ≤ 12 → (ps : List Pair) → Each (LegalPair names) ps → Each (λ p. p .left < 32) ps
+    → (a : Label) → Packs names a
     → Offered names (offerOf Rename (pairWords ps) (number a)) (turn (renamed names (target ps)) a)
 rename-offers names few ps legal left a p =
+    let h = size-renamed names (target ps) a 0 in
+    let k = p .few in
     rw (pairs-read ps left, renamed-number names ps a few legal p)
-    (one (renamed names (target ps) a) (record { wide = length-renamed names (target ps) a 0; few = let h = size-renamed names (target ps) a 0 in let k = p .few in omega arith }))
+    (one (renamed names (target ps) a) (record { wide = length-renamed names (target ps) a 0; few = omega arith }))
 
 -- Allow: listed, or tau.
-pub same-test : (m n : ℕ) → (m ≡ 0) ↔ (n ≡ 0) → eqb m 0 ≡ eqb n 0
-same-test m n h = elim (decLt 0 m) [
+pub eqb-zero : (m n : ℕ) → (m ≡ 0) ↔ (n ≡ 0) → eqb m 0 ≡ eqb n 0
+eqb-zero m n h = elim (decLt 0 m) [
   | yes l ↦
       let z : n ≡ 0 → ⊥ = λ e. let k = h .1 e in omega arith in
       ne-eqb m 0 (λ e. omega arith) ∙ sym (ne-eqb n 0 z)
   | no l ↦ let e : m ≡ 0 = omega arith in eq-eqb m 0 e ∙ sym (eq-eqb n 0 (h .0 e))
 ]
 
-pub member-number : (names : ℕ) (a : Label) (ls : List Label) → Packs names a → AllPack names ls → listedIn (number a) (map number ls) ≡ member a ls
+pub member-number : (names : ℕ) (a : Label) (ls : List Label) → Packs names a → AllPack names ls
+    → listedIn (number a) (map number ls) ≡ member a ls
 unfolding listedIn member
 member-number names a [] p q = refl
-member-number names a (b ∷ ls) p q = rw (compare-number names a b p (q b (inl refl)), member-number names a ls p (λ c m. q c (inr m)))
+member-number names a (b ∷ ls) p q =
+    rw (compare-number names a b p (q b (inl refl)), member-number names a ls p (λ c m. q c (inr m)))
 
-pub allow-offers : (names : ℕ) (ls : List Label) → AllPack names ls → (a : Label) → Packs names a → Offered names (offerOf Allow (labelWords ls) (number a)) (keep (allowed ls) a)
+pub allow-offers : (names : ℕ) (ls : List Label) → AllPack names ls → (a : Label) → Packs names a
+    → Offered names (offerOf Allow (labelWords ls) (number a)) (keep (allowed ls) a)
 unfolding allowed isTau
 allow-offers names ls q a p =
-    rw (member-number names a ls p q, sym (same-test (size a) (number a) (number-zero a))) (kept-offers (eqb (size a) 0 || member a ls) a p)
+    rw (member-number names a ls p q, sym (eqb-zero (size a) (number a) (number-zero a))) (kept-offers (eqb (size a) 0 || member a ls) a p)

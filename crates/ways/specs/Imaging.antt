@@ -15,12 +15,11 @@ use Rattle.sets.specs.declared.Offer.{Offer}
 use Rattle.sets.specs.declared.Offer.the-variants.{Next}
 use Rattle.sets.specs.Building.{Building, taken}
 use Rattle.comm.specs.Rules.{exchangesIn, pickOffer}
-use Rattle.comm.specs.Following.{closed}
+use Rattle.comm.specs.Following.{mostApplications, closed}
 use Rattle.ways.specs.declared.Way.{Way}
 use Rattle.ways.specs.declared.Way.the-variants.{Copy, Block, Hide, Rename, Comm, Allow}
 
--- What each way makes of a label, by the words of its list; and how many applications of rules are followed from there. An
--- application leaves fewer actions than there were, so 31 are enough for a label.
+-- What each way makes of a label, by the words of its list; and how many applications of rules are followed from there.
 unfoldable pub listedIn : ℕ → List ℕ → Bool
 listedIn w [] = false
 listedIn w (v ∷ vs) = eqb w v || listedIn w vs
@@ -47,7 +46,7 @@ depthOf Copy = 0
 depthOf Block = 0
 depthOf Hide = 0
 depthOf Rename = 0
-depthOf Comm = 31
+depthOf Comm = mostApplications
 depthOf Allow = 0
 
 abbrev pub imaged : ℕ → Way → List ℕ → ℕ → List ℕ → Building

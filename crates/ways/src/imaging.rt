@@ -3,6 +3,7 @@ use crate::Way;
 use comm::following::MOST_APPLICATIONS;
 use comm::following::close;
 use labels::Label;
+use labels::NAMES;
 use labels::packing::labels_in;
 use labels::packing::read_label;
 use labels::packing::same;
@@ -11,20 +12,20 @@ use names::clear;
 use names::hide;
 use names::rename;
 use names::renaming;
+use parts::Part;
+use parts::Target;
+use parts::placing::end_before;
+use parts::placing::reach;
 use sets::Built;
 use sets::Offer;
-use sets::Part;
-use sets::Target;
 use sets::inserting::enter;
-use sets::placing::end_before;
-use sets::placing::reach;
 ghost use mathlib.Core.Path.{_≡_};
 ghost use mathlib.Core.Bool.{_||_};
 ghost use Prim.Native.Nat.{_-_, _≤_};
 ghost use lib.Dec.{eqb};
 ghost use lib.ListN.{length};
 ghost use Rattle.labels.specs.Packing.{held, code};
-ghost use Rattle.sets.specs.Parts.{wordsOf};
+ghost use Rattle.parts.specs.Parts.{wordsOf};
 ghost use Rattle.sets.specs.Building.{GrownAt, each, taken};
 ghost use Rattle.ways.specs.Imaging.{imaged, listedIn, MapFor, offerOf, depthOf};
 ghost use Rattle.comm.specs.Following.{closed};
@@ -48,17 +49,17 @@ fn allowed(list: &[u64], label: Label) -> bool
 }
 
 // The map of a renaming, made of the list once for the part; the other ways have none.
-fn map_for(way: Way, list: &[u64]) -> [u64; 12]
+fn map_for(way: Way, list: &[u64]) -> [u64; NAMES]
     ensures { λ r. ⌜ MapFor way (now (list .entry)) r ⌝ }
 {
     match way {
         Way::Rename => renaming(list),
-        _ => [0u64; 12],
+        _ => [0u64; NAMES],
     }
 }
 
 // What a way makes of a label.
-fn made(way: Way, list: &[u64], map: [u64; 12], label: Label) -> Offer
+fn made(way: Way, list: &[u64], map: [u64; NAMES], label: Label) -> Offer
     requires { ⌜ MapFor way (now list) map ⌝ }
     ensures { λ r. ⌜ r ≡ offerOf way (now (list .entry)) (code label) ⌝ }
 {

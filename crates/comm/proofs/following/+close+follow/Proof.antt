@@ -9,7 +9,9 @@ use borrow.Author.Needs.{needs}
 use lib.ListN.{length}
 use Rattle.comm.specs.Rules.{exchangesIn}
 use Rattle.sets.proofs.Steps.{going-length}
-use Rattle.comm.proofs.Closure.{Following, following-start, following-end, following-nothing, following-long, following-next, following-large, closed-stops, closed-stays, closed-ends, closed-within, closed-goes}
+use Rattle.comm.proofs.Closure.{Following, following-start, following-end, following-nothing, following-long}
+use Rattle.comm.proofs.Closure.{following-next, following-large}
+use Rattle.comm.proofs.Closure.{closed-stops, closed-stays, closed-ends, closed-within, closed-goes}
 use borrow.Fn.Kinds.{In}
 use borrow.Fn.PlainCycle.{Measures, is, falls, and}
 use Rattle.comm.proofs.following.close.Reads as close′
@@ -20,7 +22,7 @@ use Rattle.comm.proofs.following.follow.Kinds as follow-kinds
 use Rattle.comm.proofs.following.+close+follow.Lts-follow as follow-lts
 use Rattle.labels.proofs.packing.labels_in.Reads as labels-in-reads
 use Rattle.sets.proofs.inserting.insert.Reads as insert-reads
-use Rattle.sets.proofs.placing.reach.Reads as reach-reads
+use Rattle.parts.proofs.placing.reach.Reads as reach-reads
 use Rattle.comm.proofs.rules.offer.Reads as offer-reads
 use Rattle.comm.proofs.following.+close+follow.{statement}
 use Rattle.comm.proofs.following.+close+follow.Tie.{close}
@@ -67,19 +69,21 @@ module _ (t : ℕ) where
   close-enum-told-3 c = search needs
 
   close-add-len : close-lts.Need-add-len (close-calls t) (close-at t) close′.Post
-  close-add-len c = omega (arith, c .before .before .before .before .before .before .reach .ensures)
+  close-add-len c = let put = c .before .before .before .before in omega (arith, put .before .before .reach .ensures)
 
   close-sub-follow : close-lts.Need-sub-follow (close-calls t) (close-at t) close′.Post
   close-sub-follow c = omega arith
 
   close-follow-requires : close-lts.Need-follow-requires (close-calls t) (close-at t) close′.Post
   close-follow-requires c κs =
-      let put = c .before .before .before .before .before .before in
+      let added = c .before .before in
+      let put = added .before .before .before .before in
       let reached = put .before .before in
-      let a = reached .before .before .before .before in (
-        omega (arith, a .pre .0, c .before .if1 .left),
-        closed-within (put .insert .ensures) (exchangesIn (a .args .rules .now)) (a .args .depth) (reached .reach .result) (reached .reach .ensures)
-            (c .before .before .enum-told3 .given .1),
+      let f = reached .before .before .before .before in
+      let a = f .args in (
+        omega (arith, f .pre .0, c .before .if1 .left),
+        closed-within (put .insert .ensures) (exchangesIn (a .rules .now)) (a .depth) (reached .reach .result) (reached .reach .ensures)
+            (added .enum-told3 .given .1),
       )
 
   close-same-length : close-lts.Need-same-length (close-calls t) (close-at t) close′.Post
@@ -88,7 +92,8 @@ module _ (t : ℕ) where
   close-returns : close-lts.Need-returns (close-calls t) (close-at t) close′.Post
   close-returns c =
       let put = c .before .before .before .before in
-      let a = put .before .before .before .before .before .before .args in
+      let reached = put .before .before in
+      let a = reached .before .before .before .before .args in
       closed-stops (put .insert .ensures) (exchangesIn (a .rules .now)) (a .depth) (c .enum-told .given .1)
 
   close-same-length-2 : close-lts.Need-same-length-2 (close-calls t) (close-at t) close′.Post
@@ -99,7 +104,8 @@ module _ (t : ℕ) where
       let put = c .before .before .before .before in
       let reached = put .before .before in
       let a = reached .before .before .before .before .args in
-      closed-stays (put .insert .ensures) (exchangesIn (a .rules .now)) (a .depth) (reached .reach .result) (reached .reach .ensures) (c .enum-told2 .given .1)
+      closed-stays (put .insert .ensures) (exchangesIn (a .rules .now)) (a .depth) (reached .reach .result) (reached .reach .ensures)
+      (c .enum-told2 .given .1)
 
   close-same-length-3 : close-lts.Need-same-length-3 (close-calls t) (close-at t) close′.Post
   close-same-length-3 c = search needs
@@ -113,15 +119,21 @@ module _ (t : ℕ) where
       (c .before .enum-told3 .given .1) (c .if1 .taken)
 
   close-same-length-4 : close-lts.Need-same-length-4 (close-calls t) (close-at t) close′.Post
-  close-same-length-4 c = c .before .before .follow .kept .0 ∙ c .before .before .before .before .before .before .before .before .before .insert .kept .0
+  close-same-length-4 c =
+      let followed = c .before .before in
+      let put = followed .before .before .before .before .before .before .before in
+      followed .follow .kept .0 ∙ put .insert .kept .0
 
   close-returns-4 : close-lts.Need-returns-4 (close-calls t) (close-at t) close′.Post
   close-returns-4 c =
-      let put = c .before .before .before .before .before .before .before .before .before in
+      let followed = c .before .before in
+      let deeper = followed .before .before in
+      let added = deeper .before in
+      let put = added .before .before .before .before in
       let reached = put .before .before in
       let a = reached .before .before .before .before .args in
       closed-goes (put .insert .ensures) (exchangesIn (a .rules .now)) (a .depth) (reached .reach .result) (reached .reach .ensures)
-      (c .before .before .before .before .before .enum-told3 .given .1) (c .before .before .before .before .if1 .left) (c .before .before .follow .ensures)
+      (added .enum-told3 .given .1) (deeper .if1 .left) (followed .follow .ensures)
 
   close-meets : {M : Type 1} → close-lts.Closed (close-calls t) (close-at t) close′.Post M
   close-meets =
@@ -144,7 +156,8 @@ module _ (t : ℕ) where
       close-returns-4
 
 abbrev follow-Inv-loop : follow-lts.InvT-loop
-follow-Inv-loop words₀ rules label depth at most count₀ i₀ words count i = Following at count₀ most depth (label .word) rules words₀ words count i
+follow-Inv-loop words₀ rules label depth at most count₀ i₀ words count i =
+    Following at count₀ most depth (label .word) rules words₀ words count i
 
 abbrev follow-μ-loop : follow-lts.MeasureT-loop
 follow-μ-loop words₀ rules label depth at most count₀ i₀ words count i = length rules - i
@@ -152,8 +165,10 @@ follow-μ-loop words₀ rules label depth at most count₀ i₀ words count i = 
 module _ (t : ℕ) where
   follow-loop-holds : follow-lts.Need-loop-holds (follow-calls t) (follow-at t) follow.Post follow-Inv-loop follow-μ-loop
   follow-loop-holds c =
-      let a = c .before .before .args in
-      following-start (a .target .at) (a .target .len) (a .target .most) (a .depth) (a .label .word) (a .rules .now) (a .words .now) (c .before .before .pre .1)
+      let f = c .before .before in
+      let a = f .args in
+      let t = a .target in
+      following-start (t .at) (t .len) (t .most) (a .depth) (a .label .word) (a .rules .now) (a .words .now) (f .pre .1)
 
   follow-add-if1 : follow-lts.Need-add-if1 (follow-calls t) (follow-at t) follow.Post follow-Inv-loop follow-μ-loop
   follow-add-if1 c = omega (arith, c .before .before .before .good)
@@ -195,7 +210,10 @@ module _ (t : ℕ) where
   follow-enum-known-made c = search needs
 
   follow-close-requires : follow-lts.Need-close-requires (follow-calls t) (follow-at t) follow.Post follow-Inv-loop follow-μ-loop
-  follow-close-requires c κs = (omega (arith, c .before .before .before .before .before .before .before .before .before .before .pre .0), tt)
+  follow-close-requires c κs =
+      let tested = c .before .before .before .before .before in
+      let f = tested .before .before .before .before .before in
+      (omega (arith, f .pre .0), tt)
 
   follow-enum-known-step : follow-lts.Need-enum-known-step (follow-calls t) (follow-at t) follow.Post follow-Inv-loop follow-μ-loop
   follow-enum-known-step c = search needs
@@ -204,26 +222,36 @@ module _ (t : ℕ) where
   follow-enum-told-3 c = search needs
 
   follow-same-length-2 : follow-lts.Need-same-length-2 (follow-calls t) (follow-at t) follow.Post follow-Inv-loop follow-μ-loop
-  follow-same-length-2 c = c .before .before .before .before .close .kept .0 ∙ going-length (c .before .before .before .before .before .before .before .before .before .before .before .before .loop .inv .going) .0
+  follow-same-length-2 c =
+      let closed = c .before .before .before .before in
+      let tested = closed .before .before .before .before .before .before in
+      closed .close .kept .0 ∙ going-length (tested .before .before .loop .inv .going) .0
 
   follow-returns-2 : follow-lts.Need-returns-2 (follow-calls t) (follow-at t) follow.Post follow-Inv-loop follow-μ-loop
   follow-returns-2 c =
-      let next = c .before .before .before .before .before .before .before .made .given in
-      let tested = c .before .before .before .before .before .before .before .before .before .before in
+      let closed = c .before .before .before .before in
+      let told = closed .before .before .before in
+      let offered = told .before .before in
+      let tested = offered .before in
+      let next = told .made .given in
       following-large (tested .before .before .loop .inv) (rw (tested .before .labels-in .ensures) at (tested .if1 .taken))
-      (c .before .before .before .before .before .before .before .before .before .offer .ensures) (next .0 .0) (next .1)
-      (c .before .before .before .before .close .ensures) (c .enum-told3 .given .1)
+      (offered .offer .ensures) (next .0 .0) (next .1) (closed .close .ensures) (c .enum-told3 .given .1)
 
   follow-loop-less-2 : follow-lts.Need-loop-less-2 (follow-calls t) (follow-at t) follow.Post follow-Inv-loop follow-μ-loop
-  follow-loop-less-2 c = omega (arith, c .before .before .before .before .before .before .before .before .before .before .before .before .labels-in .ensures)
+  follow-loop-less-2 c =
+      let closed = c .before .before .before .before .before in
+      let tested = closed .before .before .before .before .before .before in
+      omega (arith, tested .before .labels-in .ensures)
 
   follow-loop-again-2 : follow-lts.Need-loop-again-2 (follow-calls t) (follow-at t) follow.Post follow-Inv-loop follow-μ-loop
   follow-loop-again-2 c =
-      let next = c .before .before .before .before .before .before .before .before .made .given in
-      let tested = c .before .before .before .before .before .before .before .before .before .before .before in
+      let closed = c .before .before .before .before .before in
+      let told = closed .before .before .before in
+      let offered = told .before .before in
+      let tested = offered .before in
+      let next = told .made .given in
       following-next (tested .before .before .loop .inv) (rw (tested .before .labels-in .ensures) at (tested .if1 .taken))
-      (c .before .before .before .before .before .before .before .before .before .before .offer .ensures) (next .0 .0) (next .1)
-      (c .before .before .before .before .before .close .ensures) (c .before .step .given .0 .0) (c .before .step .given .1)
+      (offered .offer .ensures) (next .0 .0) (next .1) (closed .close .ensures) (c .before .step .given .0 .0) (c .before .step .given .1)
 
   follow-same-length-3 : follow-lts.Need-same-length-3 (follow-calls t) (follow-at t) follow.Post follow-Inv-loop follow-μ-loop
   follow-same-length-3 c = going-length (c .before .before .loop .inv .going) .0

@@ -1,17 +1,18 @@
 -- `ways::imaging::add_image` meets its contract. The loop's invariant: what the labels from the i-th on give is to come; the
 -- measure is how many they are. Assumes nothing.
-use mathlib.Core.Path.{ap, _∙_}
+use mathlib.Core.Path.{_∙_}
 use Prim.Native.Nat.{_-_}
 use native.Mathlib.Omega.{arith}
 use borrow.Author.Needs.{needs}
 use Rattle.ways.specs.Imaging.{imaged}
 use Rattle.ways.proofs.Images.{steady-imaged}
-use Rattle.sets.proofs.Walking.{Walk, walk-start, walk-length, walk-end, walk-holds, walk-large, walked}
+use Rattle.sets.proofs.Walking.{Walk, walk-start, walk-length, walk-end, walk-holds, walk-large, walked-part}
 use Rattle.ways.proofs.imaging.add_image.Statement.{statement}
 use Rattle.ways.proofs.imaging.add_image.Tie as tie
 
 abbrev Inv-loop : tie.InvT-loop
-Inv-loop words₀ way list at most count₀ end map i₀ words count i = Walk (λ room. imaged room way list) at most words₀ count₀ end i₀ words count i
+Inv-loop words₀ way list at most count₀ end map i₀ words count i =
+    Walk (λ room. imaged room way list) at most words₀ count₀ end i₀ words count i
 
 abbrev μ-loop : tie.MeasureT-loop
 μ-loop words₀ way list at most count₀ end map i₀ words count i = end - i
@@ -26,7 +27,7 @@ map-for-requires : tie.Need-map-for-requires Inv-loop μ-loop
 map-for-requires c κs = search needs
 
 loop-holds : tie.Need-loop-holds Inv-loop μ-loop
-loop-holds c = walk-start _ _ _ _ _ _ _ (omega (arith, c .before .before .before .reach .ensures, c .before .end-before .ensures))
+loop-holds c = walk-start (omega (arith, c .before .before .before .reach .ensures, c .before .end-before .ensures))
 
 read-label-requires : tie.Need-read-label-requires Inv-loop μ-loop
 read-label-requires c κs = search needs
@@ -38,7 +39,9 @@ depth-requires : tie.Need-depth-requires Inv-loop μ-loop
 depth-requires c κs = search needs
 
 take-requires : tie.Need-take-requires Inv-loop μ-loop
-take-requires c κs = walk-length (c .before .before .before .before .before .before .loop .inv) .1
+take-requires c κs =
+    let read = c .before .before .before in
+    walk-length (read .before .before .before .loop .inv) .1
 
 enum-known-step : tie.Need-enum-known-step Inv-loop μ-loop
 enum-known-step c = search needs
@@ -48,21 +51,22 @@ enum-told c = search needs
 
 same-length : tie.Need-same-length Inv-loop μ-loop
 same-length c =
-    let looped = c .before .before .before .before .before .before .before .before .before .before .before in
-    c .before .before .before .before .take .kept .0 ∙ walk-length (looped .loop .inv) .0
+    let taken = c .before .before .before .before in
+    let read = taken .before .before .before .before in
+    taken .take .kept .0 ∙ walk-length (read .before .before .before .loop .inv) .0
 
 returns : tie.Need-returns Inv-loop μ-loop
 returns c =
-    let read = c .before .before .before .before .before .before .before .before in
-    let looped = read .before .before .before in
-    let a = looped .before .before .before .before .before .before .before .before .args in
     let taken = c .before .before .before .before in
-    let grown = rw (taken .before .before .before .made .ensures, taken .before .depth .ensures) at (taken .take .ensures) in
-    walked (λ room. imaged room (a .way) (a .list .now)) (a .target) (a .part)
-    (looped .before .before .before .before .reach .ensures) (looped .before .before .end-before .ensures)
+    let read = taken .before .before .before .before in
+    let looped = read .before .before .before in
+    let started = looped .before .before in
+    let a = started .before .before .before .before .before .before .args in
+    walked-part (λ room. imaged room (a .way) (a .list .now)) (a .target) (a .part)
+    (started .before .before .reach .ensures) (started .end-before .ensures)
     (walk-large (looped .loop .inv) (λ room. steady-imaged room (a .way) (a .list .now)) (read .before .before .loop-test .taken)
-    (read .read-label .result .word)
-    (ap (λ x. x .word) (read .read-label .ensures)) grown (c .enum-told .given .1))
+    (read .read-label .ensures) (rw (taken .before .before .before .made .ensures, taken .before .depth .ensures) at (taken .take .ensures))
+    (c .enum-told .given .1))
 
 add-i : tie.Need-add-i Inv-loop μ-loop
 add-i c = omega arith
@@ -72,25 +76,25 @@ loop-less c = omega arith
 
 loop-again : tie.Need-loop-again Inv-loop μ-loop
 loop-again c =
-    let read = c .before .before .before .before .before .before .before .before .before in
-    let looped = read .before .before .before in
-    let a = looped .before .before .before .before .before .before .before .before .args in
     let taken = c .before .before .before .before .before in
-    let grown = rw (taken .before .before .before .made .ensures, taken .before .depth .ensures) at (taken .take .ensures) in
+    let read = taken .before .before .before .before in
+    let looped = read .before .before .before in
+    let started = looped .before .before in
+    let a = started .before .before .before .before .before .before .args in
     walk-holds (looped .loop .inv) (λ room. steady-imaged room (a .way) (a .list .now)) (read .before .before .loop-test .taken)
-    (read .read-label .result .word)
-    (ap (λ x. x .word) (read .read-label .ensures)) grown (c .before .step .given .0 .0) (c .before .step .given .1)
+    (read .read-label .ensures) (rw (taken .before .before .before .made .ensures, taken .before .depth .ensures) at (taken .take .ensures))
+    (c .before .step .given .1)
 
 same-length-2 : tie.Need-same-length-2 Inv-loop μ-loop
 same-length-2 c = walk-length (c .before .loop .inv) .0
 
 returns-2 : tie.Need-returns-2 Inv-loop μ-loop
 returns-2 c =
-    let looped = c .before in
-    let a = looped .before .before .before .before .before .before .before .before .args in
-    walked (λ room. imaged room (a .way) (a .list .now)) (a .target) (a .part)
-    (looped .before .before .before .before .reach .ensures) (looped .before .before .end-before .ensures)
-    (walk-end (looped .loop .inv) (c .loop-test .left))
+    let started = c .before .before .before in
+    let a = started .before .before .before .before .before .before .args in
+    walked-part (λ room. imaged room (a .way) (a .list .now)) (a .target) (a .part)
+    (started .before .before .reach .ensures) (started .end-before .ensures)
+    (walk-end (c .before .loop .inv) (c .loop-test .left))
 
 pub add-image-spec : {M : Type 1} → statement M
 add-image-spec =

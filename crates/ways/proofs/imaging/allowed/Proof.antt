@@ -6,7 +6,7 @@ use Prim.Native.Nat.{_-_}
 use native.Mathlib.Omega.{arith}
 use borrow.Author.Needs.{needs}
 use lib.Dec.{eqb}
-use lib.ListN.{length, drop}
+use lib.ListN.{length, getD, drop}
 use Rattle.ways.specs.Imaging.{listedIn}
 use Rattle.ways.proofs.Images.{listed-here, listed-later, listed-nowhere}
 use Rattle.ways.proofs.imaging.allowed.Statement.{statement}
@@ -45,12 +45,22 @@ read-label-requires c κs = search needs
 same-requires-2 : tie.Need-same-requires-2 Inv-loop μ-loop
 same-requires-2 c κs = search needs
 
+-- what the second test compares
+compared : (c : tie.After-same2 Inv-loop μ-loop) → let tested = c .before .before in let looped = tested .before .before in
+    let a = looped .before .before .before .before .before .args in
+    c .same2 .result ≡ eqb (a .label .word) (getD (a .list .now) (looped .loop .i) 0)
+compared c =
+    let looped = c .before .before .before .before in
+    let w = looped .before .before .before .before .before .args .label .word in
+    c .same2 .ensures ∙ ap (λ x. eqb w (x .word)) (c .before .read-label .ensures)
+
 returns-2 : tie.Need-returns-2 Inv-loop μ-loop
 returns-2 c =
-    let a = c .before .before .before .before .before .before .before .before .before .before .args in
-    listed-here (a .label .word) (a .list .now) (c .before .before .before .before .before .loop .i) (rw (c .before .before .before .before .labels-in .ensures) at (c .before .before .before .if2 .taken))
-    (sym (c .if3 .taken) ∙ c .before .same2 .ensures ∙ ap (λ x. eqb (a .label .word) (x .word)) (c .before .before .read-label .ensures))
-    ∙ sym (c .before .before .before .before .before .loop .inv)
+    let tested = c .before .before .before in
+    let looped = tested .before .before in
+    let a = looped .before .before .before .before .before .args in
+    listed-here (a .label .word) (a .list .now) (looped .loop .i) (rw (tested .before .labels-in .ensures) at (tested .if2 .taken))
+    (sym (c .if3 .taken) ∙ compared (c .before)) ∙ sym (looped .loop .inv)
 
 add-i : tie.Need-add-i Inv-loop μ-loop
 add-i c = omega (arith, c .before .before .before .before .labels-in .ensures)
@@ -60,15 +70,19 @@ loop-less c = omega (arith, c .before .before .before .before .labels-in .ensure
 
 loop-again : tie.Need-loop-again Inv-loop μ-loop
 loop-again c =
-    let a = c .before .before .before .before .before .before .before .before .before .before .args in
-    c .before .before .before .before .before .loop .inv
-    ∙ listed-later (a .label .word) (a .list .now) (c .before .before .before .before .before .loop .i) (rw (c .before .before .before .before .labels-in .ensures) at (c .before .before .before .if2 .taken))
-    (sym (c .if3 .left) ∙ c .before .same2 .ensures ∙ ap (λ x. eqb (a .label .word) (x .word)) (c .before .before .read-label .ensures))
+    let tested = c .before .before .before in
+    let looped = tested .before .before in
+    let a = looped .before .before .before .before .before .args in
+    looped .loop .inv
+    ∙ listed-later (a .label .word) (a .list .now) (looped .loop .i) (rw (tested .before .labels-in .ensures) at (tested .if2 .taken))
+    (sym (c .if3 .left) ∙ compared (c .before))
 
 returns-3 : tie.Need-returns-3 Inv-loop μ-loop
 returns-3 c =
-    let a = c .before .before .before .before .before .before .before .args in
-    listed-nowhere (a .label .word) (a .list .now) (c .before .before .loop .i) (rw (c .before .labels-in .ensures) at (c .if2 .left)) ∙ sym (c .before .before .loop .inv)
+    let looped = c .before .before in
+    let a = looped .before .before .before .before .before .args in
+    listed-nowhere (a .label .word) (a .list .now) (looped .loop .i) (rw (c .before .labels-in .ensures) at (c .if2 .left))
+    ∙ sym (looped .loop .inv)
 
 pub allowed-spec : {M : Type 1} → statement M
 allowed-spec =

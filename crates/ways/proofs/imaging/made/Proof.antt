@@ -43,27 +43,46 @@ returns : tie.Need-returns
 returns c = rw (c .enum-told .given .1)
 
 returns-2 : tie.Need-returns-2
-returns-2 c = rw (c .before .before .enum-told2 .given .1) (ap (λ t. pickOffer t (Next (c .before .before .before .before .before .args .label))) (sym (c .if1 .taken) ∙ c .before .clear .ensures))
+returns-2 c =
+    let told = c .before .before in
+    let kept = Next (told .before .before .before .args .label) in
+    rw (told .enum-told2 .given .1) (ap (λ t. pickOffer t kept) (sym (c .if1 .taken) ∙ c .before .clear .ensures))
 
 returns-3 : tie.Need-returns-3
-returns-3 c = rw (c .before .before .enum-told2 .given .1) (ap (λ t. pickOffer t (Next (c .before .before .before .before .before .args .label))) (sym (c .if1 .left) ∙ c .before .clear .ensures))
+returns-3 c =
+    let told = c .before .before in
+    let kept = Next (told .before .before .before .args .label) in
+    rw (told .enum-told2 .given .1) (ap (λ t. pickOffer t kept) (sym (c .if1 .left) ∙ c .before .clear .ensures))
 
 returns-4 : tie.Need-returns-4
 returns-4 c = rw (c .before .enum-told3 .given .1) (ap Next (c .hide .ensures))
 
 returns-5 : tie.Need-returns-5
-returns-5 c = rw (c .before .enum-told4 .given .1) (ap Next (c .rename .ensures ∙ ap (λ to. packed (number (renamed 12 (λ n. getD to n 0) (labelOf 12 (c .before .before .before .before .args .label .word))))) (rw (c .before .enum-told4 .given .1) at (c .before .before .before .before .pre))))
+returns-5 c =
+    let told = c .before in
+    let f = told .before .before .before in
+    let w = f .args .label .word in
+    rw (told .enum-told4 .given .1)
+    (ap Next (c .rename .ensures
+    ∙ ap (λ to. packed (number (renamed 12 (λ n. getD to n 0) (labelOf 12 w)))) (rw (told .enum-told4 .given .1) at (f .pre))))
 
 returns-6 : tie.Need-returns-6
 returns-6 c = rw (c .enum-told5 .given .1)
 
 returns-7 : tie.Need-returns-7
-returns-7 c = rw (c .before .before .enum-told6 .given .1) (ap (λ t. pickOffer t (Next (c .before .before .before .before .before .args .label))) (sym (c .if2 .taken) ∙ c .before .allowed .ensures))
+returns-7 c =
+    let told = c .before .before in
+    let kept = Next (told .before .before .before .args .label) in
+    rw (told .enum-told6 .given .1) (ap (λ t. pickOffer t kept) (sym (c .if2 .taken) ∙ c .before .allowed .ensures))
 
 returns-8 : tie.Need-returns-8
-returns-8 c = rw (c .before .before .enum-told6 .given .1) (ap (λ t. pickOffer t (Next (c .before .before .before .before .before .args .label))) (sym (c .if2 .left) ∙ c .before .allowed .ensures))
+returns-8 c =
+    let told = c .before .before in
+    let kept = Next (told .before .before .before .args .label) in
+    rw (told .enum-told6 .given .1) (ap (λ t. pickOffer t kept) (sym (c .if2 .left) ∙ c .before .allowed .ensures))
 
 pub made-spec : {M : Type 1} → statement M
 made-spec =
     tie.close
-    (tie.spec enum-told enum-told-2 clear-requires enum-told-3 hide-requires enum-told-4 rename-requires enum-told-5 enum-told-6 allowed-requires returns returns-2 returns-3 returns-4 returns-5 returns-6 returns-7 returns-8)
+    (tie.spec enum-told enum-told-2 clear-requires enum-told-3 hide-requires enum-told-4 rename-requires enum-told-5 enum-told-6
+    allowed-requires returns returns-2 returns-3 returns-4 returns-5 returns-6 returns-7 returns-8)

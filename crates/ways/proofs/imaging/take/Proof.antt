@@ -2,10 +2,10 @@
 use mathlib.Core.Path.{refl, sym}
 use borrow.Author.Needs.{needs}
 use lib.ListN.{length}
-use Rattle.sets.specs.Parts.{roomAt}
+use Rattle.parts.specs.Parts.{roomAt}
 use Rattle.sets.specs.Building.{done}
 use Rattle.comm.specs.Rules.{exchangesIn}
-use Rattle.sets.proofs.Laid.{laid-self}
+use Rattle.parts.proofs.Laid.{laid-self}
 use Rattle.sets.proofs.Steps.{going-start, going-end, grown-as}
 use Rattle.comm.proofs.Closure.{closed-alone}
 use Rattle.ways.proofs.imaging.take.Statement.{statement}
@@ -42,17 +42,21 @@ same-length c = search needs
 
 returns-3 : tie.Need-returns-3
 returns-3 c =
-    let offered = c .before .before .before .before .before .before .offer .given in
-    let a = c .before .before .before .before .before .before .before .before .before .before .args in
+    let tested = c .before .before .before .before in
+    let told = tested .before .before in
+    let a = told .before .before .before .before .args in
     let space = roomAt (a .target .at) (a .target .most) (length (a .words .now)) in
-    let alone = closed-alone space (exchangesIn (a .rules .now)) (a .depth) (offered .0 .0 .word) (c .before .before .before .before .if1 .taken) in
-    rw (offered .1) (grown-as alone (c .before .before .enter .ensures))
+    let alone = closed-alone space (exchangesIn (a .rules .now)) (a .depth) (told .offer .given .0 .0 .word) (tested .if1 .taken) in
+    rw (told .offer .given .1) (grown-as alone (c .before .before .enter .ensures))
 
 same-length-2 : tie.Need-same-length-2
 same-length-2 c = search needs
 
 returns-4 : tie.Need-returns-4
-returns-4 c = rw (c .before .before .before .before .before .before .offer .given .1) (c .before .before .close .ensures)
+returns-4 c =
+    let closed = c .before .before in
+    let told = closed .before .before .before .before in
+    rw (told .offer .given .1) (closed .close .ensures)
 
 pub take-spec : {M : Type 1} → statement M
 take-spec =
