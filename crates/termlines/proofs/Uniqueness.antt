@@ -11,9 +11,9 @@ use Rattle.table.specs.declared.Order.{Order}
 use Rattle.table.specs.Encoded.{filled, termsWords, slotsFrom, orderFor, orderWords}
 use Rattle.lists.specs.Lists.{over}
 use Rattle.grammar.specs.Reading.{Walk}
-use Rattle.sections.specs.declared.Progress.{Progress}
-use Rattle.sections.specs.declared.Progress.the-variants.{To, Bad}
-use Rattle.sections.proofs.Uniqueness.{walk-unique}
+use Rattle.textlines.specs.declared.Progress.{Progress}
+use Rattle.textlines.specs.declared.Progress.the-variants.{To, Bad}
+use Rattle.textlines.proofs.Uniqueness.{walk-unique}
 use Rattle.termlines.specs.Terms.{TermsWalk}
 use Rattle.termlines.specs.Orders.{OrderWalks}
 

@@ -13,9 +13,9 @@ use Rattle.table.specs.Packed.{termWord}
 use Rattle.faults.specs.CodedFaults.{faultOf}
 use Rattle.lists.specs.Lists.{over}
 use Rattle.grammar.specs.Reading.{Walk, reached, halted, oneLine, lines, takeTerm}
-use Rattle.sections.specs.Walks.{TookOf, inRoom}
-use Rattle.sections.specs.declared.Progress.{Progress}
-use Rattle.sections.specs.declared.Progress.the-variants.{To, Bad}
+use Rattle.textlines.specs.Walks.{TookOf, inRoom}
+use Rattle.textlines.specs.declared.Progress.{Progress}
+use Rattle.textlines.specs.declared.Progress.the-variants.{To, Bad}
 
 -- What is asked of a term's number, of the names and of the text.
 pub record TermAt (text names : List ℕ) (n : ℕ) : Type 0 where

@@ -4,9 +4,9 @@ use faults::Fault;
 use faults::Found;
 use keyed::OrderStep;
 use keyed::orders::read_order;
-use sections::Progress;
-use sections::lines::line_end;
 use table::Order;
+use textlines::Progress;
+use textlines::line_end;
 
 // The order is all where the line is bad.
 pub struct Ordered {

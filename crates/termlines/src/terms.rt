@@ -4,10 +4,10 @@ use faults::Fault;
 use faults::Found;
 use forms::TermStep;
 use forms::terms::read_term;
-use sections::Progress;
-use sections::lines::line_end;
 use table::TERMS;
 use table::packing::pack;
+use textlines::Progress;
+use textlines::line_end;
 
 // The line's number is the term's; its number after reading is its packed term.
 fn take_term(

@@ -8,7 +8,7 @@ use lib.Seq.{length-take-le}
 use Rattle.table.specs.Decoded.{nameOf}
 use Rattle.grammar.specs.Faults.{orderSaid}
 use Rattle.faults.proofs.Calls.{asks-nothing}
-use Rattle.sections.proofs.Walking.{line-lacks, line-there}
+use Rattle.textlines.proofs.Walks.{line-lacks, line-there}
 use Rattle.termlines.proofs.Lines.{found-fine, order-stuck, order-fine, order-faulty}
 use Rattle.termlines.proofs.orders.take_order.Statement.{statement}
 use Rattle.termlines.proofs.orders.take_order.Tie as tie

@@ -9,7 +9,7 @@ use Rattle.table.specs.Decoded.{nameOf}
 use Rattle.table.specs.Packed.{termWord}
 use Rattle.grammar.specs.Faults.{termSaid}
 use Rattle.faults.proofs.Calls.{asks-nothing}
-use Rattle.sections.proofs.Walking.{line-lacks, line-there}
+use Rattle.textlines.proofs.Walks.{line-lacks, line-there}
 use Rattle.termlines.proofs.Lines.{found-fine, term-stuck, term-fine, term-faulty}
 use Rattle.termlines.proofs.terms.take_term.Statement.{statement}
 use Rattle.termlines.proofs.terms.take_term.Tie as tie

@@ -11,7 +11,8 @@ use Rattle.table.specs.Encoded.{filled, slotsFrom, termsWords}
 use Rattle.table.proofs.Filled.{filled-length, filled-replicate}
 use Rattle.faults.proofs.Calls.{asks-nothing}
 use Rattle.grammar.specs.Reading.{takeTerm, lines}
-use Rattle.sections.proofs.Walking.{Onto, lines-start, lines-step, lines-halt, lines-end, rest-length, room-there, room-lacks}
+use Rattle.textlines.proofs.Walks.{rest-length}
+use Rattle.textlines.proofs.Sequences.{Onto, lines-start, lines-step, lines-halt, lines-end, room-there, room-lacks}
 use Rattle.termlines.specs.Terms.{Termed, TermsAt}
 use Rattle.termlines.proofs.Lines.{store-more, slot-more, one-more}
 use Rattle.termlines.proofs.terms.take_terms.Statement.{statement}
