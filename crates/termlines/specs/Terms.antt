@@ -45,6 +45,22 @@ pub record Termed (terms : List D.Term) (slots : List ℕ) (store : List ℕ) : 
   pub kept : slots ≡ filled 96 0 (slotsFrom 0 terms)
   pub stored : store ≡ filled 3072 0 (termsWords terms)
 
+-- One term more, in the whole store.
+pub record NextTo (terms : List D.Term) (text : Text) (n : ℕ) (due : Walk (List D.Term)) (after : List ℕ) (w took : ℕ) : Type 0 where
+  pub term : D.Term
+  pub says : reached (terms ++ (term ∷ [])) (suc n) (drop took text) ≡ due
+  pub kept : w ≡ termWord (termFor (length terms) term)
+  pub stored : after ≡ filled 3072 0 (termsWords (terms ++ (term ∷ [])))
+
+abbrev pub NextWalks : List D.Term → Text → ℕ → Walk (List D.Term) → List ℕ → Progress → Type 0
+NextWalks terms text n due after (To w took) = NextTo terms text n due after w took
+NextWalks terms text n due after (Bad f line) = halted (faultOf f) line ≡ due
+
+pub record NextTerm (text : Text) (names : List ℕ) (equations : ℕ) (slots : List ℕ) (n : ℕ) (before after : List ℕ) (r : Progress) : Type 0 where
+  pub within : TookOf text (suc n) r
+  pub said : (terms : List D.Term) → Termed terms slots before → n ≡ length terms → TermAt text names n
+      → NextWalks terms text n (oneLine (takeTerm (map (nameOf 8) names) equations terms) n text) after r
+
 -- All terms that were asked for; none where a line is bad.
 pub record TermsTo (text : Text) (due : Walk (List D.Term)) (count : ℕ) (after : List ℕ) (slots : List ℕ) (v took : ℕ) : Type 0 where
   pub plain : v ≡ 0

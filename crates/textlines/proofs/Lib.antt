@@ -7,5 +7,7 @@ pub mod Walks
 pub mod Sequences
 -- number-stuck, number-low, number-high, number-between: what `takeNumber` gives, by the line's form and its number
 pub mod Numbers
+-- found-fine, found-faulty, taken-fine, taken-faulty: what a line gives, by the fault that was found
+pub mod LineFaults
 -- end-unique, walk-unique, number-unique: any two results that meet a promise are equal
 pub mod Uniqueness

@@ -75,3 +75,8 @@ number-unique {text} {line} r s p q =
     itself (To v t) (Bad y m) = tt
     itself (Bad x l) (To w u) = tt
     itself (Bad x l) (Bad y m) = tt
+
+-- A store is settled where no line is bad.
+abbrev pub Where : Progress → Type 0 → Type 0
+Where (To v took) P = P
+Where (Bad f line) P = Unit {0}
