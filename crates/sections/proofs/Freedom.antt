@@ -26,21 +26,23 @@ same-sym s t = cases (sameText s t) (sameText t s) refl refl
     cases false true p q = sym p ∙ same-turned s t q
 
 -- not the first, the second or the third of three
-passed : (x y z : Bool) → leb 3 (elim x as (λ _. ℕ) [ true ↦ 0 | false ↦ suc (elim y as (λ _. ℕ) [ true ↦ 0 | false ↦ suc (elim z as (λ _. ℕ) [ true ↦ 0 | false ↦ 1 ]) ]) ]) ≡ (not x && not y && not z)
-passed true y z = refl
-passed false true z = refl
-passed false false true = refl
-passed false false false = refl
+none-of-three : (x y z : Bool)
+    → leb 3 (elim x as (λ _. ℕ) [ true ↦ 0 | false ↦ suc (elim y as (λ _. ℕ) [ true ↦ 0 | false ↦ suc (elim z as (λ _. ℕ) [ true ↦ 0 | false ↦ 1 ]) ]) ])
+    ≡ (not x && not y && not z)
+none-of-three true y z = refl
+none-of-three false true z = refl
+none-of-three false false true = refl
+none-of-three false false false = refl
 
-pub third-number : (a b c w : Text) → leb 3 (nameNumber (a ∷ b ∷ c ∷ []) w) ≡ (not (sameText w a) && not (sameText w b) && not (sameText w c))
+pub nameNumber-three : (a b c w : Text) → leb 3 (nameNumber (a ∷ b ∷ c ∷ []) w) ≡ (not (sameText w a) && not (sameText w b) && not (sameText w c))
 unfolding nameNumber
-third-number a b c w = rw (same-sym w a, same-sym w b, same-sym w c) (passed (sameText a w) (sameText b w) (sameText c w))
+nameNumber-three a b c w = rw (same-sym w a, same-sym w b, same-sym w c) (none-of-three (sameText a w) (sameText b w) (sameText c w))
 
 module _ (words : List Text) (w : Text) where
-  pub held-before : nameNumber words w < length words → false ≡ isFree words w
+  pub isFree-held : nameNumber words w < length words → false ≡ isFree words w
   unfolding isFree
-  held-before h = rw (lt-ltb (nameNumber words w) (length words) h)
+  isFree-held h = rw (lt-ltb (nameNumber words w) (length words) h)
 
-  pub free-if : length words ≤ nameNumber words w → leb 3 (nameNumber (ascii "tau" ∷ ascii "none" ∷ ascii "all" ∷ []) w) ≡ isFree words w
+  pub isFree-new : length words ≤ nameNumber words w → leb 3 (nameNumber (ascii "tau" ∷ ascii "none" ∷ ascii "all" ∷ []) w) ≡ isFree words w
   unfolding isFree
-  free-if h = rw (le-ltb (nameNumber words w) (length words) h) (third-number (ascii "tau") (ascii "none") (ascii "all") w)
+  isFree-new h = rw (le-ltb (nameNumber words w) (length words) h) (nameNumber-three (ascii "tau") (ascii "none") (ascii "all") w)

@@ -1,6 +1,11 @@
--- The laws that the proofs of this crate's functions cite, and those of whoever reads on.
-pub mod Ends
-pub mod Walking
-pub mod Taking
+-- The laws that the proofs of this crate's functions cite, and those of whoever reads on; each file after those that it cites.
+-- section-over, section-bad, section-end, padded-none, padded-more, place-more: entries in an array, line after line
+pub mod Arrays
+-- name-stuck, name-held, name-free, names-more, words-back, set-fits: a line with a name, and the words that hold names
+pub mod NameLines
+-- body-bad, body-to: a line with a body is a line with a number
+pub mod BodyLines
+-- nameNumber-three, isFree-held, isFree-new: a name is free if it is none of the earlier ones and none of three words
 pub mod Freedom
+-- names-unique, bodies-unique: any two results that meet a promise are equal
 pub mod Uniqueness

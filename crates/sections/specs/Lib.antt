@@ -1,5 +1,4 @@
--- How far reading has come in a text, and what the lines of names and of bodies give.
-pub mod Walks
-pub mod Lines
+-- What the lines of names and of bodies give, in their arrays.
+pub mod Arrays
 pub mod Names
 pub mod Bodies

@@ -6,8 +6,8 @@ use lib.ListN.{getD}
 use Rattle.meaning.specs.Bytes.{Text}
 use Rattle.table.specs.Decoded.{nameOf}
 use Rattle.grammar.specs.Reading.{takeName, lines}
-use Rattle.sections.specs.Walks.{Section}
-use Rattle.sections.specs.declared.Progress.{Progress}
+use Rattle.sections.specs.Arrays.{Section}
+use Rattle.textlines.specs.declared.Progress.{Progress}
 
 pub record NamesRead (text : Text) (named : ℕ) (r : Progress) (names : List ℕ) : Type 0 where
   pub section : Section (map (nameOf 8)) text 12 named r names (lines takeName named [] 0 text)

@@ -1,9 +1,9 @@
 // The lines of bodies.
 ghost use Rattle.sections.specs.Bodies.{BodiesRead};
-use crate::Progress;
-use crate::lines::take_number;
 use faults::Fault;
 use table::EQUATIONS;
+use textlines::Progress;
+use textlines::take_number;
 
 // Bodies in their array, with 0 behind them; all 0 after a bad line.
 pub struct Bodies {

@@ -4,13 +4,13 @@ ghost use mathlib.Core.List.{[], _∷_, _++_, map};
 ghost use Prim.Native.Nat.{suc};
 ghost use Rattle.table.specs.Decoded.{nameOf};
 ghost use Rattle.grammar.specs.Reading.{isFree, takeName, oneLine};
-ghost use Rattle.sections.specs.Walks.{Walks};
+ghost use Rattle.textlines.specs.Walks.{Walks};
 ghost use Rattle.sections.specs.Names.{NamesRead};
-use crate::Progress;
-use crate::lines::line_end;
 use faults::Fault;
 use keyed::read_name_line;
 use table::NAMES;
+use textlines::Progress;
+use textlines::line_end;
 use words::Step;
 use words::names::find_name;
 

@@ -1,36 +1,37 @@
--- Lines of terms and the order's line: what their readers' answers make of what was read before.
+-- A term's line: what it gives by its form and its fault, and what it makes of the slots and the store of the terms before it.
 -- Assumes nothing.
-use mathlib.Core.Path.{_≡_, refl, ap}
-use mathlib.Core.List.{List, [], _∷_, _++_}
+use mathlib.Core.Path.{_≡_, refl, sym, ap, _∙_}
+use mathlib.Core.List.{List, [], _∷_, _++_, map}
 use Prim.Native.Nat.{ℕ, zero, suc, _+_, _*_, _-_, _≤_, _<_}
 use native.Mathlib.Omega.{arith}
-use lib.ListN.{length, take, drop, set, length-take, length-append}
+use lib.ListN.{length, take, drop, set, length-append}
 use Rattle.meaning.specs.Bytes.{Text}
 use Rattle.meaning.specs.Descriptions as D
 use Rattle.meaning.specs.Answers.{form}
 use Rattle.table.specs.declared.Term.{Term}
-use Rattle.table.specs.declared.Order.{Order}
+use Rattle.table.specs.Decoded.{nameOf}
 use Rattle.table.specs.Encoded.{filled, termWords, termsWords, termFor, slotsFrom}
 use Rattle.table.specs.Packed.{termWord}
 use Rattle.table.proofs.Filled.{slots-more, part-free, part-more}
 use Rattle.lists.specs.Lists.{over}
 use Rattle.grammar.specs.Text.{Past, stuck}
-use Rattle.grammar.specs.Forms.{Line, termLine, OrderLine, orderLine}
-use Rattle.grammar.specs.Faults.{Found, fine, fault, termSaid, termFault, orderSaid, orderFault}
-use Rattle.faults.specs.CodedFaults.{faultOf, foundOf}
+use Rattle.grammar.specs.Forms.{Line, termLine}
+use Rattle.grammar.specs.Faults.{termSaid, termFault}
+use Rattle.grammar.specs.Reading.{Taken, taken, faulty, takenUnless, formed, takeTerm}
+use Rattle.faults.specs.CodedFaults.{faultOf}
 use Rattle.faults.specs.declared.Fault as F
+use Rattle.faults.specs.declared.Fault.the-variants.{Form}
 use Rattle.faults.specs.declared.Found as G
 use Rattle.faults.specs.declared.Found.the-variants.{Fine, Faulty}
-use Rattle.forms.specs.Terms.{TermTaken}
-use Rattle.keyed.specs.Orders.{OrderTaken}
-use Rattle.grammar.specs.Reading.{Taken, taken, faulty, takenUnless, formed, takeTerm, takeOrder}
-
--- by the fault that was found
-pub found-fine : {f : G.Found} {x : Found} → foundOf f ≡ x → f ≡ Fine → fine ≡ x
-found-fine q e = rw e at q
-
-pub found-faulty : {f : G.Found} {g : F.Fault} {x : Found} → foundOf f ≡ x → f ≡ Faulty g → fault (faultOf g) ≡ x
-found-faulty q e = rw e at q
+use Rattle.forms.specs.declared.TermStep.{TermStep}
+use Rattle.forms.specs.declared.TermStep.the-variants as T
+use Rattle.forms.specs.declared.TermStep.the-variants.{Stuck}
+use Rattle.forms.specs.Terms.{TermTaken, TermAnswer}
+use Rattle.textlines.specs.Lines.{LineEnd}
+use Rattle.textlines.specs.declared.Progress.the-variants.{To, Bad}
+use Rattle.textlines.proofs.Walks.{line-lacks, line-there}
+use Rattle.textlines.proofs.LineFaults.{found-fine, taken-fine, taken-faulty}
+use Rattle.termlines.specs.Terms.{TermLine}
 
 module _ (words : List Text) (equations : ℕ) (terms : List D.Term) (l : Text) where
   abbrev then-term : Past Line → Taken (List D.Term)
@@ -46,29 +47,49 @@ module _ (words : List Text) (equations : ℕ) (terms : List D.Term) (l : Text) 
     term-line = ap then-term (k .says)
 
     pub term-fine : f ≡ Fine → taken (terms ++ (termSaid words (k .line) ∷ [])) ≡ takeTerm words equations terms l
-    term-fine e = rw (← term-line, ← found-fine (k .faults) e)
+    term-fine e = taken-fine (k .faults) (terms ++ (termSaid words (k .line) ∷ [])) term-line e
 
     pub term-faulty : {g : F.Fault} → f ≡ Faulty g → faulty (faultOf g) ≡ takeTerm words equations terms l
-    term-faulty e = rw (← term-line, ← found-faulty (k .faults) e)
+    term-faulty e = taken-faulty (k .faults) (terms ++ (termSaid words (k .line) ∷ [])) term-line e
 
-module _ (words : List Text) (l : Text) where
-  abbrev then-order : Past OrderLine → Taken D.Order
-  then-order d = formed d (λ x. takenUnless (orderFault words x) (orderSaid words x))
+-- A term's line after the terms of the slots, by what its reader came to.
+module _ {text names : List ℕ} {equations : ℕ} {slots : List ℕ} {n : ℕ} {before after : List ℕ} {end : ℕ} (e : LineEnd text end) where
+  pub line-missing : length text ≤ end → TermLine text names equations slots n before after (Bad Form n)
+  line-missing h = record { within = omega arith; said = λ terms kept counted at. line-lacks _ n e h }
 
-  pub order-stuck : {t : Text} → stuck t ≡ orderLine l → faulty form ≡ takeOrder words l
-  unfolding takeOrder
-  order-stuck q = ap then-order q
+  module _ {s : TermStep} (h : end < length text) (r : TermAnswer names equations slots n (take end text) before after s) where
+    pub line-stuck : {p : ℕ} → s ≡ Stuck p → TermLine text names equations slots n before after (Bad Form n)
+    line-stuck q =
+        record {
+          within = omega arith;
+          said = λ terms kept counted at.
+              let k = rw q at (r terms kept counted (at .slot) (at .few)) in
+              line-there _ n e h (term-stuck (map (nameOf 8) names) equations terms _ (k .0));
+        }
 
-  module _ {before after : List ℕ} {x : Order} {f : G.Found} (k : OrderTaken words (orderLine l) before after x f) where
-    order-line : takenUnless (orderFault words (k .line)) (orderSaid words (k .line)) ≡ takeOrder words l
-    unfolding takeOrder
-    order-line = ap then-order (k .says)
+    module _ {x : Term} {f : G.Found} (q : s ≡ T.To x f) where
+      pub line-faulty : {g : F.Fault} → f ≡ Faulty g → TermLine text names equations slots n before after (Bad g n)
+      line-faulty b =
+          record {
+            within = omega arith;
+            said = λ terms kept counted at.
+                let k = rw q at (r terms kept counted (at .slot) (at .few)) in
+                line-there _ n e h (term-faulty (map (nameOf 8) names) equations terms _ k b);
+          }
 
-    pub order-fine : f ≡ Fine → taken (orderSaid words (k .line)) ≡ takeOrder words l
-    order-fine e = rw (← order-line, ← found-fine (k .faults) e)
-
-    pub order-faulty : {g : F.Fault} → f ≡ Faulty g → faulty (faultOf g) ≡ takeOrder words l
-    order-faulty e = rw (← order-line, ← found-faulty (k .faults) e)
+      pub line-fine : {w : ℕ} → f ≡ Fine → w ≡ termWord x → TermLine text names equations slots n before after (To w (end + 1))
+      line-fine b p =
+          record {
+            within = omega arith;
+            said = λ terms kept counted at.
+                let k = rw q at (r terms kept counted (at .slot) (at .few)) in
+                record {
+                  term = termSaid (map (nameOf 8) names) (k .line);
+                  says = line-there _ n e h (term-fine (map (nameOf 8) names) equations terms _ k b);
+                  kept = p ∙ ap termWord (k .term);
+                  stored = k .stored (sym (found-fine (k .faults) b));
+                };
+          }
 
 -- A list over words that are all 0, and what the store then holds.
 pub over-free : (n : ℕ) (ws : List ℕ) → over ws (filled n 0 []) ≡ filled n 0 ws

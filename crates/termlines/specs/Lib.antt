@@ -1,3 +1,2 @@
--- What the lines of terms and the order's give, in the table and in its list store.
+-- What the lines of terms give, in the table and in its list store.
 pub mod Terms
-pub mod Orders

@@ -13,9 +13,9 @@ use Rattle.table.specs.Packed.{termWord}
 use Rattle.faults.specs.CodedFaults.{faultOf}
 use Rattle.lists.specs.Lists.{over}
 use Rattle.grammar.specs.Reading.{Walk, reached, halted, oneLine, lines, takeTerm}
-use Rattle.sections.specs.Walks.{TookOf, inRoom}
-use Rattle.sections.specs.declared.Progress.{Progress}
-use Rattle.sections.specs.declared.Progress.the-variants.{To, Bad}
+use Rattle.textlines.specs.Walks.{TookOf, inRoom}
+use Rattle.textlines.specs.declared.Progress.{Progress}
+use Rattle.textlines.specs.declared.Progress.the-variants.{To, Bad}
 
 -- What is asked of a term's number, of the names and of the text.
 pub record TermAt (text names : List ℕ) (n : ℕ) : Type 0 where
@@ -44,6 +44,22 @@ pub record TermLine (text : Text) (names : List ℕ) (equations : ℕ) (slots : 
 pub record Termed (terms : List D.Term) (slots : List ℕ) (store : List ℕ) : Type 0 where
   pub kept : slots ≡ filled 96 0 (slotsFrom 0 terms)
   pub stored : store ≡ filled 3072 0 (termsWords terms)
+
+-- One term more, in the whole store.
+pub record NextTo (terms : List D.Term) (text : Text) (n : ℕ) (due : Walk (List D.Term)) (after : List ℕ) (w took : ℕ) : Type 0 where
+  pub term : D.Term
+  pub says : reached (terms ++ (term ∷ [])) (suc n) (drop took text) ≡ due
+  pub kept : w ≡ termWord (termFor (length terms) term)
+  pub stored : after ≡ filled 3072 0 (termsWords (terms ++ (term ∷ [])))
+
+abbrev pub NextWalks : List D.Term → Text → ℕ → Walk (List D.Term) → List ℕ → Progress → Type 0
+NextWalks terms text n due after (To w took) = NextTo terms text n due after w took
+NextWalks terms text n due after (Bad f line) = halted (faultOf f) line ≡ due
+
+pub record NextTerm (text : Text) (names : List ℕ) (equations : ℕ) (slots : List ℕ) (n : ℕ) (before after : List ℕ) (r : Progress) : Type 0 where
+  pub within : TookOf text (suc n) r
+  pub said : (terms : List D.Term) → Termed terms slots before → n ≡ length terms → TermAt text names n
+      → NextWalks terms text n (oneLine (takeTerm (map (nameOf 8) names) equations terms) n text) after r
 
 -- All terms that were asked for; none where a line is bad.
 pub record TermsTo (text : Text) (due : Walk (List D.Term)) (count : ℕ) (after : List ℕ) (slots : List ℕ) (v took : ℕ) : Type 0 where

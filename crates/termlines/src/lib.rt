@@ -1,3 +1,2 @@
-// The lines of terms and the order's line, whose lists go to the list store.
-pub mod orders;
+// The lines of terms, whose lists go to the list store.
 pub mod terms;

@@ -1,13 +1,17 @@
 // The lines of terms.
-ghost use Rattle.termlines.specs.Terms.{TermLine, TermsAnswer};
+ghost use mathlib.Core.Path.{_≡_};
+ghost use mathlib.Core.List.{[]};
+ghost use Prim.Native.Nat.{_<_};
+ghost use Rattle.table.specs.Encoded.{filled};
+ghost use Rattle.termlines.specs.Terms.{TermLine, NextTerm, TermsAnswer};
 use faults::Fault;
 use faults::Found;
 use forms::TermStep;
 use forms::terms::read_term;
-use sections::Progress;
-use sections::lines::line_end;
 use table::TERMS;
 use table::packing::pack;
+use textlines::Progress;
+use textlines::line_end;
 
 // The line's number is the term's; its number after reading is its packed term.
 fn take_term(
@@ -29,17 +33,48 @@ fn take_term(
     let TermStep::To(term, found) = step else {
         return Progress::Bad(Fault::Form, n);
     };
-    let took = end + 1;
-    match found {
-        Found::Fine => Progress::To(pack(term), took),
-        Found::Faulty(f) => Progress::Bad(f, n),
+    if let Found::Faulty(f) = found {
+        return Progress::Bad(f, n);
     }
+    let took = end + 1;
+    Progress::To(pack(term), took)
+}
+
+// The same with the whole store, where the term's list goes to its own 32 words; a store without them is never lent.
+fn next_term(
+    text: &[u8],
+    names: &[u64],
+    equations: usize,
+    slots: &[u64],
+    n: usize,
+    store: &mut [u64],
+) -> Progress
+    requires { ⌜ n < 96 ⌝ }
+    ensures { λ r. ⌜ NextTerm (now (text .entry)) (now (names .entry)) equations (now (slots .entry)) n
+        (now (store .entry)) (now (store .exit)) r ⌝ }
+{
+    let first = 32 * n;
+    let last = first + 32;
+    if store.len() < last {
+        return Progress::Bad(Fault::Form, n);
+    }
+    let part = &mut store[first..last];
+    take_term(text, names, equations, slots, n, part)
 }
 
 // Packed terms in their array, with 0 behind them; all 0 after a bad line.
 pub struct Terms {
     pub progress: Progress,
     pub slots: [u64; 96],
+}
+
+fn no_terms(progress: Progress) -> Terms
+    ensures { λ r. ⌜ (r .progress ≡ progress) × (r .slots ≡ filled 96 0 []) ⌝ }
+{
+    Terms {
+        progress,
+        slots: [0u64; 96],
+    }
 }
 
 // So many lines of terms, numbered from 0 on; the list of each goes to its 32 words of the store. Over 96 are a fault of the first.
@@ -50,33 +85,19 @@ pub fn take_terms(
     count: usize,
     store: &mut [u64],
 ) -> Terms
-    ensures { λ r. ⌜ TermsAnswer (now (text .entry)) (now (names .entry)) equations count (now (store .entry)) (now (store .exit)) (r .slots) (r .progress) ⌝ }
+    ensures { λ r. ⌜ TermsAnswer (now (text .entry)) (now (names .entry)) equations count
+        (now (store .entry)) (now (store .exit)) (r .slots) (r .progress) ⌝ }
 {
-    let mut slots = [0u64; 96];
     if TERMS < count {
-        return Terms {
-            progress: Progress::Bad(Fault::Form, 0),
-            slots,
-        };
+        return no_terms(Progress::Bad(Fault::Form, 0));
     }
-    if store.len() < 3072 {
-        return Terms {
-            progress: Progress::Bad(Fault::Form, 0),
-            slots,
-        };
-    }
+    let mut slots = [0u64; 96];
     let mut from = 0;
     let mut n = 0;
     while n < count {
-        let first = 32 * n;
-        let last = first + 32;
-        let part = &mut store[first..last];
-        let step = take_term(&text[from..], names, equations, &slots, n, part);
+        let step = next_term(&text[from..], names, equations, &slots, n, store);
         let Progress::To(w, took) = step else {
-            return Terms {
-                progress: step,
-                slots: [0u64; 96],
-            };
+            return no_terms(step);
         };
         slots[n] = w;
         from += took;

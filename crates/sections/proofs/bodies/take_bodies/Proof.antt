@@ -8,9 +8,11 @@ use lib.ListN.{take}
 use Rattle.table.proofs.Filled.{filled-replicate}
 use Rattle.faults.proofs.Calls.{asks-nothing}
 use Rattle.grammar.specs.Reading.{takeBody, lines}
-use Rattle.sections.specs.Walks.{Padded}
-use Rattle.sections.proofs.Walking.{padded-none, Onto, lines-start, lines-step, lines-halt, lines-end, rest-length, gone-to, gone-within, gone-bad, gone-before, section-over, section-bad, section-end, place-more, padded-more}
-use Rattle.sections.proofs.Taking.{body-to, body-bad}
+use Rattle.textlines.proofs.Walks.{rest-length, gone-to, gone-within, gone-bad, gone-before}
+use Rattle.textlines.proofs.Sequences.{Onto, lines-start, lines-step, lines-halt, lines-end}
+use Rattle.sections.specs.Arrays.{Padded}
+use Rattle.sections.proofs.Arrays.{section-over, section-bad, section-end, padded-none, place-more, padded-more}
+use Rattle.sections.proofs.BodyLines.{body-to, body-bad}
 use Rattle.sections.proofs.bodies.take_bodies.Statement.{statement}
 use Rattle.sections.proofs.bodies.take_bodies.Tie as tie
 

@@ -8,8 +8,8 @@ use borrow.Author.Tests.{not-true, not-false}
 use Rattle.table.specs.Decoded.{nameOf}
 use Rattle.words.proofs.Steps.{went, stays}
 use Rattle.faults.proofs.Calls.{asks-nothing}
-use Rattle.sections.proofs.Walking.{line-lacks, line-there}
-use Rattle.sections.proofs.Taking.{name-stuck, name-held, name-free}
+use Rattle.textlines.proofs.Walks.{line-lacks, line-there}
+use Rattle.sections.proofs.NameLines.{name-stuck, name-held, name-free}
 use Rattle.sections.proofs.names.take_name.Statement.{statement}
 use Rattle.sections.proofs.names.take_name.Tie as tie
 

@@ -10,9 +10,11 @@ use Rattle.table.specs.Decoded.{nameOf}
 use Rattle.table.proofs.Filled.{filled-replicate}
 use Rattle.faults.proofs.Calls.{asks-nothing}
 use Rattle.grammar.specs.Reading.{takeName, lines}
-use Rattle.sections.specs.Walks.{Padded}
-use Rattle.sections.proofs.Walking.{padded-none, Onto, lines-start, lines-step, lines-halt, lines-end, rest-length, gone-to, gone-within, gone-bad, gone-before, section-over, section-bad, section-end, padded-length, padded-more}
-use Rattle.sections.proofs.Taking.{names-more, set-fits, zeros-fit}
+use Rattle.textlines.proofs.Walks.{rest-length, gone-to, gone-within, gone-bad, gone-before}
+use Rattle.textlines.proofs.Sequences.{Onto, lines-start, lines-step, lines-halt, lines-end}
+use Rattle.sections.specs.Arrays.{Padded}
+use Rattle.sections.proofs.Arrays.{section-over, section-bad, section-end, padded-none, padded-length, padded-more}
+use Rattle.sections.proofs.NameLines.{names-more, set-fits, zeros-fit}
 use Rattle.sections.proofs.names.take_names.Statement.{statement}
 use Rattle.sections.proofs.names.take_names.Tie as tie
 

@@ -7,9 +7,9 @@ use lib.Dec.{leb, ltb}
 use lib.ListN.{length, take, drop}
 use Rattle.meaning.specs.Bytes.{Text}
 use Rattle.grammar.specs.Reading.{Cut, cut, noLine, firstLine, Walk}
-use Rattle.sections.specs.Walks.{Walks}
-use Rattle.sections.specs.declared.Progress.{Progress}
-use Rattle.sections.specs.declared.Progress.the-variants.{To, Bad}
+use Rattle.textlines.specs.Walks.{Walks}
+use Rattle.textlines.specs.declared.Progress.{Progress}
+use Rattle.textlines.specs.declared.Progress.the-variants.{To, Bad}
 
 -- The line up to its LF, and the text after it.
 abbrev pub cutIf : Bool → Text → Text → Cut

@@ -1,62 +1,17 @@
--- Line after line: what a line gives, and what lines give that are read alike.
+-- Lines that are read alike, one after the other, and how many of them there is room for.
 -- Assumes nothing.
 use mathlib.Core.Path.{_≡_, refl, sym, ap, _∙_}
-use mathlib.Core.List.{List, [], _∷_, _++_}
 use Prim.Native.Nat.{ℕ, zero, suc, _+_, _-_, _≤_, _<_}
-use native.Mathlib.Numerals.{add-one}
 use native.Mathlib.Omega.{arith}
-use lib.ListN.{length, take, drop, set, replicate, length-drop}
-use lib.Seq.{take-all, drop-drop, take-suc-set, length-take-le}
-use borrow.Author.Tests.{lt-ltb, le-ltb, le-leb, lt-leb}
+use lib.ListN.{length, take, drop}
+use lib.Seq.{drop-drop}
+use borrow.Author.Tests.{le-leb, lt-leb}
 use Rattle.meaning.specs.Bytes.{Text}
 use Rattle.meaning.specs.Answers.{Fault, form}
-use Rattle.table.specs.Encoded.{filled}
-use Rattle.table.proofs.Filled.{filled-length, filled-replicate, filled-more}
-use Rattle.faults.specs.CodedFaults.{faultOf}
-use Rattle.faults.specs.declared.Fault as F
-use Rattle.faults.specs.declared.Fault.the-variants.{Form}
-use Rattle.grammar.specs.Reading.{Taken, taken, faulty, Cut, cut, noLine, firstLine, Walk, reached, halted, walk, afterLine, lineWalk, oneLine, lines}
-use Rattle.sections.specs.Lines.{LineEnd, NumberTo}
-use Rattle.sections.specs.Walks.{Walks, inRoom, Padded, Section}
-use Rattle.sections.specs.declared.Progress.{Progress}
-use Rattle.sections.specs.declared.Progress.the-variants.{To, Bad}
-
--- The first line, where the text has one.
-module _ {A : Type 0} (do-take : Text → Taken A) (line : ℕ) {text : Text} {end : ℕ} (e : LineEnd text end) where
-  pub line-lacks : length text ≤ end → halted form line ≡ oneLine do-take line text
-  line-lacks h = ap (lineWalk do-take line) (rw (le-ltb end (length text) h) at (e .cuts))
-
-  pub line-there : end < length text → {t : Taken A} → t ≡ do-take (take end text) → afterLine line t (drop (end + 1) text) ≡ oneLine do-take line text
-  line-there h q =
-      ap (λ x. afterLine line x (drop (end + 1) text)) q ∙ ap (lineWalk do-take line) (rw (lt-ltb end (length text) h) at (e .cuts))
-
--- What a step over one line says, by its case.
-module _ {A : Type 0} {value : ℕ → A} {text : Text} {next : ℕ} {r : Progress} {due : Walk A} (w : Walks value text next r due) where
-  pub gone-to : {v took : ℕ} → r ≡ To v took → reached (value v) next (drop took text) ≡ due
-  gone-to e = (rw e at w) .says
-
-  pub gone-within : {v took : ℕ} → r ≡ To v took → took ≤ length text
-  gone-within e = (rw e at w) .within
-
-  pub gone-bad : {f : F.Fault} {line : ℕ} → r ≡ Bad f line → halted (faultOf f) line ≡ due
-  gone-bad e = (rw e at w) .says
-
-  pub gone-before : {f : F.Fault} {line : ℕ} → r ≡ Bad f line → line < next
-  gone-before e = (rw e at w) .within
-
-pub gone-below : {text : Text} {line below : ℕ} {r : Progress} {due : Walk ℕ} → NumberTo text line below r due → {v took : ℕ} → r ≡ To v took → v < below
-gone-below w e = (rw e at w) .bounded
-
--- a line that is refused
-pub refuses : {text : Text} {line below : ℕ} {due : Walk ℕ} {f : F.Fault} → halted (faultOf f) line ≡ due → NumberTo text line below (Bad f line) due
-refuses q = record { walks = record { says = q; within = omega arith }; bounded = tt }
-
--- The rest of a text from a place on, as it is lent.
-pub rest-lent : {A : Type 0} (s : List A) (n : ℕ) → take (length s - n) (drop n s) ≡ drop n s
-rest-lent s n = let e = length-drop n s in take-all (length s - n) (drop n s) (omega arith)
-
-pub rest-length : {A : Type 0} (s : List A) (n : ℕ) → length (take (length s - n) (drop n s)) ≡ length s - n
-rest-length s n = rw rest-lent (length-drop n s)
+use Rattle.grammar.specs.Reading.{Taken, taken, faulty, Cut, cut, noLine, firstLine}
+use Rattle.grammar.specs.Reading.{Walk, reached, halted, walk, afterLine, lineWalk, oneLine, lines}
+use Rattle.textlines.specs.Walks.{inRoom}
+use Rattle.textlines.proofs.Walks.{rest-lent, rest-length}
 
 -- Lines that are read alike, numbered from 0 on: those that are left, after what was read before them, come to the goal.
 pub record Onto {A : Type 0} (do-take : A → Text → Taken A) (goal : Walk A) (text : Text) (all i : ℕ) (a : A) (from : ℕ) : Type 0 where
@@ -143,35 +98,3 @@ module _ {A : Type 0} {most n : ℕ} (w : Walk A) where
   pub room-lacks : most < n → inRoom most n w ≡ halted form 0
   unfolding inRoom
   room-lacks h = rw (inRoom, lt-leb n most h)
-
--- A section, by how it ends.
-module _ {A : Type 0} {value : List ℕ → A} {text : Text} {most n : ℕ} {xs : List ℕ} {due : Walk A} where
-  pub section-over : most < n → xs ≡ filled most 0 [] → Section value text most n (Bad Form 0) xs due
-  section-over h z = record { walks = record { says = sym (room-lacks due h); within = omega arith }; laid = z }
-
-  pub section-bad : {r : Progress} {f : F.Fault} {line : ℕ} → n ≤ most → r ≡ Bad f line → halted (faultOf f) line ≡ due → line < n → xs ≡ filled most 0 []
-      → Section value text most n r xs due
-  section-bad h e q b z = rw e (record { walks = record { says = q ∙ sym (room-there due h); within = b }; laid = z })
-
-  pub section-end : {took : ℕ} → n ≤ most → reached (value (take n xs)) n (drop took text) ≡ due → took ≤ length text → Padded most n xs
-      → Section value text most n (To 0 took) xs due
-  section-end h q w z = record { walks = record { says = q ∙ sym (room-there due h); within = w }; laid = (refl, z) }
-
--- One entry more in an array.
-pub padded-none : (most : ℕ) → Padded most 0 (replicate most 0)
-padded-none most = record { padded = filled-replicate 0 most }
-
-module _ {most i : ℕ} {xs : List ℕ} (p : Padded most i xs) where
-  pub padded-length : length xs ≡ most
-  padded-length = ap length (p .padded) ∙ filled-length 0 most (take i xs)
-
-  module _ (x : ℕ) (h : i < most) where
-    pub place-more : take i xs ++ (x ∷ []) ≡ take (i + 1) (set xs i x)
-    place-more = let l = padded-length in rw add-one (sym (take-suc-set xs i x (omega arith)))
-
-    pub padded-more : Padded most (i + 1) (set xs i x)
-    padded-more =
-        let l = padded-length in
-        let t : length (take i xs) ≡ i = length-take-le i xs (omega arith) in
-        let m = filled-more 0 most (take i xs) x in
-        record { padded = rw (← place-more) (ap (λ l. set l i x) (p .padded) ∙ (rw t at m)) }

@@ -11,7 +11,7 @@ use borrow.Author.Tests.{lt-ltb, le-ltb, eq-eqb, ne-eqb}
 use Rattle.meaning.specs.Bytes.{Text}
 use Rattle.grammar.specs.Reading.{Cut, cut, noLine, withByte, firstLine}
 use Rattle.words.proofs.Rests.{rest-cons}
-use Rattle.sections.specs.Lines.{LineEnd}
+use Rattle.textlines.specs.Lines.{LineEnd}
 
 abbrev withBytes : Text → Cut → Cut
 withBytes p (cut line rest) = cut (p ++ line) rest

@@ -1,11 +1,17 @@
-// Where the first line of a text ends, and the lines with a number.
-use crate::Progress;
+// The first line of a text: where it ends, how far reading has come after it, and the number that it holds.
+ghost use Rattle.faults.specs.CodedFaults.{faultOf};
+ghost use Rattle.grammar.specs.Reading.{oneLine, takeNumber};
+ghost use Rattle.textlines.specs.Lines.{LineEnd, between, NumberTo};
 use faults::Fault;
 use keyed::read_count;
 use words::Step;
-ghost use Rattle.faults.specs.CodedFaults.{faultOf};
-ghost use Rattle.grammar.specs.Reading.{oneLine, takeNumber};
-ghost use Rattle.sections.specs.Lines.{LineEnd, between, NumberTo};
+
+// How far reading has come: past some lines, with the number or the packed name that a single one holds, and how many bytes they
+// took; or the fault of a line and its number.
+pub enum Progress {
+    To(u64, usize),
+    Bad(Fault, usize),
+}
 
 // The place of the first LF, or the end of the text.
 pub fn line_end(text: &[u8]) -> usize

@@ -1,4 +1,4 @@
--- `sections::lines::take_number` meets its contract: the line, its number, and the test.
+-- `textlines::take_number` meets its contract: the line, its number, and the test.
 -- Assumes nothing.
 use mathlib.Core.Path.{sym}
 use native.Mathlib.Omega.{arith}
@@ -6,13 +6,13 @@ use lib.Seq.{length-take-le}
 use Rattle.faults.specs.CodedFaults.{faultOf}
 use Rattle.words.proofs.Steps.{went, stays}
 use Rattle.faults.proofs.Calls.{asks-nothing}
-use Rattle.sections.proofs.Walking.{refuses, line-lacks, line-there}
-use Rattle.sections.proofs.Taking.{number-stuck, number-low, number-high, number-between}
-use Rattle.sections.proofs.lines.take_number.Statement.{statement}
-use Rattle.sections.proofs.lines.take_number.Tie as tie
+use Rattle.textlines.proofs.Walks.{line-lacks, line-there, numberTo-bad}
+use Rattle.textlines.proofs.Numbers.{number-stuck, number-low, number-high, number-between}
+use Rattle.textlines.proofs.take_number.Statement.{statement}
+use Rattle.textlines.proofs.take_number.Tie as tie
 
 returns : tie.Need-returns
-returns c = refuses (line-lacks _ (c .before .before .before .before .args .line) (c .before .line-end .ensures) (c .if1 .taken))
+returns c = numberTo-bad (line-lacks _ (c .before .before .before .before .args .line) (c .before .line-end .ensures) (c .if1 .taken))
 
 slice-aggregate-read-count : tie.Need-slice-aggregate-read-count
 slice-aggregate-read-count c = sym (length-take-le _ _ (c .before .before .line-end .ensures .within))
@@ -27,7 +27,7 @@ returns-2 : tie.Need-returns-2
 returns-2 c =
     let there = c .before .before .before .before in
     let a = there .before .before .before .before .args in
-    refuses
+    numberTo-bad
     (line-there _ (a .line) (there .before .line-end .ensures) (there .if1 .left)
     (number-stuck (a .key .now) (a .low) (a .below) (faultOf (a .fault)) _ (stays (c .before .before .read-count .ensures) (c .enum-told .given .1) .says)))
 
@@ -35,7 +35,7 @@ returns-3 : tie.Need-returns-3
 returns-3 c =
     let there = c .before .before .before .before .before .before in
     let a = there .before .before .before .before .args in
-    refuses
+    numberTo-bad
     (line-there _ (a .line) (there .before .line-end .ensures) (there .if1 .left)
     (number-low (a .key .now) (a .low) (a .below) (faultOf (a .fault)) _
     (went (c .before .before .before .before .read-count .ensures) (c .before .before .step .given .1) .says) (c .if2 .taken)))
@@ -44,7 +44,7 @@ returns-4 : tie.Need-returns-4
 returns-4 c =
     let there = c .before .before .before .before .before .before .before in
     let a = there .before .before .before .before .args in
-    refuses
+    numberTo-bad
     (line-there _ (a .line) (there .before .line-end .ensures) (there .if1 .left)
     (number-high (a .key .now) (a .low) (a .below) (faultOf (a .fault)) _
     (went (c .before .before .before .before .before .read-count .ensures) (c .before .before .before .step .given .1) .says)

@@ -1,12 +1,12 @@
-// The order's line.
-ghost use Rattle.termlines.specs.Orders.{OrderAnswerLine};
+// The order's line, whose labels go to the list store.
+ghost use Rattle.orderline.specs.Orders.{OrderAnswerLine};
 use faults::Fault;
 use faults::Found;
 use keyed::OrderStep;
 use keyed::orders::read_order;
-use sections::Progress;
-use sections::lines::line_end;
 use table::Order;
+use textlines::Progress;
+use textlines::line_end;
 
 // The order is all where the line is bad.
 pub struct Ordered {
@@ -32,15 +32,15 @@ pub fn take_order(text: &[u8], line: usize, names: &[u64], store: &mut [u64]) ->
             order: Order::All,
         };
     };
-    let took = end + 1;
-    match found {
-        Found::Fine => Ordered {
-            progress: Progress::To(0, took),
-            order,
-        },
-        Found::Faulty(f) => Ordered {
+    if let Found::Faulty(f) = found {
+        return Ordered {
             progress: Progress::Bad(f, line),
             order: Order::All,
-        },
+        };
+    }
+    let took = end + 1;
+    Ordered {
+        progress: Progress::To(0, took),
+        order,
     }
 }

@@ -2,17 +2,15 @@
 -- Assumes nothing.
 use mathlib.Core.Path.{_≡_}
 use mathlib.Core.Bool.{true, false}
-use mathlib.Core.List.{List, []}
 use Prim.Native.Nat.{ℕ, _≤_, _<_}
 use lib.Dec.{leb}
-use lib.ListN.{length, take, drop}
+use lib.ListN.{length, drop}
 use Rattle.meaning.specs.Bytes.{Text}
 use Rattle.meaning.specs.Answers.{form}
-use Rattle.table.specs.Encoded.{filled}
 use Rattle.faults.specs.CodedFaults.{faultOf}
 use Rattle.grammar.specs.Reading.{Walk, reached, halted}
-use Rattle.sections.specs.declared.Progress.{Progress}
-use Rattle.sections.specs.declared.Progress.the-variants.{To, Bad}
+use Rattle.textlines.specs.declared.Progress.{Progress}
+use Rattle.textlines.specs.declared.Progress.the-variants.{To, Bad}
 
 -- What was read with the last number, the next line's number and the text from there on.
 abbrev pub walkOf : {A : Type 0} → (ℕ → A) → Text → ℕ → Progress → Walk A
@@ -31,16 +29,3 @@ pub record Walks {A : Type 0} (value : ℕ → A) (text : Text) (next : ℕ) (r 
 -- What so many lines come to, where there is room for so many entries at most: over it the first is a fault of form.
 unfoldable pub inRoom : {A : Type 0} → (most n : ℕ) → Walk A → Walk A
 inRoom most n w = elim (leb n most) [ true ↦ w | false ↦ halted form 0 ]
-
--- The first so many words of an array are its entries; those behind them are 0.
-pub record Padded (most n : ℕ) (xs : List ℕ) : Type 0 where
-  pub padded : xs ≡ filled most 0 (take n xs)
-
--- The entries of such lines in an array; all 0 after a bad line.
-abbrev pub Laid : (most n : ℕ) → Progress → List ℕ → Type 0
-Laid most n (To v took) xs = (v ≡ 0) × Padded most n xs
-Laid most n (Bad f line) xs = xs ≡ filled most 0 []
-
-pub record Section {A : Type 0} (value : List ℕ → A) (text : Text) (most n : ℕ) (r : Progress) (xs : List ℕ) (due : Walk A) : Type 0 where
-  pub walks : Walks (λ v. value (take n xs)) text n r (inRoom most n due)
-  pub laid : Laid most n r xs

@@ -1,11 +1,11 @@
--- `sections::lines::line_end` meets its contract: what was passed and the line from there on are the line.
+-- `textlines::line_end` meets its contract: what was passed and the line from there on are the line.
 -- Assumes nothing.
 use Prim.Native.Nat.{_-_}
 use native.Mathlib.Omega.{arith}
 use lib.ListN.{length}
-use Rattle.sections.proofs.Ends.{Passed, passed-start, passed-step, passed-found, passed-missing}
-use Rattle.sections.proofs.lines.line_end.Statement.{statement}
-use Rattle.sections.proofs.lines.line_end.Tie as tie
+use Rattle.textlines.proofs.Ends.{Passed, passed-start, passed-step, passed-found, passed-missing}
+use Rattle.textlines.proofs.line_end.Statement.{statement}
+use Rattle.textlines.proofs.line_end.Tie as tie
 
 abbrev Inv-loop : tie.InvT-loop
 Inv-loop text end₀ end = Passed text end

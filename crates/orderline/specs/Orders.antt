@@ -14,8 +14,8 @@ use Rattle.table.specs.Encoded.{orderWords, orderFor}
 use Rattle.faults.specs.CodedFaults.{faultOf}
 use Rattle.lists.specs.Lists.{over}
 use Rattle.grammar.specs.Reading.{Walk, reached, halted, oneLine, takeOrder}
-use Rattle.sections.specs.declared.Progress.{Progress}
-use Rattle.sections.specs.declared.Progress.the-variants.{To, Bad}
+use Rattle.textlines.specs.declared.Progress.{Progress}
+use Rattle.textlines.specs.declared.Progress.the-variants.{To, Bad}
 
 -- The order, its labels over the start of its part of the store.
 pub record OrderTo (text : Text) (line : ℕ) (due : Walk D.Order) (before after : List ℕ) (x : Order) (v took : ℕ) : Type 0 where

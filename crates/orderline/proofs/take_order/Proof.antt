@@ -1,4 +1,4 @@
--- `termlines::orders::take_order` meets its contract: the line, its order, and its fault.
+-- `orderline::take_order` meets its contract: the line, its order, and its fault.
 -- Assumes nothing.
 use borrow.Author.Needs.{needs}
 use mathlib.Core.Path.{refl, sym}
@@ -8,10 +8,11 @@ use lib.Seq.{length-take-le}
 use Rattle.table.specs.Decoded.{nameOf}
 use Rattle.grammar.specs.Faults.{orderSaid}
 use Rattle.faults.proofs.Calls.{asks-nothing}
-use Rattle.sections.proofs.Walking.{line-lacks, line-there}
-use Rattle.termlines.proofs.Lines.{found-fine, order-stuck, order-fine, order-faulty}
-use Rattle.termlines.proofs.orders.take_order.Statement.{statement}
-use Rattle.termlines.proofs.orders.take_order.Tie as tie
+use Rattle.textlines.proofs.Walks.{line-lacks, line-there}
+use Rattle.textlines.proofs.LineFaults.{found-fine}
+use Rattle.orderline.proofs.OrderLines.{order-stuck, order-fine, order-faulty}
+use Rattle.orderline.proofs.take_order.Statement.{statement}
+use Rattle.orderline.proofs.take_order.Tie as tie
 
 returns : tie.Need-returns
 returns c =
@@ -47,20 +48,38 @@ returns-2 c = λ few short.
       none = refl;
     }
 
-add-took : tie.Need-add-took
-add-took c = omega arith
-
-enum-told-2 : tie.Need-enum-told-2
-enum-told-2 c = c .match2 .keys1
-
 enum-known-found : tie.Need-enum-known-found
-enum-known-found c = c .match2 .keys2
+enum-known-found c = c .match2 .keys1
 
 same-length-2 : tie.Need-same-length-2
 same-length-2 c = search needs
 
 returns-3 : tie.Need-returns-3
 returns-3 c = λ few short.
+    let there = c .before .before .before .before .before .before .before .before .before .before .before in
+    let start = there .before .before .before .before .before in
+    let a = start .args in
+    let t = c .before .before .before .before .before .before .before .before .read-order .ensures few in
+    let k = rw (c .before .before .before .before .step .given .1) at t in
+    record {
+      says =
+          line-there _ (a .line) (there .before .line-end .ensures) (there .if1 .left)
+          (order-faulty (map (nameOf 8) (a .names .now)) _ k (c .before .found .given .1));
+      here = refl;
+      none = refl;
+    }
+
+enum-told-2 : tie.Need-enum-told-2
+enum-told-2 c = c .match2 .keys2
+
+add-took : tie.Need-add-took
+add-took c = omega arith
+
+same-length-3 : tie.Need-same-length-3
+same-length-3 c = search needs
+
+returns-4 : tie.Need-returns-4
+returns-4 c = λ few short.
     let there = c .before .before .before .before .before .before .before .before .before .before in
     let start = there .before .before .before .before .before in
     let a = start .args in
@@ -77,26 +96,8 @@ returns-3 c = λ few short.
       stored = k .stored (sym (found-fine (k .faults) (c .enum-told2 .given .1)));
     }
 
-same-length-3 : tie.Need-same-length-3
-same-length-3 c = search needs
-
-returns-4 : tie.Need-returns-4
-returns-4 c = λ few short.
-    let there = c .before .before .before .before .before .before .before .before .before .before .before in
-    let start = there .before .before .before .before .before in
-    let a = start .args in
-    let t = c .before .before .before .before .before .before .before .before .read-order .ensures few in
-    let k = rw (c .before .before .before .before .step .given .1) at t in
-    record {
-      says =
-          line-there _ (a .line) (there .before .line-end .ensures) (there .if1 .left)
-          (order-faulty (map (nameOf 8) (a .names .now)) _ k (c .before .found .given .1));
-      here = refl;
-      none = refl;
-    }
-
 pub take-order-spec : {M : Type 1} → statement M
 take-order-spec =
     tie.close
-    (tie.spec asks-nothing returns slice-aggregate-read-order asks-nothing enum-known-step enum-told same-length returns-2 add-took enum-told-2
-    enum-known-found same-length-2 returns-3 same-length-3 returns-4)
+    (tie.spec asks-nothing returns slice-aggregate-read-order asks-nothing enum-known-step enum-told same-length returns-2 enum-known-found
+    same-length-2 returns-3 enum-told-2 add-took same-length-3 returns-4)

@@ -1,0 +1,12 @@
+-- `termlines::terms::no_terms` meets its contract: an array of zeros.
+-- Assumes nothing.
+use mathlib.Core.Path.{refl}
+use Rattle.table.proofs.Filled.{filled-replicate}
+use Rattle.termlines.proofs.terms.no_terms.Statement.{statement}
+use Rattle.termlines.proofs.terms.no_terms.Tie as tie
+
+returns : tie.Need-returns
+returns c = (refl, filled-replicate 0 96)
+
+pub no-terms-spec : {M : Type 1} → statement M
+no-terms-spec = tie.close (tie.spec returns)
