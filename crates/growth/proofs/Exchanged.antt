@@ -10,7 +10,7 @@ use lib.ListN.{length, getD, take, drop, set, replicate, length-append, length-t
 use lib.Seq.{drop-cons}
 use Rattle.meaning.specs.Labels.{number, single}
 use Rattle.growth.specs.Exchanging.{exchangeWords, exchangeList}
-use Rattle.places.proofs.Filling.{Filling, filling-start, filling-step, filling-end, left-first, length-zeros}
+use Rattle.transfers.proofs.Filling.{Filling, filling-start, filling-step, filling-end, left-first, length-zeros}
 
 pub exchange-shorter : (ws : List ℕ) → length (exchangeWords ws) ≤ length ws
 unfolding exchangeWords

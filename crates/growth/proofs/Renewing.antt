@@ -14,7 +14,8 @@ use lib.Seq.{take-take, slice-cons, slice-empty}
 use Rattle.meaning.specs.Rounds.{pick}
 use Rattle.sets.specs.declared.Built.{Built}
 use Rattle.sets.specs.declared.Built.the-variants.{TooLarge, Holds}
-use Rattle.sets.specs.Parts.{part, setAt, laid, partBefore, roomAt, reachOf}
+use Rattle.sets.specs.declared.Target.{Target}
+use Rattle.sets.specs.Parts.{part, setAt, laid, partBefore, wordsOf, roomAt, reachOf}
 use Rattle.sets.specs.Building.{Building, done, next, answerOf, each, Grown}
 use Rattle.merging.specs.Multiplying.{row}
 use Rattle.sets.proofs.Laid.{setAt-reach}
@@ -22,9 +23,10 @@ use Rattle.sets.proofs.Steps.{Steady, Going, going-start, going-length, going-e
 use Rattle.merging.proofs.Products.{steady-row}
 use Rattle.ways.proofs.Images.{steady-imaged}
 use Rattle.sets.proofs.Walking.{part-end, part-stays}
+use Rattle.places.specs.declared.Growth.{Growth}
 use Rattle.growth.specs.declared.Giving.{Giving}
 use Rattle.growth.specs.declared.Giving.the-variants.{Through, Times}
-use Rattle.growth.specs.Fresh.{fresh, given}
+use Rattle.growth.specs.Fresh.{fresh, freshIn, newIn, Ends, given, Gives}
 
 -- Where nothing is known, every label is new.
 fresh-all : (ws : List ℕ) → fresh [] ws ≡ ws
@@ -52,10 +54,10 @@ fresh-cons v w vs ws = go (eqb v w)
 abbrev pub standsNext : ℕ → ℕ → ℕ → List ℕ → Bool
 standsNext j kept i ls = ltb j kept && eqb (getD ls j 0) (getD ls i 0)
 
-pub stands-below : (j kept i : ℕ) (ls : List ℕ) → standsNext j kept i ls ≡ true → j < kept
-stands-below j kept i ls e = elim (decLt j kept) [
+pub stands-below : (j kept i : ℕ) (ls : List ℕ) {tested : Bool} → tested ≡ standsNext j kept i ls → tested ≡ true → j < kept
+stands-below j kept i ls test e = elim (decLt j kept) [
   | yes h ↦ h
-  | no h ↦ absurd (false≢true (rw (le-ltb j kept (omega arith)) at e))
+  | no h ↦ absurd (false≢true (rw (le-ltb j kept (omega arith)) at (sym test ∙ e)))
 ]
 
 fresh-parts : (j kept i end : ℕ) (ls : List ℕ) → kept ≤ length ls → end ≤ length ls → i < end
@@ -96,84 +98,102 @@ one-label at i ls h k =
     ap (drop i) (take-take (i + 1) at ls (omega arith))
     ∙ rw (add-one i) (slice-cons i (suc i) ls 0 (omega arith) (omega arith) ∙ ap (λ (l : List ℕ). getD ls i 0 ∷ l) (slice-empty (suc i) ls))
 
--- What the new labels from two places on give is to come.
-abbrev pub Renewal : ℕ → List ℕ → ℕ → ℕ → (ℕ → List ℕ → Building) → Building → List ℕ → ℕ → ℕ → ℕ → Type 0
-Renewal at before kept end step goal now count j i = Going at before now count (each step (fresh (part j kept before) (part i end before))) goal
+-- What the new labels from two places on give is to come: those of the set as it is from the i-th on, beside the known ones from the j-th.
+abbrev pub givenAt : Target → Giving → (list before : List ℕ) → ℕ → List ℕ → Building
+givenAt t giving list before = given (roomAt (t .at) (t .most) (length before)) (t .at) before giving list
 
-pub renewal-start : (at : ℕ) (ls : List ℕ) (len count : ℕ) (build : List ℕ → Building) → count ≡ reachOf at len (length ls)
-    → Going at ls ls count build (build (setAt at len ls))
-renewal-start at ls len count build e =
-    subst (λ (s : List ℕ). Going at ls ls count build (build s)) (rw e (setAt-reach at len ls)) (going-start at ls count build (omega arith))
+abbrev toCome : Growth → List ℕ → (j i : ℕ) → List ℕ
+toCome g before j i = fresh (part j (g .known .to) before) (part i (g .part .to) before)
+
+abbrev pub Renewal : Growth → Target → Giving → (list before now : List ℕ) → (len j i : ℕ) → Type 0
+Renewal g t giving list before now len j i =
+    Going (t .at) before now len (each (givenAt t giving list before) (toCome g before j i))
+    (each (givenAt t giving list before) (freshIn g before) (setAt (t .at) (t .len) before))
+
+module _ {g : Growth} {t : Target} {before : List ℕ} (ends : Ends g t before) (giving : Giving) (list : List ℕ) where
+  abbrev step : ℕ → List ℕ → Building
+  step = givenAt t giving list before
+
+  pub renewal-start : Renewal g t giving list before before (t .len) (g .known .from) (g .part .from)
+  renewal-start = going-start (t .at) before (t .len) (each step (freshIn g before)) (ends .set)
+
+  module _ {now : List ℕ} {len : ℕ} (j i : ℕ) (x : Renewal g t giving list before now len j i) where
+    pub renewal-end : g .part .to ≤ i → Gives t giving list (freshIn g before) before now (Holds len)
+    unfolding each
+    renewal-end h =
+        let p = going-end x (λ s. rw (no-part i (g .part .to) before h, fresh-none (part j (g .known .to) before))) in
+        record { answer = p .0; words = p .1 }
+
+    module _ (more : i < g .part .to) {tested : Bool} (test : tested ≡ standsNext j (g .known .to) i now) where
+      -- the labels to come, by the words as they are
+      by-test : (b : Bool) → tested ≡ b
+          → toCome g before j i ≡ pick b (toCome g before (j + 1) (i + 1)) (getD now i 0 ∷ toCome g before j (i + 1))
+      by-test b e =
+          let n = going-length x .0 in
+          let stay : (from to : ℕ) → to ≤ t .at → part from to now ≡ part from to before = stays x in
+          let said : standsNext j (g .known .to) i now ≡ b = sym test ∙ e in
+          rw (
+            said,
+            stay j (g .known .to) (ends .knownBefore),
+            stay (j + 1) (g .known .to) (ends .knownBefore),
+            stay i (g .part .to) (ends .nowBefore),
+            stay (i + 1) (g .part .to) (ends .nowBefore),
+          ) at
+          (fresh-parts j (g .known .to) i (g .part .to) now (omega (arith, ends .knownWithin)) (omega (arith, ends .nowWithin)) more)
+
+      pub renewal-passes : tested ≡ true → Renewal g t giving list before now len (j + 1) (i + 1)
+      renewal-passes e =
+          going-as (each step (toCome g before (j + 1) (i + 1))) x (λ s. ap (λ (ws : List ℕ). each step ws s) (by-test true e))
+
+      -- A new label gives what it gives: a function adds it as a part of one label.
+      module _ (new : tested ≡ false) {after : List ℕ} {r : Built}
+          (given-one : Gives (record { at = t .at; len = len; most = t .most }) giving list (partBefore (t .at) i (i + 1) now) now after r) where
+        abbrev rest : List ℕ → Building
+        rest = each step (toCome g before j (i + 1))
+
+        next-given : Going (t .at) before now len (λ s. next (step (getD now i 0) s) rest) (each step (freshIn g before) (setAt (t .at) (t .len) before))
+        unfolding each
+        next-given =
+            going-as (λ s. next (step (getD now i 0) s) rest) x (λ s. ap (λ (ws : List ℕ). each step ws s) (by-test false new))
+
+        one-grown : Grown (given (roomAt (t .at) (t .most) (length now)) (t .at) before giving list (getD now i 0)) (t .at) len now after r
+        unfolding each
+        one-grown =
+            let n = going-length x .0 in
+            let room = roomAt (t .at) (t .most) (length now) in
+            let one = one-label (t .at) i now (omega (arith, ends .nowBefore)) (omega (arith, ends .nowWithin)) in
+            grown-as
+            (λ s. ap₂ (λ (f : ℕ → List ℕ → Building) (ws : List ℕ). each f ws s) (given-stays x room giving list) one
+            ∙ next-done (given room (t .at) before giving list (getD now i 0) s)) given-one
+
+        pub renewal-holds : (n : ℕ) → r ≡ Holds n → Renewal g t giving list before after n j (i + 1)
+        renewal-holds n f =
+            going-holds (t .most) (λ room. given room (t .at) before giving list (getD now i 0)) rest
+            (λ room. steady-given room (t .at) before giving list (getD now i 0)) next-given one-grown n f
+
+        pub renewal-large : r ≡ TooLarge → Gives t giving list (freshIn g before) before after TooLarge
+        renewal-large f =
+            let p = going-large (t .most) (λ room. given room (t .at) before giving list (getD now i 0)) rest
+            (λ room. steady-given room (t .at) before giving list (getD now i 0)) next-given one-grown f in
+            record { answer = p .0; words = p .1 }
 
 pub renewal-less : {end i : ℕ} → i < end → end - (i + 1) < end - i
 renewal-less l = omega arith
 
-pub renewal-end : (kept j : ℕ) (step : ℕ → List ℕ → Building) {at end : ℕ} {before now : List ℕ} {goal : Building} {count i : ℕ}
-    → Renewal at before kept end step goal now count j i → end ≤ i → (Holds count ≡ answerOf goal) × (now ≡ laid at (goal .set) before)
-unfolding each
-renewal-end kept j step {end = end} {before} {i = i} x h = going-end x (λ s. rw (no-part i end before h, fresh-none (part j kept before)))
-
-module _ (kept j : ℕ) (step : ℕ → List ℕ → Building) {at end : ℕ} {before now : List ℕ} {goal : Building} {count i : ℕ}
-    (x : Renewal at before kept end step goal now count j i) (kept-before : kept ≤ at) (kept-within : kept ≤ length before) (end-before : end ≤ at)
-    (end-within : end ≤ length before) (l : i < end) where
-  -- the labels to come, by the words as they are
-  to-come : (t : Bool) → standsNext j kept i now ≡ t
-      → fresh (part j kept before) (part i end before)
-      ≡ pick t (fresh (part (j + 1) kept before) (part (i + 1) end before)) (getD now i 0 ∷ fresh (part j kept before) (part (i + 1) end before))
-  to-come t e =
-      let n = going-length x .0 in
-      rw (e, stays x j kept (omega arith), stays x (j + 1) kept (omega arith), stays x i end (omega arith), stays x (i + 1) end (omega arith)) at
-      (fresh-parts j kept i end now (omega arith) (omega arith) l)
-
-  pub renewal-passes : standsNext j kept i now ≡ true → Renewal at before kept end step goal now count (j + 1) (i + 1)
-  renewal-passes e =
-      going-as (each step (fresh (part (j + 1) kept before) (part (i + 1) end before))) x (λ s. ap (λ (ws : List ℕ). each step ws s) (to-come true e))
-
-  renewal-next : standsNext j kept i now ≡ false
-      → Going at before now count (λ s. next (step (getD now i 0) s) (each step (fresh (part j kept before) (part (i + 1) end before)))) goal
-  unfolding each
-  renewal-next e =
-      going-as (λ s. next (step (getD now i 0) s) (each step (fresh (part j kept before) (part (i + 1) end before)))) x (λ s. ap (λ (ws : List ℕ). each step ws s) (to-come false e))
-
--- A new label gives what it gives: a function adds it as a part of one label.
-module _ (most kept j : ℕ) (giving : Giving) (list : List ℕ) {at end : ℕ} {before now : List ℕ} {goal : Building} {count i : ℕ}
-    (x : Renewal at before kept end (given (roomAt at most (length before)) at before giving list) goal now count j i) (kept-before : kept ≤ at)
-    (kept-within : kept ≤ length before) (end-before : end ≤ at) (end-within : end ≤ length before) (l : i < end) (e : standsNext j kept i now ≡ false) {after : List ℕ} {r : Built}
-    (g : Grown (each (given (roomAt at most (length now)) at now giving list) (partBefore at i (i + 1) now)) at count now after r) where
-  abbrev step : ℕ → List ℕ → Building
-  step = given (roomAt at most (length before)) at before giving list
-
-  abbrev rest : List ℕ → Building
-  rest = each step (fresh (part j kept before) (part (i + 1) end before))
-
-  one-grown : Grown (given (roomAt at most (length now)) at before giving list (getD now i 0)) at count now after r
-  unfolding each
-  one-grown =
-      let n = going-length x .0 in
-      let room = roomAt at most (length now) in
-      grown-as (λ s. ap₂ (λ (f : ℕ → List ℕ → Building) (ws : List ℕ). each f ws s) (given-stays x room giving list) (one-label at i now (omega arith) (omega arith))
-      ∙ next-done (given room at before giving list (getD now i 0) s)) g
-
-  pub renewal-holds : (n : ℕ) → r ≡ Holds n → Renewal at before kept end step goal after n j (i + 1)
-  renewal-holds n f =
-      going-holds most (λ room. given room at before giving list (getD now i 0)) rest (λ room. steady-given room at before giving list (getD now i 0))
-      (renewal-next kept j step x kept-before kept-within end-before end-within l e) one-grown n f
-
-  pub renewal-large : r ≡ TooLarge → (TooLarge ≡ answerOf goal) × (after ≡ laid at (goal .set) before)
-  renewal-large f =
-      going-large most (λ room. given room at before giving list (getD now i 0)) rest (λ room. steady-given room at before giving list (getD now i 0))
-      (renewal-next kept j step x kept-before kept-within end-before end-within l e) one-grown f
-
 -- What is built of the new labels, by the parts' own ends.
-module _ (at len : ℕ) (ls : List ℕ) (known-from known-to kept : ℕ) (step : ℕ → List ℕ → Building) (known : kept ≡ min (min known-to at) (length ls)) {after : List ℕ} {r : Built} where
-  pub all-new : (ws : List ℕ) → kept ≤ known-from → Grown (each step ws) at len ls after r → Grown (each step (fresh (partBefore at known-from known-to ls) ws)) at len ls after r
-  all-new ws h g = rw (part-end at known-from known-to ls, ← known, no-part known-from kept ls h, fresh-all ws) g
+module _ (t : Target) (g : Growth) (giving : Giving) (list before : List ℕ) {kept : ℕ} (known : kept ≡ min (min (g .known .to) (t .at)) (length before))
+    {after : List ℕ} {r : Built} where
+  pub all-new : kept ≤ g .known .from → Gives t giving list (wordsOf (t .at) (g .part) before) before after r
+      → Gives t giving list (newIn (t .at) g before) before after r
+  all-new h x =
+      rw (part-end (t .at) (g .known .from) (g .known .to) before, ← known, no-part (g .known .from) kept before h, fresh-all (wordsOf (t .at) (g .part) before)) x
 
-  pub some-new : (from to end count : ℕ) → end ≡ min (min to at) (length ls) → count ≡ reachOf at len (length ls)
-      → Grown (each step (fresh (part known-from kept ls) (part from end ls))) at count ls after r
-      → Grown (each step (fresh (partBefore at known-from known-to ls) (partBefore at from to ls))) at len ls after r
-  some-new from to end count e n g =
-      let same : setAt at count ls ≡ setAt at len ls = rw n (setAt-reach at len ls) in
-      let f = each step (fresh (part known-from kept ls) (part from end ls)) in
-      rw (part-end at known-from known-to ls, part-end at from to ls, ← known, ← e)
-      (record { answer = g .answer ∙ ap (λ (s : List ℕ). answerOf (f s)) same; words = g .words ∙ ap (λ (s : List ℕ). laid at (f s .set) ls) same })
+  pub some-new : {end len : ℕ} → end ≡ min (min (g .part .to) (t .at)) (length before) → len ≡ reachOf (t .at) (t .len) (length before)
+      → Gives (record { at = t .at; len = len; most = t .most }) giving list (fresh (part (g .known .from) kept before) (part (g .part .from) end before))
+      before after r
+      → Gives t giving list (newIn (t .at) g before) before after r
+  some-new {end} {len} e n x =
+      let same : setAt (t .at) len before ≡ setAt (t .at) (t .len) before = rw n (setAt-reach (t .at) (t .len) before) in
+      let f = each (givenAt t giving list before) (fresh (part (g .known .from) kept before) (part (g .part .from) end before)) in
+      rw (part-end (t .at) (g .known .from) (g .known .to) before, part-end (t .at) (g .part .from) (g .part .to) before, ← known, ← e)
+      (record { answer = x .answer ∙ ap (λ (s : List ℕ). answerOf (f s)) same; words = x .words ∙ ap (λ (s : List ℕ). laid (t .at) (f s .set) before) same })

@@ -5,13 +5,13 @@ use mathlib.Core.List.{List, [], _∷_}
 use Prim.Native.Nat.{ℕ, _-_, _≤_}
 use lib.Dec.{eqb}
 use lib.ListN.{length}
-use Rattle.sets.specs.Parts.{part}
-use Rattle.sets.specs.Building.{Building}
+use Rattle.sets.specs.Parts.{part, wordsOf}
+use Rattle.sets.specs.Building.{Building, each, GrownAt}
 use Rattle.merging.specs.Multiplying.{row}
 use Rattle.ways.specs.Imaging.{imaged}
-use Rattle.sets.specs.declared.Part.{Part}
+use Rattle.sets.specs.declared.Built.{Built}
+use Rattle.sets.specs.declared.Target.{Target}
 use Rattle.places.specs.declared.Growth.{Growth}
-use Rattle.sets.specs.Parts.{wordsOf}
 use Rattle.growth.specs.declared.Giving.{Giving}
 use Rattle.growth.specs.declared.Giving.the-variants.{Through, Times}
 
@@ -23,17 +23,17 @@ fresh known [] = []
 fresh [] (w ∷ ws) = w ∷ ws
 fresh (v ∷ known) (w ∷ ws) = elim (eqb v w) [ true ↦ fresh known ws | false ↦ w ∷ fresh (v ∷ known) ws ]
 
--- the labels of a part that do not stand next in another
-abbrev pub freshIn : (known now : Part) → List ℕ → List ℕ
-freshIn known now ls = fresh (part (known .from) (known .to) ls) (part (now .from) (now .to) ls)
+-- the labels of a set's part that do not stand next in what was known
+abbrev pub freshIn : Growth → List ℕ → List ℕ
+freshIn g ls = fresh (part (g .known .from) (g .known .to) ls) (part (g .part .from) (g .part .to) ls)
 
 -- two parts that end before a place, and a set there that is no longer than the list
-pub record Ends (known now : Part) (at len : ℕ) (ls : List ℕ) : Type 0 where
-  pub knownBefore : known .to ≤ at
-  pub knownWithin : known .to ≤ length ls
-  pub nowBefore : now .to ≤ at
-  pub nowWithin : now .to ≤ length ls
-  pub set : len ≤ length ls - at
+pub record Ends (g : Growth) (t : Target) (ls : List ℕ) : Type 0 where
+  pub knownBefore : g .known .to ≤ t .at
+  pub knownWithin : g .known .to ≤ length ls
+  pub nowBefore : g .part .to ≤ t .at
+  pub nowWithin : g .part .to ≤ length ls
+  pub set : t .len ≤ length ls - t .at
 
 -- the new labels of a set, as far as it stands before a place
 abbrev pub newIn : ℕ → Growth → List ℕ → List ℕ
@@ -43,3 +43,7 @@ newIn at g ls = fresh (wordsOf at (g .known) ls) (wordsOf at (g .part) ls)
 abbrev pub given : (room at : ℕ) → List ℕ → Giving → List ℕ → ℕ → List ℕ → Building
 given room at ls (Through way) list = imaged room way list
 given room at ls (Times by) list = row room (wordsOf at by ls)
+
+-- what the labels of a list give goes into a set, one after the other
+abbrev pub Gives : Target → Giving → (list labels before after : List ℕ) → Built → Type 0
+Gives t giving list labels before after r = GrownAt t (λ room. each (given room (t .at) before giving list) labels) before after r

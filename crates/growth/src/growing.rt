@@ -14,29 +14,17 @@ use ways::imaging::add_image;
 ghost use mathlib.Core.Path.{_≡_};
 ghost use mathlib.Core.Bool.{_&&_};
 ghost use lib.Dec.{ltb, eqb};
-ghost use lib.ListN.{length, getD};
-ghost use Rattle.sets.specs.Parts.{wordsOf, roomAt};
-ghost use Rattle.sets.specs.Building.{Grown, each};
-ghost use Rattle.growth.specs.Fresh.{Ends, freshIn, newIn, given};
+ghost use lib.ListN.{getD};
+ghost use Rattle.sets.specs.Parts.{wordsOf};
+ghost use Rattle.growth.specs.Fresh.{Ends, freshIn, newIn, Gives};
 
 // What the labels of a part give.
-fn add_part(
-    work: &mut [u64],
-    giving: Giving,
-    part: Part,
-    list: &[u64],
-    at: usize,
-    len: usize,
-    most: usize,
-) -> Built
-    ensures { λ r. ⌜ Grown
-        (each (given (roomAt at most (length (now (work .entry)))) at (now (work .entry)) giving (now (list .entry)))
-        (wordsOf at part (now (work .entry))))
-        at len (now (work .entry)) (now (work .exit)) r ⌝ }
+fn add_part(work: &mut [u64], giving: Giving, part: Part, list: &[u64], target: Target) -> Built
+    ensures { λ r. ⌜ Gives target giving (now (list .entry)) (wordsOf (target .at) part (now (work .entry))) (now (work .entry)) (now (work .exit)) r ⌝ }
 {
     match giving {
-        Giving::Through(way) => add_image(work, part, way, list, Target { at, len, most }),
-        Giving::Times(by) => add_product(work, part, by, Target { at, len, most }),
+        Giving::Through(way) => add_image(work, part, way, list, target),
+        Giving::Times(by) => add_product(work, part, by, target),
     }
 }
 
@@ -47,71 +35,60 @@ fn stands_next(work: &[u64], next: usize, end: usize, i: usize) -> bool
     next < end && same(read_label(work, next), read_label(work, i))
 }
 
-// What each label of a part gives that does not stand next among the known ones. Both parts end before the place.
-fn add_fresh(
-    work: &mut [u64],
-    known: Part,
-    part: Part,
-    giving: Giving,
-    list: &[u64],
-    at: usize,
-    len: usize,
-    most: usize,
-) -> Built
-    requires { ⌜ Ends known part at len (now work) ⌝ }
-    ensures { λ r. ⌜ Grown
-        (each (given (roomAt at most (length (now (work .entry)))) at (now (work .entry)) giving (now (list .entry)))
-        (freshIn known part (now (work .entry))))
-        at len (now (work .entry)) (now (work .exit)) r ⌝ }
+// What each label of a set gives that does not stand next among the known ones. Both parts end before the place.
+fn add_fresh(work: &mut [u64], set: Growth, giving: Giving, list: &[u64], target: Target) -> Built
+    requires { ⌜ Ends set target (now work) ⌝ }
+    ensures { λ r. ⌜ Gives target giving (now (list .entry)) (freshIn set (now (work .entry))) (now (work .entry)) (now (work .exit)) r ⌝ }
 {
-    let mut count = len;
-    let mut next = known.from;
-    let mut i = part.from;
-    while i < part.to {
-        if stands_next(work, next, known.to, i) {
+    let mut len = target.len;
+    let mut next = set.known.from;
+    let mut i = set.part.from;
+    while i < set.part.to {
+        if stands_next(work, next, set.known.to, i) {
             next += 1;
         } else {
             let one = Part { from: i, to: i + 1 };
-            let step = add_part(work, giving, one, list, at, count, most);
+            let place = Target {
+                at: target.at,
+                len,
+                most: target.most,
+            };
+            let step = add_part(work, giving, one, list, place);
             let Built::Holds(n) = step else {
                 return Built::TooLarge;
             };
-            count = n;
+            len = n;
         }
         i += 1;
     }
-    Built::Holds(count)
+    Built::Holds(len)
 }
 
 // What the new labels of a set give. Where nothing was known all are new.
-pub fn add_new(
-    work: &mut [u64],
-    set: Growth,
-    giving: Giving,
-    list: &[u64],
-    at: usize,
-    len: usize,
-    most: usize,
-) -> Built
-    ensures { λ r. ⌜ Grown
-        (each (given (roomAt at most (length (now (work .entry)))) at (now (work .entry)) giving (now (list .entry)))
-        (newIn at set (now (work .entry))))
-        at len (now (work .entry)) (now (work .exit)) r ⌝ }
+pub fn add_new(work: &mut [u64], set: Growth, giving: Giving, list: &[u64], target: Target) -> Built
+    ensures { λ r. ⌜ Gives target giving (now (list .entry)) (newIn (target .at) set (now (work .entry))) (now (work .entry)) (now (work .exit)) r ⌝ }
 {
+    let at = target.at;
     let known = set.known;
     let part = set.part;
     let known_end = end_before(work, known.to, at);
     if known_end <= known.from {
-        return add_part(work, giving, part, list, at, len, most);
+        return add_part(work, giving, part, list, target);
     }
-    let then = Part {
-        from: known.from,
-        to: known_end,
+    let ended = Growth {
+        known: Part {
+            from: known.from,
+            to: known_end,
+        },
+        part: Part {
+            from: part.from,
+            to: end_before(work, part.to, at),
+        },
     };
-    let now = Part {
-        from: part.from,
-        to: end_before(work, part.to, at),
+    let place = Target {
+        at,
+        len: reach(work, at, target.len),
+        most: target.most,
     };
-    let count = reach(work, at, len);
-    add_fresh(work, then, now, giving, list, at, count, most)
+    add_fresh(work, ended, giving, list, place)
 }

@@ -5,53 +5,57 @@ use crate::exchanging::first_rules;
 use crate::growing::add_new;
 use places::Growth;
 use sets::Built;
+use sets::Target;
 use table::Operator;
+use table::Place;
 use table::lists::rule_words_of;
 use table::lists::words_of;
 use ways::Way;
-ghost use lib.ListN.{length};
+ghost use mathlib.Core.Path.{_≡_};
 ghost use Rattle.ways.specs.declared.Way.the-variants.{Comm};
-ghost use Rattle.sets.specs.Parts.{roomAt};
-ghost use Rattle.sets.specs.Building.{Grown};
-ghost use Rattle.growth.specs.Fresh.{newIn};
-ghost use Rattle.growth.specs.Ways.{throughBuilt, ruleList, wayFor, wordsFor};
+ghost use Rattle.growth.specs.Ways.{Passes, ruleList, wayFor, placeFor, wordsFor};
 
 // The new labels of a set, on a way with its list.
-pub fn through(
-    work: &mut [u64],
-    way: Way,
-    list: &[u64],
-    set: Growth,
-    at: usize,
-    len: usize,
-    most: usize,
-) -> Built
-    ensures { λ r. ⌜ Grown
-        (throughBuilt (roomAt at most (length (now (work .entry)))) way (now (list .entry))
-        (newIn at set (now (work .entry))))
-        at len (now (work .entry)) (now (work .exit)) r ⌝ }
+pub fn through(work: &mut [u64], way: Way, list: &[u64], set: Growth, target: Target) -> Built
+    ensures { λ r. ⌜ Passes target set way (now (list .entry)) (now (work .entry)) (now (work .exit)) r ⌝ }
 {
-    add_new(work, set, Giving::Through(way), list, at, len, most)
+    add_new(work, set, Giving::Through(way), list, target)
 }
 
 // No more words of the rules are lent than they have.
-fn communicate(
-    work: &mut [u64],
-    rules: &[u64],
-    set: Growth,
-    at: usize,
-    len: usize,
-    most: usize,
-) -> Built
-    ensures { λ r. ⌜ Grown
-        (throughBuilt (roomAt at most (length (now (work .entry)))) Comm (ruleList (now (rules .entry)))
-        (newIn at set (now (work .entry))))
-        at len (now (work .entry)) (now (work .exit)) r ⌝ }
+fn communicate(work: &mut [u64], rules: &[u64], set: Growth, target: Target) -> Built
+    ensures { λ r. ⌜ Passes target set Comm (ruleList (now (rules .entry))) (now (work .entry)) (now (work .exit)) r ⌝ }
 {
     let first = first_rules(rules);
     let end = first.len();
     let list = exchanges(first);
-    through(work, Way::Comm, &list[..end], set, at, len, most)
+    through(work, Way::Comm, &list[..end], set, target)
+}
+
+// The way of an operator.
+fn way_of(operator: Operator) -> Way
+    ensures { λ r. ⌜ r ≡ wayFor operator ⌝ }
+{
+    match operator {
+        Operator::Block(_) => Way::Block,
+        Operator::Hide(_) => Way::Hide,
+        Operator::Rename(_) => Way::Rename,
+        Operator::Comm(_) => Way::Comm,
+        Operator::Allow(_) => Way::Allow,
+    }
+}
+
+// Where an operator's list stands in the store.
+fn list_place(operator: Operator) -> Place
+    ensures { λ r. ⌜ r ≡ placeFor operator ⌝ }
+{
+    match operator {
+        Operator::Block(p) => p,
+        Operator::Hide(p) => p,
+        Operator::Rename(p) => p,
+        Operator::Comm(p) => p,
+        Operator::Allow(p) => p,
+    }
 }
 
 // Each operator's way, with its list from the store.
@@ -60,20 +64,13 @@ pub fn wrapped(
     store: &[u64],
     operator: Operator,
     set: Growth,
-    at: usize,
-    len: usize,
-    most: usize,
+    target: Target,
 ) -> Built
-    ensures { λ r. ⌜ Grown
-        (throughBuilt (roomAt at most (length (now (work .entry)))) (wayFor operator) (wordsFor (now (store .entry)) operator)
-        (newIn at set (now (work .entry))))
-        at len (now (work .entry)) (now (work .exit)) r ⌝ }
+    ensures { λ r. ⌜ Passes target set (wayFor operator) (wordsFor (now (store .entry)) operator) (now (work .entry)) (now (work .exit)) r ⌝ }
 {
+    let place = list_place(operator);
     match operator {
-        Operator::Block(p) => through(work, Way::Block, words_of(store, p), set, at, len, most),
-        Operator::Hide(p) => through(work, Way::Hide, words_of(store, p), set, at, len, most),
-        Operator::Rename(p) => through(work, Way::Rename, words_of(store, p), set, at, len, most),
-        Operator::Comm(p) => communicate(work, rule_words_of(store, p), set, at, len, most),
-        Operator::Allow(p) => through(work, Way::Allow, words_of(store, p), set, at, len, most),
+        Operator::Comm(_) => communicate(work, rule_words_of(store, place), set, target),
+        _ => through(work, way_of(operator), words_of(store, place), set, target),
     }
 }

@@ -7,10 +7,9 @@ use Prim.Native.Nat.{ℕ, _≤_, _<_, min}
 use native.Mathlib.Nat.{min-eq-left}
 use native.Mathlib.Omega.{arith}
 use native.Mathlib.Decide.{decLt}
-use lib.ListN.{length, getD, set, replicate, getD-replicate, List·getD-eq-default}
+use lib.ListN.{length, getD, set, replicate, length-replicate, getD-replicate, List·getD-eq-default}
 use lib.Seq.{getD-set-same, getD-set-other}
 use Rattle.places.specs.Starts.{half, baseOf, startIn}
-use Rattle.places.proofs.Filling.{length-zeros}
 
 pub base-low : (upper : Bool) → baseOf upper ≤ half
 base-low true = omega arith
@@ -46,7 +45,7 @@ start-other starts n i v h = ap (λ (m : ℕ). min m half) (getD-set-other start
 zeros : (n i : ℕ) → getD (replicate {A = ℕ} n 0) i 0 ≡ 0
 zeros n i = elim (decLt i n) [
   | yes l ↦ getD-replicate {A = ℕ} n i 0 0 l
-  | no l ↦ List·getD-eq-default (replicate {A = ℕ} n 0) 0 (omega (arith, length-zeros n))
+  | no l ↦ List·getD-eq-default (replicate {A = ℕ} n 0) 0 (omega (arith, length-replicate {A = ℕ} n 0))
 ]
 
 pub start-zero : (n i : ℕ) → startIn (replicate n 0) i ≡ 0

@@ -1,8 +1,5 @@
--- Laws of where sets stand, of words put and carried one after the other, and of the cut to the order.
-pub mod Filling
+-- Laws of where sets begin, and of whether they stayed.
+-- base-low, start-low, start-none, start-is, start-half, start-set, start-other, start-zero: where sets begin
 pub mod Beginnings
+-- stay-fails, stay-goes, stay-ends: bodies looked at one after the other
 pub mod Stays
-pub mod Carries
-pub mod Lowering
-pub mod Copies
-pub mod Cuts

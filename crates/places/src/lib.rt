@@ -1,8 +1,4 @@
-// Where sets stand in the work area: how one is found, laid, copied down, compared with that of the round before, and cut to the order.
-mod carrying;
-pub mod cutting;
-pub mod laying;
-pub mod moving;
+// Where sets stand in the work area: where each begins and ends, and whether it stayed since the round before.
 pub mod sameness;
 pub mod starts;
 

@@ -8,10 +8,11 @@ use native.Mathlib.Omega.{arith}
 use lib.ListN.{length, take}
 use Rattle.sets.specs.declared.Built.{Built}
 use Rattle.sets.specs.declared.Built.the-variants.{TooLarge, Holds}
+use Rattle.sets.specs.declared.Target.{Target}
 use Rattle.ways.specs.declared.Way.{Way}
 use Rattle.ways.specs.declared.Way.the-variants.{Copy}
 use Rattle.sets.specs.Parts.{setAt, laid, part, roomAt}
-use Rattle.sets.specs.Building.{Building, answerOf, next, each, Grown}
+use Rattle.sets.specs.Building.{Building, answerOf, next, each, Grown, GrownAt}
 use Rattle.ways.specs.Imaging.{imaged}
 use Rattle.sets.proofs.Laid.{length-setAt, take-laid}
 use Rattle.sets.proofs.Steps.{Steady, steady-each, steady-next, Going, going-last, grown-as, next-holds, next-large, built-holds}
@@ -19,7 +20,7 @@ use Rattle.ways.proofs.Images.{steady-imaged}
 use Rattle.places.specs.declared.Growth.{Growth}
 use Rattle.growth.specs.declared.Giving.{Giving}
 use Rattle.growth.specs.declared.Giving.the-variants.{Through, Times}
-use Rattle.growth.specs.Fresh.{newIn, given}
+use Rattle.growth.specs.Fresh.{newIn, given, Gives}
 use Rattle.growth.specs.Ways.{throughBuilt}
 use Rattle.shapes.proofs.Makings.{steady-multiplied}
 use Rattle.shapes.specs.Adding.{wordsIn, newFrom, givenFrom, eachAdded, eitherAdded, jointAdded, addedOf}
@@ -36,7 +37,8 @@ module _ (at len most : ℕ) (first : List ℕ → Building) (second : ℕ → L
   abbrev rest : List ℕ → Building
   rest = second (roomAt at most (length before)) (take at before)
 
-  pub then-last : (n : ℕ) (r : Built) (after : List ℕ) → length (first (setAt at len before) .set) ≤ length before - at → ((m : ℕ) (ls : List ℕ) → Steady m (second m ls))
+  pub then-last : (n : ℕ) (r : Built) (after : List ℕ) → length (first (setAt at len before) .set) ≤ length before - at
+      → ((m : ℕ) (ls : List ℕ) → Steady m (second m ls))
       → Grown first at len before now (Holds n) → Grown (second (roomAt at most (length now)) (take at now)) at n now after r
       → Grown (λ s. next (first s) rest) at len before after r
   then-last n r after fits steady x y =
@@ -54,20 +56,28 @@ module _ (at len most : ℕ) (first : List ℕ → Building) (second : ℕ → L
       record { answer = p .0; words = p .1 }
 
 -- Two steps that keep a set within the room.
-module _ (at len most : ℕ) (first second : ℕ → List ℕ → List ℕ → Building) (before now : List ℕ) where
-  abbrev begun : List ℕ → Building
-  begun = first (roomAt at most (length before)) (take at before)
+module _ (t : Target) (first second : ℕ → List ℕ → List ℕ → Building) (before now : List ℕ) where
+  abbrev Both : List ℕ → Built → Type 0
+  Both after r = GrownAt t (λ m s. next (first m (take (t .at) before) s) (second m (take (t .at) before))) before after r
 
-  pub pair-last : ((m : ℕ) (ls : List ℕ) → Steady m (first m ls)) → ((m : ℕ) (ls : List ℕ) → Steady m (second m ls)) → (n : ℕ) (r : Built) (after : List ℕ)
-      → Grown begun at len before now (Holds n) → Grown (second (roomAt at most (length now)) (take at now)) at n now after r
-      → Grown (λ s. next (begun s) (second (roomAt at most (length before)) (take at before))) at len before after r
+  abbrev begun : List ℕ → Building
+  begun = first (roomAt (t .at) (t .most) (length before)) (take (t .at) before)
+
+  pub pair-large : GrownAt t (λ m. first m (take (t .at) before)) before now TooLarge → Both now TooLarge
+  pair-large x = first-large (t .at) (t .len) begun (second (roomAt (t .at) (t .most) (length before)) (take (t .at) before)) before now x
+
+  pub pair-last : ((m : ℕ) (ls : List ℕ) → Steady m (first m ls)) → ((m : ℕ) (ls : List ℕ) → Steady m (second m ls))
+      → {n : ℕ} {r : Built} {after : List ℕ}
+      → GrownAt t (λ m. first m (take (t .at) before)) before now (Holds n)
+      → GrownAt (record { at = t .at; len = n; most = t .most }) (λ m. second m (take (t .at) now)) now after r
+      → Both after r
   unfolding Steady
-  pair-last kept also n r after x y = then-last at len most begun second before now n r after fits also x y
+  pair-last kept also {n} {r} {after} x y = then-last (t .at) (t .len) (t .most) begun second before now n r after fits also x y
     where
-      fits : length (begun (setAt at len before) .set) ≤ length before - at
+      fits : length (begun (setAt (t .at) (t .len) before) .set) ≤ length before - t .at
       fits =
-          let h = kept (roomAt at most (length before)) (take at before) (setAt at len before) in
-          let l = length-setAt at len before in
+          let h = kept (roomAt (t .at) (t .most) (length before)) (take (t .at) before) (setAt (t .at) (t .len) before) in
+          let l = length-setAt (t .at) (t .len) before in
           omega arith
 
 -- What is added for the new labels of sets, of the words before the place.
@@ -79,9 +89,11 @@ given-from room at ls (Through way) = refl
 given-from room at ls (Times by) = refl
 
 -- what a function adds, in these words
-pub added-by : (room at len : ℕ) (a : Growth) (g : Giving) (work : List ℕ) {after : List ℕ} {r : Built}
-    → Grown (each (given room at work g []) (newIn at a work)) at len work after r → Grown (addBy a g room (take at work)) at len work after r
-added-by room at len a g work x = grown-as (λ s. ap (λ (f : ℕ → List ℕ → Building). each f (newFrom a (take at work)) s) (given-from room at work g)) x
+pub added-by : (t : Target) (a : Growth) (g : Giving) (work : List ℕ) {after : List ℕ} {r : Built} → Gives t g [] (newIn (t .at) a work) work after r
+    → GrownAt t (λ room. addBy a g room (take (t .at) work)) work after r
+added-by t a g work x =
+    let room = roomAt (t .at) (t .most) (length work) in
+    grown-as (λ s. ap (λ (f : ℕ → List ℕ → Building). each f (newFrom a (take (t .at) work)) s) (given-from room (t .at) work g)) x
 
 abbrev pub addEither : Growth → Growth → ℕ → List ℕ → List ℕ → Building
 addEither a b m ls = eitherAdded m (newFrom a ls) (newFrom b ls)

@@ -4,15 +4,17 @@ use mathlib.Core.Bool.{Bool, true, false}
 use mathlib.Core.List.{List, []}
 use Prim.Native.Nat.{ℕ}
 use Rattle.ways.specs.declared.Way.the-variants.{Copy}
-use Rattle.sets.specs.Parts.{part}
-use Rattle.sets.specs.Building.{Building, next, each}
+use Rattle.sets.specs.Parts.{part, wordsOf}
+use Rattle.sets.specs.Building.{Building, next, each, GrownAt}
 use Rattle.merging.specs.Multiplying.{row, multiplied}
 use Rattle.ways.specs.Imaging.{imaged}
+use Rattle.sets.specs.declared.Built.{Built}
 use Rattle.sets.specs.declared.Part.{Part}
+use Rattle.sets.specs.declared.Target.{Target}
 use Rattle.places.specs.declared.Growth.{Growth}
 use Rattle.growth.specs.declared.Giving.{Giving}
 use Rattle.growth.specs.declared.Giving.the-variants.{Through, Times}
-use Rattle.growth.specs.Fresh.{fresh}
+use Rattle.growth.specs.Fresh.{fresh, newIn}
 use Rattle.growth.specs.Ways.{throughBuilt}
 use Rattle.shapes.specs.Making.{eitherBuilt, bothBuilt}
 
@@ -49,3 +51,9 @@ wholeOf false room a b = eitherBuilt room a b
 abbrev pub addedOf : (sums : Bool) → ℕ → (newA a newB b : List ℕ) → List ℕ → Building
 addedOf true room newA a newB b = bothAdded room newA a newB b
 addedOf false room newA a newB b = eitherAdded room newA newB
+
+-- what the new labels of two sets add to a set, by what of both stands before it
+abbrev pub TwoAdded : Target → (sums : Bool) → (a b : Growth) → (before after : List ℕ) → Built → Type 0
+TwoAdded t sums a b before after r =
+    let words : Part → List ℕ = λ p. wordsOf (t .at) p before in
+    GrownAt t (λ room. addedOf sums room (newIn (t .at) a before) (words (a .part)) (newIn (t .at) b before) (words (b .part))) before after r

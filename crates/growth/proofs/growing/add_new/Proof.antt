@@ -1,9 +1,6 @@
 -- `growth::growing::add_new` meets its contract: all labels, or those that are new, are added.
 -- Assumes nothing.
 use native.Mathlib.Omega.{arith}
-use lib.ListN.{length}
-use Rattle.sets.specs.Parts.{partBefore, roomAt}
-use Rattle.growth.specs.Fresh.{given}
 use Rattle.growth.proofs.Renewing.{all-new, some-new}
 use borrow.Author.Needs.{needs}
 use Rattle.growth.proofs.growing.add_new.Statement.{statement}
@@ -22,10 +19,7 @@ returns : tie.Need-returns
 returns c =
     let a = c .before .before .before .before .before .before .before .before .before .before .before .before .args in
     let end = c .before .before .before .before .before .before .end-before in
-    let step =
-    given (roomAt (a .at) (a .most) (length (a .work .now))) (a .at) (a .work .now) (a .giving) (a .list .now) in
-    all-new (a .at) (a .len) (a .work .now) (a .set .known .from) (a .set .known .to) (end .result) step (end .ensures)
-    (partBefore (a .at) (a .set .part .from) (a .set .part .to) (a .work .now)) (c .before .before .before .before .if1 .taken)
+    all-new (a .target) (a .set) (a .giving) (a .list .now) (a .work .now) (end .ensures) (c .before .before .before .before .if1 .taken)
     (c .before .before .add-part .ensures)
 
 end-before-requires-2 : tie.Need-end-before-requires-2
@@ -46,14 +40,12 @@ same-length-2 c = search needs
 
 returns-2 : tie.Need-returns-2
 returns-2 c =
-    let a = c .before .before .before .before .before .before .before .before .before .before .before .before .before .before .before .before .args in
-    let end = c .before .before .before .before .before .before .before .before .before .before .end-before in
-    let last = c .before .before .before .before .before .before .end-before2 in
-    let held = c .before .before .before .before .reach in
-    let step =
-    given (roomAt (a .at) (a .most) (length (a .work .now))) (a .at) (a .work .now) (a .giving) (a .list .now) in
-    some-new (a .at) (a .len) (a .work .now) (a .set .known .from) (a .set .known .to) (end .result) step (end .ensures)
-    (a .set .part .from) (a .set .part .to) (last .result) (held .result) (last .ensures) (held .ensures) (c .before .before .add-fresh .ensures)
+    let held = c .before .before .before .before in
+    let last = held .before .before in
+    let end = last .before .before .before .before in
+    let a = end .before .before .before .before .before .before .args in
+    some-new (a .target) (a .set) (a .giving) (a .list .now) (a .work .now) (end .end-before .ensures) (last .end-before2 .ensures)
+    (held .reach .ensures) (c .before .before .add-fresh .ensures)
 
 pub add-new-spec : {M : Type 1} → statement M
 add-new-spec =

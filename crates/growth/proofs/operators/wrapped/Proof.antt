@@ -1,37 +1,31 @@
--- `growth::operators::wrapped` meets its contract: each operator goes its way, with its list.
+-- `growth::operators::wrapped` meets its contract: each operator goes its way, with its list; that of comm holds rules.
 -- Assumes nothing.
+use mathlib.Core.Path.{_≡_, refl}
+use mathlib.Core.List.{List, [], _∷_}
+use Prim.Native.Nat.{ℕ}
+use types.Run.{OneOf, miss}
+use denote.Enum.Declared.{tagOf}
+use Rattle.table.specs.declared.Operator.{Operator}
+use Rattle.table.specs.declared.Operator.the-variants.{Block, Hide, Rename, Comm, Allow}
+use Rattle.table.proofs.Operator.{the-type}
+use Rattle.table.specs.Decoded.{wordsAt}
+use Rattle.growth.specs.Ways.{placeFor, wordsFor}
 use Rattle.growth.proofs.operators.wrapped.Statement.{statement}
 use Rattle.growth.proofs.operators.wrapped.Tie as tie
 
-enum-known-operator : tie.Need-enum-known-operator
-enum-known-operator c = c .match .keys1
+-- the list of every operator but comm has a word an entry
+plain : (store : List ℕ) (o : Operator) → OneOf (0 ∷ 1 ∷ 2 ∷ 4 ∷ []) (tagOf the-type o) → wordsAt store (placeFor o) 1 ≡ wordsFor store o
+plain store (Block p) h = refl
+plain store (Hide p) h = refl
+plain store (Rename p) h = refl
+plain store (Comm p) h = absurd (miss (0 ∷ 1 ∷ 2 ∷ 4 ∷ []) 3 tt h)
+plain store (Allow p) h = refl
 
-words-of-requires : tie.Need-words-of-requires
-words-of-requires c κs = tt
+list-place-requires : tie.Need-list-place-requires
+list-place-requires c κs = tt
 
-through-requires : tie.Need-through-requires
-through-requires c κs = tt
-
-enum-known-operator-2 : tie.Need-enum-known-operator-2
-enum-known-operator-2 c = c .match .keys2
-
-words-of-requires-2 : tie.Need-words-of-requires-2
-words-of-requires-2 c κs = tt
-
-through-requires-2 : tie.Need-through-requires-2
-through-requires-2 c κs = tt
-
-enum-known-operator-3 : tie.Need-enum-known-operator-3
-enum-known-operator-3 c = c .match .keys3
-
-words-of-requires-3 : tie.Need-words-of-requires-3
-words-of-requires-3 c κs = tt
-
-through-requires-3 : tie.Need-through-requires-3
-through-requires-3 c κs = tt
-
-enum-known-operator-4 : tie.Need-enum-known-operator-4
-enum-known-operator-4 c = c .match .keys4
+enum-told : tie.Need-enum-told
+enum-told c = c .match .keys1
 
 rule-words-of-requires : tie.Need-rule-words-of-requires
 rule-words-of-requires c κs = tt
@@ -39,49 +33,39 @@ rule-words-of-requires c κs = tt
 communicate-requires : tie.Need-communicate-requires
 communicate-requires c κs = tt
 
-enum-known-operator-5 : tie.Need-enum-known-operator-5
-enum-known-operator-5 c = c .match .keys5
+way-of-requires : tie.Need-way-of-requires
+way-of-requires c κs = tt
 
-words-of-requires-4 : tie.Need-words-of-requires-4
-words-of-requires-4 c κs = tt
+words-of-requires : tie.Need-words-of-requires
+words-of-requires c κs = tt
 
-through-requires-4 : tie.Need-through-requires-4
-through-requires-4 c κs = tt
+through-requires : tie.Need-through-requires
+through-requires c κs = tt
 
 same-length : tie.Need-same-length
-same-length c = c .before .before .through .kept .0
+same-length c = c .before .before .communicate .kept .0
 
 returns : tie.Need-returns
-returns c = rw (c .before .before .before .before .before .before .operator .given .1) (rw (c .before .before .before .words-of .ensures) at (c .before .before .through .ensures))
+returns c =
+    let told = c .before .before .before .before .before in
+    let is-comm = told .enum-told .given .1 in
+    let place = told .before .before .list-place .ensures in
+    rw is-comm (rw (c .before .before .before .rule-words-of .ensures, place, is-comm) at (c .before .before .communicate .ensures))
 
 same-length-2 : tie.Need-same-length-2
-same-length-2 c = c .before .before .through2 .kept .0
+same-length-2 c = c .before .before .through .kept .0
 
 returns-2 : tie.Need-returns-2
-returns-2 c = rw (c .before .before .before .before .before .before .operator2 .given .1) (rw (c .before .before .before .words-of2 .ensures) at (c .before .before .through2 .ensures))
-
-same-length-3 : tie.Need-same-length-3
-same-length-3 c = c .before .before .through3 .kept .0
-
-returns-3 : tie.Need-returns-3
-returns-3 c = rw (c .before .before .before .before .before .before .operator3 .given .1) (rw (c .before .before .before .words-of3 .ensures) at (c .before .before .through3 .ensures))
-
-same-length-4 : tie.Need-same-length-4
-same-length-4 c = c .before .before .communicate .kept .0
-
-returns-4 : tie.Need-returns-4
-returns-4 c = rw (c .before .before .before .before .before .before .operator4 .given .1) (rw (c .before .before .before .rule-words-of .ensures) at (c .before .before .communicate .ensures))
-
-same-length-5 : tie.Need-same-length-5
-same-length-5 c = c .before .before .through4 .kept .0
-
-returns-5 : tie.Need-returns-5
-returns-5 c = rw (c .before .before .before .before .before .before .operator5 .given .1) (rw (c .before .before .before .words-of4 .ensures) at (c .before .before .through4 .ensures))
+returns-2 c =
+    let other = c .before .before .before .before .before .before in
+    let a = other .before .before .before .before .args in
+    let place = other .before .list-place .ensures in
+    let way = c .before .before .before .before .way-of .ensures in
+    let listed = c .before .before .before .words-of .ensures in
+    rw (way, listed, place, plain (a .store .now) (a .operator) (other .match .keys2)) at (c .before .before .through .ensures)
 
 pub wrapped-spec : {M : Type 1} → statement M
 wrapped-spec =
     tie.close
-    (tie.spec enum-known-operator words-of-requires through-requires enum-known-operator-2 words-of-requires-2 through-requires-2
-    enum-known-operator-3 words-of-requires-3 through-requires-3 enum-known-operator-4 rule-words-of-requires communicate-requires
-    enum-known-operator-5 words-of-requires-4 through-requires-4 same-length returns same-length-2 returns-2 same-length-3 returns-3 same-length-4
-    returns-4 same-length-5 returns-5)
+    (tie.spec list-place-requires enum-told rule-words-of-requires communicate-requires way-of-requires words-of-requires through-requires
+    same-length returns same-length-2 returns-2)

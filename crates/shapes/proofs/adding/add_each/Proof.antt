@@ -1,8 +1,6 @@
 -- `shapes::adding::add_each` meets its contract: one addition after the other.
 -- Assumes nothing.
-use lib.ListN.{length, take}
-use Rattle.sets.specs.Parts.{roomAt}
-use Rattle.shapes.proofs.Sequence.{first-large, pair-last, addBy, added-by, steady-by}
+use Rattle.shapes.proofs.Sequence.{pair-large, pair-last, addBy, added-by, steady-by}
 use borrow.Author.Needs.{needs}
 use Rattle.shapes.proofs.adding.add_each.Statement.{statement}
 use Rattle.shapes.proofs.adding.add_each.Tie as tie
@@ -27,10 +25,10 @@ same-length c = search needs
 
 returns : tie.Need-returns
 returns c =
-    let a = c .before .before .before .before .before .before .before .before .args in
-    let room = roomAt (a .at) (a .most) (length (a .work .now)) in
-    first-large (a .at) (a .len) (addBy (a .a) (a .by-a) room (take (a .at) (a .work .now))) _ (a .work .now) _
-    (added-by room (a .at) (a .len) (a .a) (a .by-a) (a .work .now) (rw (c .enum-told .given .1) at (c .before .before .before .before .add-new .ensures)))
+    let added = c .before .before .before .before in
+    let a = added .before .before .before .before .args in
+    let first = rw (c .enum-told .given .1) at (added .add-new .ensures) in
+    pair-large (a .target) (addBy (a .a) (a .by-a)) (addBy (a .b) (a .by-b)) (a .work .now) _ (added-by (a .target) (a .a) (a .by-a) (a .work .now) first)
 
 array-share-prefix-none-2 : tie.Need-array-share-prefix-none-2
 array-share-prefix-none-2 c = search needs
@@ -46,14 +44,12 @@ same-length-2 c = search needs
 
 returns-2 : tie.Need-returns-2
 returns-2 c =
-    let a = c .before .before .before .before .before .before .before .before .before .before .before .before .before .before .args in
-    let room = roomAt (a .at) (a .most) (length (a .work .now)) in
-    let first = rw (c .before .before .before .before .before .before .first .given .1) at
-    (c .before .before .before .before .before .before .before .before .before .before .add-new .ensures) in
-    pair-last (a .at) (a .len) (a .most) (addBy (a .a) (a .by-a)) (addBy (a .b) (a .by-b)) (a .work .now) _
-    (steady-by (a .a) (a .by-a)) (steady-by (a .b) (a .by-b)) _ _ _
-    (added-by room (a .at) (a .len) (a .a) (a .by-a) (a .work .now) first)
-    (added-by _ (a .at) _ (a .b) (a .by-b) _ (c .before .before .add-new2 .ensures))
+    let held = c .before .before .before .before .before .before in
+    let added = held .before .before .before .before in
+    let a = added .before .before .before .before .args in
+    let first = rw (held .first .given .1) at (added .add-new .ensures) in
+    pair-last (a .target) (addBy (a .a) (a .by-a)) (addBy (a .b) (a .by-b)) (a .work .now) _ (steady-by (a .a) (a .by-a)) (steady-by (a .b) (a .by-b))
+    (added-by (a .target) (a .a) (a .by-a) (a .work .now) first) (added-by _ (a .b) (a .by-b) _ (c .before .before .add-new2 .ensures))
 
 pub add-each-spec : {M : Type 1} → statement M
 add-each-spec =

@@ -1,9 +1,7 @@
 -- `shapes::adding::add_two` meets its contract: the labels, and then the sums.
 -- Assumes nothing.
 use borrow.Author.Tests.{not-true, not-false}
-use lib.ListN.{length, take}
-use Rattle.sets.specs.Parts.{roomAt}
-use Rattle.shapes.proofs.Sequence.{first-large, pair-last, addEither, addJoint, steady-either, steady-joint}
+use Rattle.shapes.proofs.Sequence.{pair-large, pair-last, addEither, addJoint, steady-either, steady-joint}
 use borrow.Author.Needs.{needs}
 use Rattle.shapes.proofs.adding.add_two.Statement.{statement}
 use Rattle.shapes.proofs.adding.add_two.Tie as tie
@@ -28,11 +26,11 @@ same-length-2 c = search needs
 
 returns-2 : tie.Need-returns-2
 returns-2 c =
-    let a = c .before .before .before .before .before .before .before .before .args in
-    let room = roomAt (a .at) (a .most) (length (a .work .now)) in
+    let added = c .before .before .before .before .before in
+    let a = added .before .before .before .args in
+    let labels = rw (c .enum-told .given .1) at (added .add-each .ensures) in
     rw (not-false (a .sums) (c .before .before .if1 .left))
-    (first-large (a .at) (a .len) (addEither (a .a) (a .b) room (take (a .at) (a .work .now))) _ (a .work .now) _
-    (rw (c .enum-told .given .1) at (c .before .before .before .before .before .add-each .ensures)))
+    (pair-large (a .target) (addEither (a .a) (a .b)) (addJoint (a .a) (a .b)) (a .work .now) _ labels)
 
 add-each-requires-2 : tie.Need-add-each-requires-2
 add-each-requires-2 c κs = tt
@@ -42,12 +40,13 @@ same-length-3 c = search needs
 
 returns-3 : tie.Need-returns-3
 returns-3 c =
-    let a = c .before .before .before .before .before .before .before .before .before .before .before .before .before .before .before .args in
-    let labels = rw (c .before .before .before .before .before .before .before .labels .given .1) at
-    (c .before .before .before .before .before .before .before .before .before .before .before .before .add-each .ensures) in
-    rw (not-false (a .sums) (c .before .before .before .before .before .before .before .before .before .if1 .left))
-    (pair-last (a .at) (a .len) (a .most) (addEither (a .a) (a .b)) (addJoint (a .a) (a .b)) (a .work .now) _
-    (steady-either (a .a) (a .b)) (steady-joint (a .a) (a .b)) _ _ _ labels (c .before .before .add-each2 .ensures))
+    let held = c .before .before .before .before .before .before .before in
+    let added = held .before .before .before .before .before in
+    let a = added .before .before .before .args in
+    let labels = rw (held .labels .given .1) at (added .add-each .ensures) in
+    rw (not-false (a .sums) (held .before .before .if1 .left))
+    (pair-last (a .target) (addEither (a .a) (a .b)) (addJoint (a .a) (a .b)) (a .work .now) _ (steady-either (a .a) (a .b)) (steady-joint (a .a) (a .b))
+    labels (c .before .before .add-each2 .ensures))
 
 pub add-two-spec : {M : Type 1} → statement M
 add-two-spec =

@@ -8,7 +8,7 @@ use native.Mathlib.Numerals.{add-one}
 use native.Mathlib.Omega.{arith}
 use lib.ListN.{length, getD, take, drop, set, replicate, length-append, length-take, length-drop, length-set, length-replicate}
 use lib.Seq.{drop-cons, set-append-seam, append-snoc, take-suc, take-all}
-use Rattle.places.specs.Cutting.{put}
+use Rattle.transfers.specs.Cutting.{put}
 
 length-snoc : (xs : List ℕ) (w : ℕ) → length (xs ++ (w ∷ [])) ≡ suc (length xs)
 length-snoc xs w = length-append xs (w ∷ []) ∙ omega arith

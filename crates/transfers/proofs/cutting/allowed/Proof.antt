@@ -1,10 +1,10 @@
--- `places::cutting::allowed` meets its contract.
+-- `transfers::cutting::allowed` meets its contract.
 -- Assumes nothing.
 use mathlib.Core.Path.{_∙_}
-use Rattle.places.proofs.Cuts.{allows-all, allows-tau, allows-listed}
+use Rattle.transfers.proofs.Cuts.{allows-all, allows-tau, allows-listed}
 use borrow.Author.Needs.{needs}
-use Rattle.places.proofs.cutting.allowed.Statement.{statement}
-use Rattle.places.proofs.cutting.allowed.Tie as tie
+use Rattle.transfers.proofs.cutting.allowed.Statement.{statement}
+use Rattle.transfers.proofs.cutting.allowed.Tie as tie
 
 returns : tie.Need-returns
 returns c = allows-all (c .before .before .args .all) (c .before .before .args .list .now) (c .before .before .args .word) (c .if1 .taken)

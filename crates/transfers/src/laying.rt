@@ -7,7 +7,7 @@ use sets::placing::room;
 ghost use lib.ListN.{length};
 ghost use Rattle.sets.specs.Parts.{wordsOf, roomAt};
 ghost use Rattle.sets.specs.Building.{Grown};
-ghost use Rattle.places.specs.Laying.{copyBuilt};
+ghost use Rattle.transfers.specs.Laying.{copyBuilt};
 
 // What of the part stands before the place is laid there, if there is room.
 pub fn lay(work: &mut [u64], part: Part, at: usize, most: usize) -> Built

@@ -2,7 +2,7 @@
 ghost use mathlib.Core.Path.{_≡_};
 ghost use lib.ListN.{length};
 ghost use Rattle.ways.specs.Imaging.{listedIn};
-ghost use Rattle.places.specs.Cutting.{allows, cutInto, put};
+ghost use Rattle.transfers.specs.Cutting.{allows, cutInto, put};
 
 // Whether a word is in a list.
 fn listed(list: &[u64], word: u64) -> bool

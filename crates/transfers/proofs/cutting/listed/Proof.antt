@@ -1,13 +1,13 @@
--- `places::cutting::listed` meets its contract.
+-- `transfers::cutting::listed` meets its contract.
 -- Assumes nothing.
 use mathlib.Core.Path.{_≡_, refl, sym, _∙_}
 use Prim.Native.Nat.{_-_, _≤_}
 use native.Mathlib.Omega.{arith}
 use lib.ListN.{length, drop}
-use Rattle.places.proofs.Cuts.{listed-here, listed-on, listed-out}
+use Rattle.transfers.proofs.Cuts.{listed-here, listed-on, listed-out}
 use Rattle.ways.specs.Imaging.{listedIn}
-use Rattle.places.proofs.cutting.listed.Statement.{statement}
-use Rattle.places.proofs.cutting.listed.Tie as tie
+use Rattle.transfers.proofs.cutting.listed.Statement.{statement}
+use Rattle.transfers.proofs.cutting.listed.Tie as tie
 
 abbrev Inv-loop : tie.InvT-loop
 Inv-loop list word i₀ i = (i ≤ length list) × (listedIn word (drop i list) ≡ listedIn word list)

@@ -1,8 +1,8 @@
 // The sets of a round copied down, where the next looks for those of the round before.
-use crate::HALF;
 use crate::carrying::carry;
+use places::HALF;
 ghost use mathlib.Core.Path.{_≡_};
-ghost use Rattle.places.specs.Moving.{loweredIn};
+ghost use Rattle.transfers.specs.Moving.{loweredIn};
 
 // So many words from the middle on are copied to the start.
 pub fn lower(work: &mut [u64], count: usize)

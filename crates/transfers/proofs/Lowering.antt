@@ -6,8 +6,8 @@ use Prim.Native.Nat.{ℕ, _+_, _≤_, _<_, min}
 use native.Mathlib.Nat.{zero-add, min-eq-left}
 use borrow.Author.Tests.{le-leb, lt-leb}
 use lib.ListN.{length, take, drop}
 use Rattle.places.specs.Starts.{half, whole}
-use Rattle.places.specs.Moving.{lowered, loweredIn}
+use Rattle.transfers.specs.Moving.{lowered, loweredIn}
 
 pub lower-short : (count : ℕ) (work : List ℕ) → length work < whole → work ≡ loweredIn count work
 lower-short count work h = rw (lt-leb whole (length work) h)

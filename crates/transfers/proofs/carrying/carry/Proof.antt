@@ -1,10 +1,10 @@
--- `places::carrying::carry` meets its contract: the words are put one after the other, and none is read after it was written.
+-- `transfers::carrying::carry` meets its contract: the words are put one after the other, and none is read after it was written.
 -- Assumes nothing.
 use native.Mathlib.Omega.{arith}
 use Prim.Native.Nat.{_-_}
-use Rattle.places.proofs.Carries.{Carrying, carrying-start, carrying-step, carrying-end}
-use Rattle.places.proofs.carrying.carry.Statement.{statement}
-use Rattle.places.proofs.carrying.carry.Tie as tie
+use Rattle.transfers.proofs.Carries.{Carrying, carrying-start, carrying-step, carrying-end}
+use Rattle.transfers.proofs.carrying.carry.Statement.{statement}
+use Rattle.transfers.proofs.carrying.carry.Tie as tie
 
 abbrev Inv-loop : tie.InvT-loop
 Inv-loop area₀ from to count i₀ area i = Carrying area₀ from to count area i

@@ -1,13 +1,13 @@
--- `places::cutting::cut` meets its contract: the words that the order allows are put one after the other.
+-- `transfers::cutting::cut` meets its contract: the words that the order allows are put one after the other.
 -- Assumes nothing.
 use mathlib.Core.Path.{sym, _∙_}
 use mathlib.Core.Logic.{⊎-elim}
 use Prim.Native.Nat.{_-_}
 use native.Mathlib.Omega.{arith}
 use lib.ListN.{length}
-use Rattle.places.proofs.Cuts.{Cut, cut-short, cut-start, cut-room, cut-keep, cut-skip, cut-end}
-use Rattle.places.proofs.cutting.cut.Statement.{statement}
-use Rattle.places.proofs.cutting.cut.Tie as tie
+use Rattle.transfers.proofs.Cuts.{Cut, cut-short, cut-start, cut-room, cut-keep, cut-skip, cut-end}
+use Rattle.transfers.proofs.cutting.cut.Statement.{statement}
+use Rattle.transfers.proofs.cutting.cut.Tie as tie
 
 abbrev Inv-loop : tie.InvT-loop
 Inv-loop all list set answer₀ n₀ i₀ answer n i = Cut all list set answer₀ i n answer

@@ -14,7 +14,7 @@ use Rattle.sets.specs.declared.Built.the-variants.{TooLarge, Holds}
 use Rattle.sets.specs.Parts.{part, partBefore, roomAt, laid}
 use Rattle.sets.specs.Building.{Grown}
 use Rattle.sets.proofs.Walking.{part-end}
-use Rattle.places.specs.Laying.{copyBuilt}
+use Rattle.transfers.specs.Laying.{copyBuilt}
 
 pub part-taken : (ls : List ℕ) (from n : ℕ) → part from (from + n) ls ≡ take n (drop from ls)
 part-taken ls zero n = ap (λ (k : ℕ). take k ls) (zero-add n)

@@ -11,8 +11,8 @@ use lib.Seq.{drop-cons}
 use borrow.Author.Tests.{eq-eqb, ne-eqb, le-leb, lt-leb}
 use lib.ListN.{length, getD, drop, set, drop-of-length-le, length-drop}
 use Rattle.ways.specs.Imaging.{listedIn}
-use Rattle.places.specs.Cutting.{allows, cutWords, cutInto, put}
-use Rattle.places.proofs.Filling.{Filling, filling-start, filling-step, filling-end, left-first}
+use Rattle.transfers.specs.Cutting.{allows, cutWords, cutInto, put}
+use Rattle.transfers.proofs.Filling.{Filling, filling-start, filling-step, filling-end, left-first}
 
 cut-one : (all : Bool) (list ws : List ℕ) (w : ℕ) → allows all list w ≡ true → cutWords all list (w ∷ ws) ≡ w ∷ cutWords all list ws
 unfolding cutWords

@@ -1,11 +1,11 @@
--- `places::moving::lower` meets its contract: nothing, or a half at most, is carried.
+-- `transfers::moving::lower` meets its contract: nothing, or a half at most, is carried.
 -- Assumes nothing.
 use mathlib.Core.Logic.{inr}
 use native.Mathlib.Omega.{arith}
-use Rattle.places.proofs.Lowering.{lower-short, lower-carried}
+use Rattle.transfers.proofs.Lowering.{lower-short, lower-carried}
 use borrow.Author.Needs.{needs}
-use Rattle.places.proofs.moving.lower.Statement.{statement}
-use Rattle.places.proofs.moving.lower.Tie as tie
+use Rattle.transfers.proofs.moving.lower.Statement.{statement}
+use Rattle.transfers.proofs.moving.lower.Tie as tie
 
 mul-if1 : tie.Need-mul-if1
 mul-if1 c = search needs

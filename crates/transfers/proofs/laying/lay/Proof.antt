@@ -1,10 +1,10 @@
--- `places::laying::lay` meets its contract: a part that is not empty is carried up, if there is room.
+-- `transfers::laying::lay` meets its contract: a part that is not empty is carried up, if there is room.
 -- Assumes nothing.
 use native.Mathlib.Omega.{arith}
-use Rattle.places.proofs.Copies.{none-copied, large-copied, carry-fits, part-copied}
+use Rattle.transfers.proofs.Copies.{none-copied, large-copied, carry-fits, part-copied}
 use borrow.Author.Needs.{needs}
-use Rattle.places.proofs.laying.lay.Statement.{statement}
-use Rattle.places.proofs.laying.lay.Tie as tie
+use Rattle.transfers.proofs.laying.lay.Statement.{statement}
+use Rattle.transfers.proofs.laying.lay.Tie as tie
 
 end-before-requires : tie.Need-end-before-requires
 end-before-requires c κs = search needs
