@@ -1,9 +1,9 @@
--- `forms::terms::list_kind` meets its contract: each place has its list.
+-- `tails::wraps::list_kind` meets its contract: each place has its list.
 -- Assumes nothing.
-use Rattle.forms.specs.Terms.{listKind}
-use Rattle.forms.proofs.Kinded.{wrap-rest}
-use Rattle.forms.proofs.terms.list_kind.Statement.{statement}
-use Rattle.forms.proofs.terms.list_kind.Tie as tie
+use Rattle.tails.specs.Wraps.{listKind}
+use Rattle.tails.proofs.WrapLines.{wrap-rest}
+use Rattle.tails.proofs.wraps.list_kind.Statement.{statement}
+use Rattle.tails.proofs.wraps.list_kind.Tie as tie
 
 returns : tie.Need-returns
 returns c = rw (c .match .keys1)

@@ -1,12 +1,12 @@
--- `forms::terms::read_operand` meets its contract: what is read from the rest of the line is read from the line.
+-- `tails::plains::read_operand` meets its contract: what is read from the rest of the line is read from the line.
 -- Assumes nothing.
 use borrow.Author.Needs.{needs}
 use native.Mathlib.Omega.{arith}
 use Rattle.faults.proofs.Calls.{asks-nothing}
 use Rattle.words.proofs.Steps.{stuck-there, went-on, stays-on}
-use Rattle.forms.proofs.Operands.{operand}
-use Rattle.forms.proofs.terms.read_operand.Statement.{statement}
-use Rattle.forms.proofs.terms.read_operand.Tie as tie
+use Rattle.tails.proofs.Operands.{operand}
+use Rattle.tails.proofs.plains.read_operand.Statement.{statement}
+use Rattle.tails.proofs.plains.read_operand.Tie as tie
 
 part-number-after-start : tie.Need-part-number-after-start
 part-number-after-start c = c .before .pre

@@ -6,6 +6,7 @@ use mathlib.Core.List.{List, [], _∷_, map}
 use Prim.Native.Nat.{ℕ, suc, _+_, _*_, _≤_, _<_}
 use lib.Dec.{eqb}
 use lib.ListN.{length, drop, length-map}
+use borrow.Author.Tests.{ne-eqb}
 use Rattle.meaning.specs.Bytes.{Text, ascii}
 use Rattle.table.specs.declared.Place.{Place}
 use Rattle.table.specs.declared.Operator.{Operator}
@@ -16,24 +17,38 @@ use Rattle.meaning.specs.Rounds.{pick}
 use Rattle.table.specs.Packed.{operatorAt}
 use Rattle.grammar.specs.Text.{Past, past, stuck, onward, sameText, ended, starts, literal, word}
 use Rattle.grammar.specs.Forms.{Line, wraps, Parts, comma, space, pair, rule, label, labelList, ofList}
-use Rattle.grammar.specs.Faults.{fine, wordsOfFault, worst, labelFault, ruleFault, rulesFault, labelsFault, listFault, operatorSaid, nameNumber, pairSaid, ruleSaid, labelSaid}
-use Rattle.lists.specs.Tallies.{Said}
+use Rattle.grammar.specs.Faults.{
+  fine,
+  wordsOfFault,
+  worst,
+  labelFault,
+  ruleFault,
+  rulesFault,
+  labelsFault,
+  listFault,
+  operatorSaid,
+  nameNumber,
+  pairSaid,
+  ruleSaid,
+  labelSaid,
+}
+use Rattle.entries.specs.Tallies.{Said}
 use Rattle.words.specs.Steps.{Stands}
-use Rattle.lists.specs.Entries.{saidOf, nameEntry, pairEntry, ruleEntry, labelEntry}
+use Rattle.entries.specs.Entries.{saidPlace, saidOf, nameEntry, pairEntry, ruleEntry, labelEntry}
 use Rattle.lists.specs.Lists.{listFaults, listEntry, listWords, listOf, unlessNone, wholeList, over, ListRead}
-use Rattle.forms.specs.Terms.{WrapKind, Block, Hide, Rename, Comm, Allow, listKind, ContentsOf, contents, listed, LineTerm}
-use Rattle.forms.specs.Kinds.{wrapOf}
-use Rattle.lists.specs.declared.Said as C
-use Rattle.lists.specs.declared.SaidStep.{SaidStep}
-use Rattle.lists.specs.declared.SaidStep.the-variants as S
-use Rattle.lists.specs.declared.ListKind.{ListKind}
-use Rattle.lists.specs.declared.ListKind.the-variants.{Labels}
+use Rattle.tails.specs.Lines.{LineTerm}
+use Rattle.tails.specs.Wraps.{WrapKind, Block, Hide, Rename, Comm, Allow, wrapOf, listKind, ContentsOf, contents, listed}
+use Rattle.entries.specs.declared.Said as C
+use Rattle.entries.specs.declared.SaidStep.{SaidStep}
+use Rattle.entries.specs.declared.SaidStep.the-variants as S
+use Rattle.entries.specs.declared.ListKind.{ListKind}
+use Rattle.entries.specs.declared.ListKind.the-variants.{Labels}
 use Rattle.words.proofs.Rests.{literal-other, literal-more}
-use Rattle.words.proofs.Steps.{onward-assoc, shifted, back-stuck, back-past}
-use Rattle.lists.proofs.Seen.{carried, said-went, said-stays}
-use Rattle.lists.proofs.Gathered.{all-too}
-use Rattle.lists.proofs.Parts.{worse-none}
-use Rattle.forms.proofs.Operands.{ended-none, ended-some, operand}
+use Rattle.words.proofs.Steps.{onward-assoc, shifted, stops, goes, become, back-stuck, back-past}
+use Rattle.entries.proofs.Seen.{carried, said-went, said-stays, said-within}
+use Rattle.entries.proofs.Gathered.{all-too}
+use Rattle.entries.proofs.Parts.{worse-none}
+use Rattle.tails.proofs.Operands.{ended-none, ended-some, operand}
 use Rattle.lists.proofs.Contents.{names-faults, pairs-faults, rules-faults, labels-faults, names-words, pairs-words, rules-words, labels-words}
 
 -- the operator of a kind with its list's place
@@ -50,7 +65,8 @@ pick-through f false x y e = e
 
 pub operator-wrapped : (k : ℕ) (p : Place) → operatorAt k p ≡ wrappedOf (wrapOf k) p
 operator-wrapped k p =
-    pick-through by (eqb k 12) Block _ (pick-through by (eqb k 13) Hide _ (pick-through by (eqb k 14) Rename _ (pick-through by (eqb k 15) Comm Allow refl)))
+    pick-through by (eqb k 12) Block _ (pick-through by (eqb k 13) Hide _ (pick-through by (eqb k 14) Rename _
+    (pick-through by (eqb k 15) Comm Allow refl)))
   where
     by : WrapKind → Operator
     by w = wrappedOf w p
@@ -147,19 +163,19 @@ module _ (w : WrapKind) where
   wrap-seen s = onward-assoc (literal (space ∷ []) s) (λ _ q. Rattle.grammar.specs.Text.number q) after-operand
 
 -- The answers on a line of a kind with a list: by its operand, by the space after it, by its list, and by the end.
-module _ (w : WrapKind) (words : List Text) (line : Text) (at : ℕ) where
+module _ (w : WrapKind) (words : List Text) (line : Text) where
   abbrev Due : Past Line
-  Due = ofList (contents w) (listed w) (drop at line)
+  Due = ofList (contents w) (listed w) line
 
-  pub no-operand : {t : Text} {p : ℕ} → Stands line p (stuck t) (operand (drop at line)) → stuck t ≡ Due
-  no-operand s = ap (λ d. onward d (after-operand w)) (s .says) ∙ wrap-seen w (drop at line)
+  pub no-operand : {t : Text} {p : ℕ} → Stands line p (stuck t) (operand line) → Stands line p (stuck t) Due
+  no-operand s = become (wrap-seen w line) (stops (after-operand w) s)
 
-  module _ {t from : ℕ} (s : Stands line from (past t (drop from line)) (operand (drop at line))) where
-    reach : {x : Past Line} → x ≡ after-operand w t (drop from line) → x ≡ Due
-    reach h = h ∙ ap (λ d. onward d (after-operand w)) (s .says) ∙ wrap-seen w (drop at line)
+  module _ {t from : ℕ} (s : Stands line from (past t (drop from line)) (operand line)) where
+    reach : {p : ℕ} {x : Past Line} → x ≡ after-operand w t (drop from line) → p ≤ length line → Stands line p x Due
+    reach h k = become (wrap-seen w line) (goes (after-operand w) s (record { says = h; within = k }))
 
-    pub no-space : starts space (drop from line) ≡ false → stuck (drop from line) ≡ Due
-    no-space f = reach (ap (λ d. onward d (after-space w t)) (literal-other space [] (drop from line) f))
+    pub no-space : starts space (drop from line) ≡ false → Stands line from (stuck (drop from line)) Due
+    no-space f = reach (ap (λ d. onward d (after-space w t)) (literal-other space [] (drop from line) f)) (s .within)
 
     module _ (f : starts space (drop from line) ≡ true) {kind : ListKind} (j : kind ≡ listKind w) (i : from + 1 ≤ length line)
         {before after : List ℕ} {l : SaidStep}
@@ -167,35 +183,44 @@ module _ (w : WrapKind) (words : List Text) (line : Text) (at : ℕ) where
       list : ListRead (listKind w) (drop (from + 1) line) (wholeList words (listKind w) (drop (from + 1) line)) before after l
       list = rw j at h
 
-      beyond : {x : Past Line} → x ≡ onward (contents w (drop (from + 1) line)) (after-list w t) → x ≡ Due
+      beyond : {p : ℕ} {x : Past Line} → x ≡ onward (contents w (drop (from + 1) line)) (after-list w t) → p ≤ length line → Stands line p x Due
       unfolding literal
-      beyond e = reach (e ∙ ap (λ d. onward d (after-space w t)) (literal-more space [] line from f))
+      beyond e k = reach (e ∙ ap (λ d. onward d (after-space w t)) (literal-more space [] line from f)) k
 
-      pub no-list : {p : ℕ} → l ≡ S.Stuck p → stuck (drop (from + 1 + p) line) ≡ Due
-      no-list e = beyond (ap (λ d. onward d (after-list w t)) (wrap-stuck w words line (from + 1) i list e))
+      inside : {p : ℕ} → p ≡ saidPlace l → from + 1 + p ≤ length line
+      inside e = said-within line (from + 1) i (h .read) e
+
+      pub no-list : {p : ℕ} → l ≡ S.Stuck p → Stands line (from + 1 + p) (stuck (drop (from + 1 + p) line)) Due
+      no-list e = beyond (ap (λ d. onward d (after-list w t)) (wrap-stuck w words line (from + 1) i list e)) (inside (sym (ap saidPlace e)))
 
       module _ {said : C.Said} {n : ℕ} (g : l ≡ S.To said n) where
-        pub no-end : from + 1 + n < length line → stuck (drop (from + 1 + n) line) ≡ Due
+        abbrev end : ContentsOf w → Unit {0} → Text → Past Line
+        end c u m = past (wraps (listed w c) t) m
+
+        pub no-end : from + 1 + n < length line → Stands line (from + 1 + n) (stuck (drop (from + 1 + n) line)) Due
         no-end k =
             let c = wrap-went w words line (from + 1) i list g in
-            beyond
-            (ap (λ d. onward d (λ _ m. past (wraps (listed w (c .0)) t) m)) (ended-some line (from + 1 + n) k)
-            ∙ ap (λ d. onward d (after-list w t)) (c .1))
+            beyond (ap (λ d. onward d (end (c .0))) (ended-some line (from + 1 + n) k) ∙ ap (λ d. onward d (after-list w t)) (c .1))
+            (inside (sym (ap saidPlace g)))
 
         pub wrap-line : (number : ℕ) {o : Operator} → length line ≤ from + 1 + n → o ≡ wrappedOf w (record { at = 32 * number; entries = said .first })
             → LineTerm words number Due before after (Wrap o t) (said .fault)
         unfolding wordsOfFault
         wrap-line number k o =
             let c = wrap-went w words line (from + 1) i list g in
+            let ending = ap (λ d. onward d (end (c .0))) (ended-none line (from + 1 + n) k) ∙ ap (λ d. onward d (after-list w t)) (c .1) in
             record {
               line = wraps (listed w (c .0)) t;
-              says =
-                  beyond
-                  (ap (λ d. onward d (λ _ m. past (wraps (listed w (c .0)) t) m)) (ended-none line (from + 1 + n) k)
-                  ∙ ap (λ d. onward d (after-list w t)) (c .1));
+              says = beyond ending (inside (sym (ap saidPlace g))) .says;
               term =
                   ap (λ p. Wrap p t)
                   (o ∙ ap (λ i. wrappedOf w (record { at = 32 * number; entries = i })) (ap (λ d. d .first) (c .2)) ∙ listed-operator w words number (c .0));
               faults = ap (λ d. d .found) (c .2) ∙ listed-faults w words (c .0);
               stored = λ z. c .3 ∙ ap (λ ws. over ws before) (listed-words w words (c .0) z);
             }
+
+-- every other place is that of allow
+pub wrap-rest : {A : Type 0} (f : WrapKind → A) (k : ℕ)
+    → (((Unit {0} × (k ≡ 12 → ⊥)) × (k ≡ 13 → ⊥)) × (k ≡ 14 → ⊥)) × (k ≡ 15 → ⊥)
+    → f Allow ≡ f (wrapOf k)
+wrap-rest f k r = rw (ne-eqb k 12 (r .0 .0 .0 .1), ne-eqb k 13 (r .0 .0 .1), ne-eqb k 14 (r .0 .1), ne-eqb k 15 (r .1))

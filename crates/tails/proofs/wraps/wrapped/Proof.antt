@@ -1,12 +1,12 @@
--- `forms::terms::wrapped` meets its contract: the operator of the kind, with its list's place.
+-- `tails::wraps::wrapped` meets its contract: the operator of the kind, with its list's place.
 -- Assumes nothing.
 use mathlib.Core.Path.{ap}
 use native.Mathlib.Omega.{arith}
 use Rattle.table.specs.declared.Term.the-variants.{Wrap}
 use Rattle.faults.proofs.Calls.{asks-nothing}
-use Rattle.forms.specs.declared.TermStep.the-variants as T
-use Rattle.forms.proofs.terms.wrapped.Statement.{statement}
-use Rattle.forms.proofs.terms.wrapped.Tie as tie
+use Rattle.tails.specs.declared.TermStep.the-variants as T
+use Rattle.tails.proofs.wraps.wrapped.Statement.{statement}
+use Rattle.tails.proofs.wraps.wrapped.Tie as tie
 
 mul-first : tie.Need-mul-first
 mul-first c = omega (arith, c .pre)
