@@ -12,11 +12,11 @@ use borrow.Author.Tests.{lt-ltb, le-ltb, ltb-true, ltb-false}
 use Rattle.meaning.specs.Bytes.{Text}
 use Rattle.grammar.specs.Text.{Past, past, stuck, literal}
 use Rattle.grammar.specs.Forms.{Line, farther}
-use Rattle.forms.specs.Terms.{LineRead}
-use Rattle.forms.specs.Kinds.{fartherFrom, fartherStep}
-use Rattle.forms.specs.declared.TermStep.{TermStep}
-use Rattle.forms.specs.declared.TermStep.the-variants as T
-use Rattle.words.proofs.Steps.{textIn, IsStuck}
+use Rattle.words.proofs.Steps.{shifted, textIn, IsStuck}
+use Rattle.tails.specs.Lines.{LineRead}
+use Rattle.tails.specs.declared.TermStep.{TermStep}
+use Rattle.tails.specs.declared.TermStep.the-variants as T
+use Rattle.forms.specs.Kinds.{fartherFrom, stuckPlace, fartherStep}
 
 -- Places joined: the farther one stays.
 module _ (line : Text) where
@@ -75,20 +75,29 @@ literal-length [] s e = omega (arith, ap (λ x. length (textIn x)) e)
 literal-length (c ∷ w) [] e = absurd (subst IsStuck (sym e) tt)
 literal-length (c ∷ w) (b ∷ s) {r} e = cases (eqb c b) refl (literal-length w s)
   where
-    cases : (t : Bool) → eqb c b ≡ t → (past tt r ≡ literal w s → length s ≡ length w + length r) → length (b ∷ s) ≡ length (c ∷ w) + length r
+    cases : (t : Bool) → eqb c b ≡ t → (past tt r ≡ literal w s → length s ≡ length w + length r)
+        → length (b ∷ s) ≡ length (c ∷ w) + length r
     cases true f g = let i = g (rw (f, literal) at e) in omega arith
     cases false f g = absurd (subst IsStuck (sym (rw (f, literal) at e)) tt)
 
 pub key-passed : (w line : Text) (at : ℕ) → at ≤ length line → past tt (drop at line) ≡ literal w line → at ≡ length w
 key-passed w line at h e = omega (arith, literal-length w line e, length-drop at line)
 
--- A line joined to the places before it.
-module _ (words : List Text) (n : ℕ) (line : Text) (before after : List ℕ) (far : ℕ) (h : far ≤ length line) where
+-- The tail's answer as the line's, joined to the places before it.
+module _ (words : List Text) (n : ℕ) (line : Text) (before after : List ℕ) (at far : ℕ) (i : at ≤ length line) (h : far ≤ length line) where
   from-past : (far : ℕ) {l : Line} {r : Text} (due : Past Line) → past l r ≡ due → past l r ≡ fartherFrom far line due
   from-past zero due e = e
   from-past (suc f) due e = ap (farther (drop (suc f) line)) e
 
-  pub line-farther : (due : Past Line) (x : TermStep) → LineRead words n line due before after x → LineRead words n line (fartherFrom far line due) before after (fartherStep far x)
+  pub line-farther : (due : Past Line) (x : TermStep) → LineRead words n (drop at line) due before after x
+      → LineRead words n line (fartherFrom far line due) before after (fartherStep at far x)
   line-farther due (T.To x f) l =
       record { line = l .line; says = from-past far due (l .says); term = l .term; faults = l .faults; stored = l .stored }
-  line-farther due (T.Stuck p) e = join-stuck line far p h ∙ ap (fartherFrom far line) e
+  line-farther due (T.Stuck p) s =
+      let t = shifted stuck i s in
+      record { says = join-stuck line far (at + p) h ∙ ap (fartherFrom far line) (t .says); within = omega (arith, t .within) }
+
+  -- the place where a tail is stuck lies in the line
+  pub tail-within : (due : Past Line) (x : TermStep) → LineRead words n (drop at line) due before after x → at + stuckPlace x ≤ length line
+  tail-within due (T.To x f) l = omega arith
+  tail-within due (T.Stuck p) s = omega (arith, s .within, length-drop at line)

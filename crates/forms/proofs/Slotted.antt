@@ -25,11 +25,12 @@ use Rattle.grammar.specs.Forms.{Line, termLine}
 use Rattle.grammar.specs.Faults.{Found, fine, worse, unless, inRange, operandsFit, termSaid, wordsOfFault, termFault}
 use Rattle.faults.specs.CodedFaults.{foundOf}
 use Rattle.operands.specs.Slots.{bareSlot}
-use Rattle.forms.specs.Terms.{LineTerm, LineRead, TermTaken, TermRead}
+use Rattle.tails.specs.Lines.{LineTerm, LineRead}
+use Rattle.forms.specs.Terms.{TermTaken, TermRead}
 use Rattle.faults.specs.declared.Found as G
-use Rattle.forms.specs.declared.TermStep.{TermStep}
-use Rattle.forms.specs.declared.TermStep.the-variants as T
-use Rattle.lists.proofs.Parts.{worse-none}
+use Rattle.tails.specs.declared.TermStep.{TermStep}
+use Rattle.tails.specs.declared.TermStep.the-variants as T
+use Rattle.entries.proofs.Parts.{worse-none}
 
 -- A term in its slot has the kind and the operands of the term that it stands for.
 pub kept : (f : D.Term → Bool) → ((o q : D.Operator) (t : ℕ) → f (D.wrap o t) ≡ f (D.wrap q t)) → (n : ℕ) (t : D.Term) → f (bareTerm (termFor n t)) ≡ f t
@@ -126,7 +127,7 @@ module _ (words : List Text) (equations : ℕ) (terms : List D.Term) (slots : Li
 
   module _ (n : ℕ) (here : n ≡ length terms) (line : Text) (before after : List ℕ) (long : length after ≡ length before) where
     pub term-stays : (said : TermStep) {p : ℕ} → said ≡ T.Stuck p → LineRead words n line (termLine line) before after said → TermRead words equations terms line before after said
-    term-stays said e h = rw e (rw e at h, long)
+    term-stays said e h = let s = rw e at h in rw e (s .says, long)
 
     pub term-taken : {said : TermStep} {x : Term} {f g : G.Found} → said ≡ T.To x f → LineRead words n line (termLine line) before after said
         → foundOf g ≡ worse (foundOf f) (worse (unless (inRange equations n (bareTerm x)) range) (unless (operandsFit (map bareSlot slots) (bareTerm x)) operand))

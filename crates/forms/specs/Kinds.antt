@@ -2,19 +2,14 @@
 -- Assumes nothing.
 use mathlib.Core.Path.{_≡_}
 use mathlib.Core.List.{[]}
-use Prim.Native.Nat.{ℕ, zero, suc, _*_, _≤_, _<_, max}
+use Prim.Native.Nat.{ℕ, zero, suc, _+_, _≤_, _<_, max}
 use lib.ListN.{length, getD, drop}
-use lib.Dec.{eqb}
 use Rattle.meaning.specs.Bytes.{Text}
 use Rattle.grammar.specs.Text.{Past, stuck}
 use Rattle.grammar.specs.Forms.{Line, Kind, kinds, farther}
-use Rattle.meaning.specs.Rounds.{pick}
-use Rattle.table.specs.Packed.{operatorAt}
-use Rattle.table.specs.declared.Term.the-variants.{Wrap}
-use Rattle.lists.specs.declared.Said.{Said}
-use Rattle.forms.specs.Terms.{WrapKind, Block, Hide, Rename, Comm, Allow}
-use Rattle.forms.specs.declared.TermStep.{TermStep}
-use Rattle.forms.specs.declared.TermStep.the-variants as T
+use Rattle.words.specs.Steps.{Stands}
+use Rattle.tails.specs.declared.TermStep.{TermStep}
+use Rattle.tails.specs.declared.TermStep.the-variants as T
 use Rattle.forms.specs.declared.kinds.KindStep.{KindStep}
 use Rattle.forms.specs.declared.kinds.KindStep.the-variants.{To, Stuck}
 
@@ -43,17 +38,14 @@ kindPlace (Stuck p) = p
 
 abbrev pub KindRead : Text → Past Line → KindStep → Type 0
 KindRead line due (To k next far) = KindFound line due k next far
-KindRead line due (Stuck p) = stuck (drop p line) ≡ due
+KindRead line due (Stuck p) = Stands line p (stuck (drop p line)) due
 
--- the kinds with a list
-abbrev pub wrapOf : ℕ → WrapKind
-wrapOf k = pick (eqb k 12) Block (pick (eqb k 13) Hide (pick (eqb k 14) Rename (pick (eqb k 15) Comm Allow)))
+-- where the answer of a tail is stuck; 0 of one that was read
+abbrev pub stuckPlace : TermStep → ℕ
+stuckPlace (T.To x f) = 0
+stuckPlace (T.Stuck p) = p
 
--- the term of a kind with a list, at its number, with the list's fault
-abbrev pub wrapStep : ℕ → ℕ → ℕ → Said → TermStep
-wrapStep k t n said = T.To (Wrap (operatorAt k (record { at = 32 * n; entries = said .first })) t) (said .fault)
-
--- an answer joined to that place
-abbrev pub fartherStep : ℕ → TermStep → TermStep
-fartherStep far (T.To x f) = T.To x f
-fartherStep far (T.Stuck p) = T.Stuck (max far p)
+-- an answer from a place of the line on, joined to that place
+abbrev pub fartherStep : (at far : ℕ) → TermStep → TermStep
+fartherStep at far (T.To x f) = T.To x f
+fartherStep at far (T.Stuck p) = T.Stuck (max far (at + p))

@@ -13,12 +13,12 @@ use Rattle.meaning.specs.Answers.{name, amount}
 use Rattle.table.specs.Encoded.{pairWord, ruleWords}
 use Rattle.grammar.specs.Forms.{Parts, WordPair, WordRule}
 use Rattle.grammar.specs.Faults.{Found, fine, fault, worse, unless, worst, rising, nameNumber, nameFault, partFault, labelFault, ruleFault, wordsFault, pairsFault, rulesFault, labelsFault, actions, numberSaid, labelSaid, pairSaid, ruleSaid}
-use Rattle.lists.specs.Tallies.{Said, weightOf, allFaults}
-use Rattle.lists.specs.Entries.{nameEntry, pairEntry, ruleEntry, labelEntry, unlessFaulty}
+use Rattle.entries.specs.Tallies.{Said, weightOf, allFaults}
+use Rattle.entries.specs.Entries.{nameEntry, pairEntry, ruleEntry, labelEntry, unlessFaulty}
 use Rattle.lists.specs.Lists.{listFaults, listWords}
-use Rattle.lists.specs.declared.ListKind.the-variants.{Names, Pairs, Rules, Labels}
+use Rattle.entries.specs.declared.ListKind.the-variants.{Names, Pairs, Rules, Labels}
 use Rattle.faults.proofs.Ranks.{by-rank, rank-worse, worse-fine}
-use Rattle.lists.proofs.Parts.{worst-map, map-twice, worse-none}
+use Rattle.entries.proofs.Parts.{worst-map, map-twice, worse-none}
 
 -- The weight of a list whose entries all weigh the same.
 weighed : {A : Type 0} (weight : ℕ) (say : A → Said) (xs : List A) → (weight ≡ 0 → weightOf (λ e. weight) (map say xs) ≡ 0) × (weight ≡ 1 → weightOf (λ e. weight) (map say xs) ≡ length xs)

@@ -15,16 +15,16 @@ use Rattle.grammar.specs.Text.{Past, past, stuck, onward, word, separatedOn}
 use Rattle.grammar.specs.Forms.{part, label, pair, rule}
 use borrow.Author.Tests.{le-leb, ltb-true, ltb-false}
 use Rattle.grammar.specs.Faults.{fine, worst, rising}
-use Rattle.lists.specs.Tallies.{Said, weightOf, allFaults}
-use Rattle.lists.specs.Entries.{nameEntry, pairEntry, ruleEntry, labelEntry}
-use Rattle.lists.specs.Lists.{entryOf, listFaults, weightFor, limitFor, wordCount, entryWord, entryWords, listWords, entryStored, over, wholeList, withFew, ListRead}
-use Rattle.lists.specs.declared.SaidStep.{SaidStep}
-use Rattle.lists.specs.declared.SaidStep.the-variants as S
+use Rattle.entries.specs.Tallies.{Said, weightOf, allFaults}
+use Rattle.entries.specs.Entries.{nameEntry, pairEntry, ruleEntry, labelEntry, entryOf, withFew}
+use Rattle.lists.specs.Lists.{listFaults, weightFor, limitFor, wordCount, entryWord, entryWords, listWords, entryStored, over, wholeList, ListRead}
+use Rattle.entries.specs.declared.SaidStep.{SaidStep}
+use Rattle.entries.specs.declared.SaidStep.the-variants as S
 use Rattle.faults.specs.declared.Found.the-variants.{Fine}
-use Rattle.lists.specs.declared.ListKind.{ListKind}
-use Rattle.lists.specs.declared.ListKind.the-variants.{Names, Pairs, Rules, Labels}
-use Rattle.lists.proofs.Seen.{said-same}
-use Rattle.lists.proofs.Parts.{name-low, label-small}
+use Rattle.entries.specs.declared.ListKind.{ListKind}
+use Rattle.entries.specs.declared.ListKind.the-variants.{Names, Pairs, Rules, Labels}
+use Rattle.entries.proofs.Seen.{said-same}
+use Rattle.entries.proofs.Parts.{name-low, label-small}
 
 -- words over the start of a store, one more
 over-one : (ws store : List ℕ) (a : ℕ) → over (ws ++ (a ∷ [])) store ≡ set (over ws store) (length ws) a

@@ -4,24 +4,17 @@ use mathlib.Core.List.{List, [], _∷_, _++_}
 use mathlib.Core.Bool.{Bool, true, false, _&&_}
 use mathlib.Core.Path.{_≡_}
 use Prim.Native.Nat.{ℕ, _+_, _*_}
-use lib.Dec.{leb, eqb}
+use lib.Dec.{eqb}
 use lib.ListN.{length, set}
 use Rattle.meaning.specs.Bytes.{Text, ascii}
-use Rattle.grammar.specs.Text.{Past, past, stuck, onward, sameText, word, separated}
-use Rattle.grammar.specs.Forms.{comma, label, pair, rule}
+use Rattle.grammar.specs.Text.{Past, past, onward, sameText, separated}
+use Rattle.grammar.specs.Forms.{comma}
 use Rattle.grammar.specs.Faults.{Found}
-use Rattle.lists.specs.Tallies.{Said, allFaults}
-use Rattle.meaning.specs.Rounds.{pick}
-use Rattle.lists.specs.Entries.{Says, seen, labelEntry, nameEntry, pairEntry, ruleEntry}
-use Rattle.lists.specs.declared.SaidStep.{SaidStep}
-use Rattle.lists.specs.declared.ListKind.{ListKind}
-use Rattle.lists.specs.declared.ListKind.the-variants.{Names, Pairs, Rules, Labels}
-
-abbrev pub entryOf : List Text → ListKind → Text → Past Said
-entryOf words Names = seen (nameEntry words) word
-entryOf words Pairs = seen (pairEntry words) pair
-entryOf words Rules = seen (ruleEntry words) rule
-entryOf words Labels = seen (labelEntry words) label
+use Rattle.entries.specs.Tallies.{Said, allFaults}
+use Rattle.entries.specs.Entries.{Says, entryOf}
+use Rattle.entries.specs.declared.SaidStep.{SaidStep}
+use Rattle.entries.specs.declared.ListKind.{ListKind}
+use Rattle.entries.specs.declared.ListKind.the-variants.{Names, Pairs, Rules, Labels}
 
 -- Only rules and labels have a maximum.
 abbrev pub weightFor : ListKind → ℕ
@@ -96,10 +89,6 @@ takesNone Labels = true
 
 abbrev pub wholeList : List Text → ListKind → Text → Past (List Said)
 wholeList words kind s = unlessNone (takesNone kind && sameText s (ascii "none")) (listOf words kind s)
-
--- A description has at most 12 names; with more nothing is read.
-abbrev pub withFew : {A : Type 0} → List ℕ → Past A → Text → Past A
-withFew names due s = pick (leb (length names) 12) due (stuck s)
 
 -- A list that is read: its fault and its number of entries, and its words over the start of the store.
 pub record ListRead (kind : ListKind) (line : Text) (due : Past (List Said)) (before after : List ℕ) (r : SaidStep) : Type 0 where

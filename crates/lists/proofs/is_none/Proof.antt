@@ -6,10 +6,10 @@ use mathlib.Core.Bool.{Bool, false, _&&_}
 use mathlib.Core.List.{[], _∷_}
 use types.Run.{OneOf, miss}
 use denote.Enum.Declared.{tagOf}
-use Rattle.lists.specs.declared.ListKind.{ListKind}
-use Rattle.lists.specs.declared.ListKind.the-variants.{Names, Pairs, Rules, Labels}
+use Rattle.entries.specs.declared.ListKind.{ListKind}
+use Rattle.entries.specs.declared.ListKind.the-variants.{Names, Pairs, Rules, Labels}
 use Rattle.lists.specs.Lists.{takesNone}
-use Rattle.lists.proofs.ListKind.{the-type}
+use Rattle.entries.proofs.ListKind.{the-type}
 use Rattle.lists.proofs.is_none.Statement.{statement}
 use Rattle.lists.proofs.is_none.Tie as tie
 

@@ -13,12 +13,12 @@ use Rattle.grammar.specs.Forms.{comma}
 use Rattle.faults.proofs.Calls.{asks-nothing}
 use Rattle.words.specs.Steps.{Stands}
 use Rattle.words.proofs.Steps.{otherwise}
-use Rattle.lists.specs.Tallies.{Said}
-use Rattle.lists.specs.Entries.{saidOf}
-use Rattle.lists.specs.Lists.{entryOf, weightFor, limitFor, wordCount, entryWord, entryStored, listEntry, listWords, over}
-use Rattle.lists.proofs.Seen.{said-stuck-there, said-went-on, said-stays-on, said-same}
-use Rattle.lists.proofs.Tallied.{Tallied, tallied-none, tallied-more}
-use Rattle.lists.proofs.Gathered.{Progress, begun, list-stuck, list-ends, list-goes-on, ended-with, stuck-with}
+use Rattle.entries.specs.Tallies.{Said}
+use Rattle.entries.specs.Entries.{saidOf, entryOf}
+use Rattle.lists.specs.Lists.{weightFor, limitFor, wordCount, entryWord, entryStored, listEntry, listWords, over}
+use Rattle.entries.proofs.Seen.{said-stuck-there, said-went-on, said-stays-on, said-same, said-few}
+use Rattle.entries.proofs.Tallied.{Tallied, tallied-none, tallied-more}
+use Rattle.entries.proofs.Gathered.{Progress, begun, list-stuck, list-ends, list-goes-on, ended-with, stuck-with}
 use Rattle.lists.proofs.Listed.{length-over, entry-small, Filled, filled-none, filled-more, entry-within, not-read, as-read, count-most, weight-most, limit-most}
 use Rattle.lists.proofs.read_list.Statement.{statement}
 use Rattle.lists.proofs.read_list.Tie as tie
@@ -47,9 +47,6 @@ part-read-entry-start c = c .loop .inv .1 .within
 part-read-entry-end : tie.Need-part-read-entry-end Inv-loop μ-loop
 part-read-entry-end c = search needs
 
-read-entry-requires : tie.Need-read-entry-requires Inv-loop μ-loop
-read-entry-requires c κs = c .before .before .before .before .before .before .pre
-
 enum-known-entry : tie.Need-enum-known-entry Inv-loop μ-loop
 enum-known-entry c = c .match .keys1
 
@@ -63,10 +60,11 @@ returns : tie.Need-returns Inv-loop μ-loop
 returns c =
     let read = c .before .before .before in
     let loop = read .before .before .loop in
-    let a = read .before .before .before .before .before .before .before .args in
+    let start = read .before .before .before .before .before .before .before in
+    let a = start .args in
     let s =
     list-stuck (loop .inv .1)
-    (said-stays-on (entryOf (map (nameOf 8) (a .names .now)) (a .kind)) (a .rest .now) (loop .from) (loop .inv .1 .within) (read .read-entry .ensures)
+    (said-stays-on (entryOf (map (nameOf 8) (a .names .now)) (a .kind)) (a .rest .now) (loop .from) (loop .inv .1 .within) (said-few (a .names .now) (start .pre) (read .read-entry .ensures))
     (said-stuck-there (c .before .enum-told .given .1) (c .said-stuck-at .ensures))) in
     record { read = record { stands = stuck-with (listEntry (a .kind)) s }; stored = λ es p h. absurd (not-read (s .says) h) }
 
@@ -84,8 +82,9 @@ went : (c : tie.After-known-told Inv-loop μ-loop)
 went c =
     let read = c .before .before .before in
     let loop = read .before .before .loop in
-    let a = read .before .before .before .before .before .before .before .args in
-    said-went-on (entryOf (map (nameOf 8) (a .names .now)) (a .kind)) (a .rest .now) (loop .from) (loop .inv .1 .within) (read .read-entry .ensures)
+    let start = read .before .before .before .before .before .before .before in
+    let a = start .args in
+    said-went-on (entryOf (map (nameOf 8) (a .names .now)) (a .kind)) (a .rest .now) (loop .from) (loop .inv .1 .within) (said-few (a .names .now) (start .pre) (read .read-entry .ensures))
     (c .before .entry .given .1)
 
 add-next : tie.Need-add-next Inv-loop μ-loop
@@ -202,6 +201,6 @@ loop-less c = let p = loop-again c .1 .within in omega arith
 pub read-list-spec : {M : Type 1} → statement M
 read-list-spec =
     tie.close
-    (tie.spec Inv-loop μ-loop asks-nothing loop-holds sub-read-entry part-read-entry-start part-read-entry-end read-entry-requires enum-known-entry
+    (tie.spec Inv-loop μ-loop asks-nothing loop-holds sub-read-entry part-read-entry-start part-read-entry-end asks-nothing enum-known-entry
     enum-told asks-nothing add-t24 same-length returns add-next asks-nothing entry-word-requires put-entry-requires add-index add-entries asks-nothing
     same-length-2 returns-2 add-from loop-less loop-again)

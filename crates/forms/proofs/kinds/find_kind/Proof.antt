@@ -61,7 +61,7 @@ add-t18 c = let s = found c .within in omega arith
 returns : tie.Need-returns Inv-loop μ-loop
 returns c =
     let turn = c .before .before .before .before .before in
-    sought-found _ _ _ _ (turn .before .loop .inv) (turn .loop-test .taken) (found c)
+    sought-found (turn .before .loop .inv) (turn .loop-test .taken) (found c)
 
 enum-told : tie.Need-enum-told Inv-loop μ-loop
 enum-told c = c .match .keys2
@@ -92,11 +92,11 @@ loop-less c = omega arith
 loop-again : tie.Need-loop-again Inv-loop μ-loop
 loop-again c =
     let turn = c .before .before .before .before .before .before in
-    sought-more _ _ _ _ (turn .before .loop .inv) (turn .loop-test .taken) (turn .before .before .before .pre .0) (omega arith) (missed (c .before))
+    sought-more (turn .before .loop .inv) (turn .loop-test .taken) (turn .before .before .before .pre .0) (omega arith) (missed (c .before))
     (c .most .ensures)
 
 returns-2 : tie.Need-returns-2 Inv-loop μ-loop
-returns-2 c = sought-all _ _ _ _ (c .before .loop .inv) (c .loop-test .left)
+returns-2 c = sought-all (c .before .loop .inv) (c .loop-test .left)
 
 pub find-kind-spec : {M : Type 1} → statement M
 find-kind-spec =

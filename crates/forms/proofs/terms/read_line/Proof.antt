@@ -9,12 +9,13 @@ use Rattle.meaning.specs.Bytes.{ascii}
 use Rattle.table.specs.Decoded.{nameOf}
 use Rattle.grammar.specs.Text.{onward}
 use Rattle.grammar.specs.Forms.{kinds, ofKind, termLine}
-use Rattle.forms.specs.Kinds.{fartherStep, KindFound}
 use Rattle.faults.proofs.Calls.{asks-nothing}
-use Rattle.words.proofs.Steps.{stuck-there, went, stays}
-use Rattle.forms.proofs.Operands.{line-become}
-use Rattle.forms.proofs.Farthest.{key-passed, line-farther}
-use Rattle.forms.proofs.Kinded.{kind-stuck-there, kind-to, kind-stays}
+use Rattle.words.proofs.Steps.{stuck-there, went, stays, stops, become}
+use Rattle.tails.specs.Lines.{LineRead}
+use Rattle.tails.proofs.Operands.{line-become}
+use Rattle.forms.specs.Kinds.{restOf, fartherStep, KindFound}
+use Rattle.forms.proofs.Farthest.{key-passed, line-farther, tail-within}
+use Rattle.forms.proofs.Kinded.{tail-there, kind-stuck-there, kind-to, kind-stays}
 use Rattle.forms.proofs.terms.read_line.Statement.{statement}
 use Rattle.forms.proofs.terms.read_line.Tie as tie
 
@@ -29,18 +30,24 @@ enum-told c = c .match .keys2
 
 returns : tie.Need-returns
 unfolding termLine
-returns c = ap (λ d. onward d (λ _ r. ofKind kinds r)) (stays (c .before .before .before .read-literal .ensures .steps) (stuck-there (c .before .enum-told .given .1) (c .stuck-at .ensures)) .says)
+returns c =
+    stops (λ _ r. ofKind kinds r)
+    (stays (c .before .before .before .read-literal .ensures .steps) (stuck-there (c .before .enum-told .given .1) (c .stuck-at .ensures)))
 
 find-kind-requires : tie.Need-find-kind-requires
 find-kind-requires c κs =
-    let s = went (c .before .before .before .read-literal .ensures .steps) (c .before .key .given .1) in
-    (omega (arith, key-passed (ascii "term=") (c .before .before .before .before .before .before .before .before .args .line .now) _ (s .within) (s .says)), s .within)
+    let read = c .before .before .before in
+    let s = went (read .read-literal .ensures .steps) (c .before .key .given .1) in
+    (omega (arith, key-passed (ascii "term=") (read .before .before .before .before .before .args .line .now) _ (s .within) (s .says)), s .within)
 
 -- the rest of the line, after its key
 passed : (c : tie.After-find-kind)
-    → ofKind kinds (drop (c .before .before .key .given .0 .1 .0) (c .before .before .before .before .before .before .before .before .before .args .line .now)) ≡ termLine (c .before .before .before .before .before .before .before .before .before .args .line .now)
+    → let line = c .before .before .before .before .before .before .before .before .before .args .line .now in
+    ofKind kinds (drop (c .before .before .key .given .0 .1 .0) line) ≡ termLine line
 unfolding termLine
-passed c = ap (λ d. onward d (λ _ r. ofKind kinds r)) (went (c .before .before .before .before .read-literal .ensures .steps) (c .before .before .key .given .1) .says)
+passed c =
+    let told = c .before .before in
+    ap (λ d. onward d (λ _ r. ofKind kinds r)) (went (told .before .before .read-literal .ensures .steps) (told .key .given .1) .says)
 
 enum-known-kind : tie.Need-enum-known-kind
 enum-known-kind c = c .match2 .keys1
@@ -49,36 +56,77 @@ enum-told-2 : tie.Need-enum-told-2
 enum-told-2 c = c .match2 .keys2
 
 found : (c : tie.After-known-told2)
-    → KindFound (c .before .before .before .before .before .before .before .before .before .before .before .before .args .line .now) (ofKind kinds (drop (c .before .before .before .before .before .key .given .0 .1 .0) (c .before .before .before .before .before .before .before .before .before .before .before .before .args .line .now)))
-    (c .before .kind .given .0 .0) (c .before .kind .given .0 .1 .0) (c .before .kind .given .0 .1 .1 .0)
-found c = kind-to (c .before .before .before .before .before .before .before .before .before .before .before .before .args .line .now) _ (c .before .before .before .find-kind .result) (c .before .before .before .find-kind .ensures) (c .before .kind .given .1)
+    → let told = c .before .before .before .before .before in
+    let line = told .before .before .before .before .before .before .before .args .line .now in
+    let kind = c .before .kind .given .0 in
+    KindFound line (ofKind kinds (drop (told .key .given .0 .1 .0) line)) (kind .0) (kind .1 .0) (kind .1 .1 .0)
+found c = let find = c .before .before .before .find-kind in kind-to (find .result) (find .ensures) (c .before .kind .given .1)
 
 returns-2 : tie.Need-returns-2
 returns-2 c =
-    kind-stays (c .before .before .before .before .before .before .before .before .before .before .before .before .args .line .now) _ (c .before .before .before .find-kind .result) (c .before .before .before .find-kind .ensures) (kind-stuck-there (c .before .enum-told2 .given .1) (c .kind-stuck-at .ensures))
-    ∙ passed (c .before .before .before)
+    let search = c .before .before .before in
+    become (passed search)
+    (kind-stays (search .find-kind .result) (search .find-kind .ensures) (kind-stuck-there (c .before .enum-told2 .given .1) (c .kind-stuck-at .ensures)))
 
-read-kind-requires : tie.Need-read-kind-requires
-read-kind-requires c κs =
-    let f = found (c .before) in
-    let p = c .before .before .before .before .before .before .before .before .before .before .before .before .before .pre in
-    (f .within, p .0, p .1, f .known)
+sub-read-tail : tie.Need-sub-read-tail
+sub-read-tail c = found c .within
+
+part-read-tail-start : tie.Need-part-read-tail-start
+part-read-tail-start c = found c .within
+
+part-read-tail-end : tie.Need-part-read-tail-end
+part-read-tail-end c = search needs
+
+-- what follows the kind's word, in the line
+tailed : (c : tie.After-read-tail)
+    → let known = c .before .before .before in
+    let a = known .before .before .before .before .before .before .before .before .before .before .before .before .args in
+    let kind = known .before .kind .given .0 in
+    LineRead (map (nameOf 8) (a .names .now)) (a .n) (drop (kind .1 .0) (a .line .now)) (restOf (kind .0) (drop (kind .1 .0) (a .line .now)))
+    (a .store .now) (c .read-tail .last .1 .1 .1 .1 .0) (c .read-tail .result)
+tailed c =
+    let known = c .before .before .before in
+    let start = known .before .before .before .before .before .before .before .before .before .before .before .before in
+    let a = start .args in
+    let kind = known .before .kind .given .0 in
+    let f = found known in
+    tail-there (a .names .now) (a .n) (kind .0) (a .line .now) (kind .1 .0) (a .store .now) (c .read-tail .last .1 .1 .1 .1 .0) (c .read-tail .result)
+    (start .pre .0) (start .pre .1) (f .known) (f .within) (c .read-tail .ensures)
+
+farthest-requires : tie.Need-farthest-requires
+farthest-requires c κs =
+    let read = c .before .before in
+    let known = read .before .before .before in
+    let start = known .before .before .before .before .before .before .before .before .before .before .before .before in
+    let a = start .args in
+    let kind = known .before .kind .given .0 in
+    let f = found known in
+    let w =
+    tail-within (map (nameOf 8) (a .names .now)) (a .n) (a .line .now) (a .store .now) (read .read-tail .last .1 .1 .1 .1 .0) (kind .1 .0) (kind .1 .1 .0)
+    (f .within) (f .reached) _ (read .read-tail .result) (tailed read) in
+    omega (arith, start .good .1 .0)
 
 same-length : tie.Need-same-length
 same-length c = search needs
 
 returns-3 : tie.Need-returns-3
 returns-3 c =
-    let a = c .before .before .before .before .before .before .before .before .before .before .before .before .before .before .before .before .before .args in
-    let f = found (c .before .before .before .before .before) in
+    let read = c .before .before .before in
+    let known = read .before .before .before in
+    let a = known .before .before .before .before .before .before .before .before .before .before .before .before .args in
+    let kind = known .before .kind .given .0 in
+    let f = found known in
     let words = map (nameOf 8) (a .names .now) in
+    let after = read .read-tail .last .1 .1 .1 .1 .0 in
     rw (c .farthest .ensures)
-    (line-become words (a .n) (a .line .now) (a .store .now) (c .before .before .before .read-kind .last .1 .1 .1 .1 .1 .0) (fartherStep (c .before .before .before .before .before .before .kind .given .0 .1 .1 .0) (c .before .before .before .read-kind .result))
-    (f .says ∙ passed (c .before .before .before .before .before .before .before .before))
-    (line-farther words (a .n) (a .line .now) (a .store .now) (c .before .before .before .read-kind .last .1 .1 .1 .1 .1 .0) (c .before .before .before .before .before .before .kind .given .0 .1 .1 .0) (f .reached) _ (c .before .before .before .read-kind .result) (c .before .before .before .read-kind .ensures)))
+    (line-become words (a .n) (a .line .now) (a .store .now) after (fartherStep (kind .1 .0) (kind .1 .1 .0) (read .read-tail .result))
+    (f .says ∙ passed (known .before .before .before))
+    (line-farther words (a .n) (a .line .now) (a .store .now) after (kind .1 .0) (kind .1 .1 .0) (f .within) (f .reached) _ (read .read-tail .result)
+    (tailed read)))
 
 pub read-line-spec : {M : Type 1} → statement M
 read-line-spec =
     tie.close
     (tie.spec slice-aggregate-read-literal asks-nothing enum-known-key enum-told asks-nothing returns find-kind-requires
-    enum-known-kind enum-told-2 asks-nothing returns-2 read-kind-requires asks-nothing same-length returns-3)
+    enum-known-kind enum-told-2 asks-nothing returns-2 sub-read-tail part-read-tail-start part-read-tail-end asks-nothing farthest-requires same-length
+    returns-3)

@@ -1,0 +1,11 @@
+-- The laws that the readers' proofs cite; each file after those that it cites.
+-- Tallied, tallied-none, tallied-more: a tally, entry by entry, against the faults of the whole list
+pub mod Tallied
+-- said-went, said-stays, said-went-on, said-stays-on, part-seen, pair-seen, rule-seen, none-with-many: entries as what they say
+pub mod Seen
+-- Progress, begun, list-stuck, list-ends, list-goes-on: the loop over the entries of a list
+pub mod Gathered
+-- Known, room-for, sum-more, label-seen: a label's number and its faults from what its parts say
+pub mod Parts
+-- said-unique: any two results that meet a promise are equal
+pub mod Uniqueness

@@ -1,0 +1,72 @@
+// Entries of two sides, with `>` between them: pairs and rules.
+ghost use Prim.Native.Nat.{_≤_};
+ghost use mathlib.Core.List.{map};
+ghost use lib.ListN.{length};
+ghost use Rattle.table.specs.Decoded.{nameOf};
+ghost use Rattle.grammar.specs.Forms.{pair, rule};
+ghost use Rattle.entries.specs.Entries.{saidPlace, Says, seen, pairEntry, ruleEntry};
+ghost use Rattle.entries.specs.Sides.{Enough, Sided};
+use crate::Said;
+use crate::SaidStep;
+use crate::labels::read_label;
+use crate::read_name;
+use crate::said_stuck_at;
+use faults::amount_unless;
+use faults::worse_of;
+use words::literals::sign_at;
+
+// An entry whose left side was read: `>` and a name follow.
+fn with_right(left: SaidStep, rest: &[u8], names: &[u64]) -> SaidStep
+    requires { ⌜ saidPlace left ≤ length (now rest) ⌝ }
+    ensures { λ r. ⌜ Sided (map (nameOf 8) (now (names .entry))) (now (rest .entry)) left r ⌝ }
+{
+    let SaidStep::To(l, after) = left else {
+        return left;
+    };
+    if !sign_at(rest, after, b'>') {
+        return SaidStep::Stuck(after);
+    }
+    let behind = after + 1;
+    let right = read_name(&rest[behind..], names);
+    let SaidStep::To(n, bytes) = right else {
+        return SaidStep::Stuck(behind + said_stuck_at(right));
+    };
+    let fault = l.fault;
+    let known = n.fault;
+    let said = Said {
+        fault: worse_of(fault, known),
+        first: l.first,
+        second: n.first,
+    };
+    SaidStep::To(said, behind + bytes)
+}
+
+pub fn read_pair(rest: &[u8], names: &[u64]) -> SaidStep
+    ensures { λ r. ⌜ Says (now (rest .entry)) r (seen (pairEntry (map (nameOf 8) (now (names .entry)))) pair (now (rest .entry))) ⌝ }
+{
+    with_right(read_name(rest, names), rest, names)
+}
+
+// A rule's left side has at least two actions.
+fn two_or_more(label: SaidStep) -> SaidStep
+    ensures { λ r. ⌜ Enough label r ⌝ }
+{
+    let SaidStep::To(l, next) = label else {
+        return label;
+    };
+    let fault = l.fault;
+    let said = Said {
+        fault: worse_of(fault, amount_unless(2 <= l.second)),
+        first: l.first,
+        second: l.second,
+    };
+    SaidStep::To(said, next)
+}
+
+pub fn read_rule(rest: &[u8], names: &[u64]) -> SaidStep
+    requires { ⌜ length (now names) ≤ 12 ⌝ }
+    ensures { λ r. ⌜ Says (now (rest .entry)) r (seen (ruleEntry (map (nameOf 8) (now (names .entry)))) rule (now (rest .entry))) ⌝ }
+{
+    let label = read_label(rest, names);
+    with_right(two_or_more(label), rest, names)
+}

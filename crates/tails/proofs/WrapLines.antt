@@ -1,0 +1,226 @@
+-- The kinds with a list: what follows their word, and what the list says.
+-- Assumes nothing.
+use mathlib.Core.Path.{_≡_, refl, sym, ap, _∙_}
+use mathlib.Core.Bool.{Bool, true, false}
+use mathlib.Core.List.{List, [], _∷_, map}
+use Prim.Native.Nat.{ℕ, suc, _+_, _*_, _≤_, _<_}
+use lib.Dec.{eqb}
+use lib.ListN.{length, drop, length-map}
+use borrow.Author.Tests.{ne-eqb}
+use Rattle.meaning.specs.Bytes.{Text, ascii}
+use Rattle.table.specs.declared.Place.{Place}
+use Rattle.table.specs.declared.Operator.{Operator}
+use Rattle.table.specs.declared.Operator.the-variants as O
+use Rattle.table.specs.declared.Term.the-variants.{Wrap}
+use Rattle.table.specs.Encoded.{operatorWords, operatorFor}
+use Rattle.meaning.specs.Rounds.{pick}
+use Rattle.table.specs.Packed.{operatorAt}
+use Rattle.grammar.specs.Text.{Past, past, stuck, onward, sameText, ended, starts, literal, word}
+use Rattle.grammar.specs.Forms.{Line, wraps, Parts, comma, space, pair, rule, label, labelList, ofList}
+use Rattle.grammar.specs.Faults.{
+  fine,
+  wordsOfFault,
+  worst,
+  labelFault,
+  ruleFault,
+  rulesFault,
+  labelsFault,
+  listFault,
+  operatorSaid,
+  nameNumber,
+  pairSaid,
+  ruleSaid,
+  labelSaid,
+}
+use Rattle.entries.specs.Tallies.{Said}
+use Rattle.words.specs.Steps.{Stands}
+use Rattle.entries.specs.Entries.{saidPlace, saidOf, nameEntry, pairEntry, ruleEntry, labelEntry}
+use Rattle.lists.specs.Lists.{listFaults, listEntry, listWords, listOf, unlessNone, wholeList, over, ListRead}
+use Rattle.tails.specs.Lines.{LineTerm}
+use Rattle.tails.specs.Wraps.{WrapKind, Block, Hide, Rename, Comm, Allow, wrapOf, listKind, ContentsOf, contents, listed}
+use Rattle.entries.specs.declared.Said as C
+use Rattle.entries.specs.declared.SaidStep.{SaidStep}
+use Rattle.entries.specs.declared.SaidStep.the-variants as S
+use Rattle.entries.specs.declared.ListKind.{ListKind}
+use Rattle.entries.specs.declared.ListKind.the-variants.{Labels}
+use Rattle.words.proofs.Rests.{literal-other, literal-more}
+use Rattle.words.proofs.Steps.{onward-assoc, shifted, stops, goes, become, back-stuck, back-past}
+use Rattle.entries.proofs.Seen.{carried, said-went, said-stays, said-within}
+use Rattle.entries.proofs.Gathered.{all-too}
+use Rattle.entries.proofs.Parts.{worse-none}
+use Rattle.tails.proofs.Operands.{ended-none, ended-some, operand}
+use Rattle.lists.proofs.Contents.{names-faults, pairs-faults, rules-faults, labels-faults, names-words, pairs-words, rules-words, labels-words}
+
+-- the operator of a kind with its list's place
+abbrev wrappedOf : WrapKind → Place → Operator
+wrappedOf Block p = O.Block p
+wrappedOf Hide p = O.Hide p
+wrappedOf Rename p = O.Rename p
+wrappedOf Comm p = O.Comm p
+wrappedOf Allow p = O.Allow p
+
+pick-through : {A B : Type 0} (f : A → B) (b : Bool) (x y : A) {z : B} → z ≡ f y → pick b (f x) z ≡ f (pick b x y)
+pick-through f true x y e = refl
+pick-through f false x y e = e
+
+pub operator-wrapped : (k : ℕ) (p : Place) → operatorAt k p ≡ wrappedOf (wrapOf k) p
+operator-wrapped k p =
+    pick-through by (eqb k 12) Block _ (pick-through by (eqb k 13) Hide _ (pick-through by (eqb k 14) Rename _
+    (pick-through by (eqb k 15) Comm Allow refl)))
+  where
+    by : WrapKind → Operator
+    by w = wrappedOf w p
+
+abbrev pub entries : (w : WrapKind) → List Text → ContentsOf w → List Said
+entries Block words ws = map (nameEntry words) ws
+entries Hide words ws = map (nameEntry words) ws
+entries Rename words ps = map (pairEntry words) ps
+entries Comm words rs = map (ruleEntry words) rs
+entries Allow words ls = map (labelEntry words) ls
+
+labels-too : (words : List Text) (s : Text) (t : Bool) → sameText s (ascii "none") ≡ t
+    → unlessNone t (listOf words Labels s) ≡ onward (labelList s) (λ ls o. past (map (labelEntry words) ls) o)
+unfolding labelList
+labels-too words s true e = rw (e, labelList)
+labels-too words s false e = rw (e, labelList) (all-too (labelEntry words) comma label (suc (length s)) s)
+
+listed-entries : (w : WrapKind) (words : List Text) (s : Text) → wholeList words (listKind w) s ≡ onward (contents w s) (λ c o. past (entries w words c) o)
+listed-entries Block words s = all-too (nameEntry words) comma word (suc (length s)) s
+listed-entries Hide words s = all-too (nameEntry words) comma word (suc (length s)) s
+listed-entries Rename words s = all-too (pairEntry words) comma pair (suc (length s)) s
+listed-entries Comm words s = all-too (ruleEntry words) comma rule (suc (length s)) s
+listed-entries Allow words s = labels-too words s (sameText s (ascii "none")) refl
+
+pub listed-faults : (w : WrapKind) (words : List Text) (c : ContentsOf w) → listFaults (listKind w) (entries w words c) ≡ listFault words (listed w c)
+listed-faults Block words c = sym (names-faults words c)
+listed-faults Hide words c = sym (names-faults words c)
+listed-faults Rename words c = sym (pairs-faults words c)
+listed-faults Comm words c = sym (rules-faults words c)
+listed-faults Allow words c = sym (labels-faults words c)
+
+rules-fine : (words : List Text) (rs : ContentsOf Comm) → rulesFault words rs ≡ fine → worst (ruleFault words) rs ≡ fine
+unfolding rulesFault
+rules-fine words rs e = worse-none (worst (ruleFault words) rs) _ e .0
+
+labels-fine : (words : List Text) (ls : List Parts) → labelsFault words ls ≡ fine → worst (labelFault words) ls ≡ fine
+unfolding labelsFault
+labels-fine words ls e = worse-none (worst (labelFault words) ls) _ e .0
+
+pub listed-words : (w : WrapKind) (words : List Text) (c : ContentsOf w) → listFault words (listed w c) ≡ fine
+    → listWords (listKind w) (entries w words c) ≡ operatorWords (operatorSaid words (listed w c))
+listed-words Block words c e = names-words words c
+listed-words Hide words c e = names-words words c
+listed-words Rename words c e = pairs-words words c
+listed-words Comm words c e = rules-words words c (rules-fine words c e)
+listed-words Allow words c e = labels-words words c (labels-fine words c e)
+
+same-length : {A B D : Type 0} (f : A → B) (g : A → D) (xs : List A) → length (map f xs) ≡ length (map g xs)
+same-length f g xs = length-map xs f ∙ sym (length-map xs g)
+
+pub listed-operator : (w : WrapKind) (words : List Text) (n : ℕ) (c : ContentsOf w)
+    → wrappedOf w (record { at = 32 * n; entries = length (entries w words c) }) ≡ operatorFor n (operatorSaid words (listed w c))
+listed-operator Block words n c = rw (same-length (nameEntry words) (nameNumber words) c)
+listed-operator Hide words n c = rw (same-length (nameEntry words) (nameNumber words) c)
+listed-operator Rename words n c = rw (same-length (pairEntry words) (pairSaid words) c)
+listed-operator Comm words n c = rw (same-length (ruleEntry words) (ruleSaid words) c)
+listed-operator Allow words n c = rw (same-length (labelEntry words) (labelSaid words) c)
+
+-- The list at a place of the line.
+module _ (w : WrapKind) (words : List Text) (line : Text) (from : ℕ) (i : from ≤ length line) {before after : List ℕ} {r : SaidStep}
+    (h : ListRead (listKind w) (drop from line) (wholeList words (listKind w) (drop from line)) before after r) where
+  flat : onward (wholeList words (listKind w) (drop from line)) (λ es p. past (listEntry (listKind w) es) p)
+      ≡ onward (contents w (drop from line)) (λ c p. past (listEntry (listKind w) (entries w words c)) p)
+  flat =
+      ap (λ d. onward d (λ es p. past (listEntry (listKind w) es) p)) (listed-entries w words (drop from line))
+      ∙ carried (entries w words) (λ es p. past (listEntry (listKind w) es) p) (contents w (drop from line))
+
+  pub wrap-stuck : {p : ℕ} → r ≡ S.Stuck p → stuck (drop (from + p) line) ≡ contents w (drop from line)
+  wrap-stuck e =
+      back-stuck (λ c. listEntry (listKind w) (entries w words c)) (contents w (drop from line)) (shifted stuck i (said-stays (h .read) e) .says ∙ flat)
+
+  pub wrap-went : {e : C.Said} {n : ℕ} → r ≡ S.To e n
+      → (c : ContentsOf w) × (past c (drop (from + n) line) ≡ contents w (drop from line)) × (saidOf e ≡ listEntry (listKind w) (entries w words c))
+      × (after ≡ over (listWords (listKind w) (entries w words c)) before)
+  wrap-went {e} g =
+      let s = shifted (past (saidOf e)) i (said-went (h .read) g) in
+      let b = back-past (λ c. listEntry (listKind w) (entries w words c)) (contents w (drop from line)) (s .says ∙ flat) in
+      let all = ap (λ d. onward d (λ c o. past (entries w words c) o)) (b .1) ∙ sym (listed-entries w words (drop from line)) in
+      (b .0, b .1, b .2, h .stored (entries w words (b .0)) _ all)
+
+-- What follows the word.
+module _ (w : WrapKind) where
+  abbrev pub after-list : ℕ → ContentsOf w → Text → Past Line
+  after-list t l o = onward (ended o) (λ _ m. past (wraps (listed w l) t) m)
+
+  abbrev pub after-space : ℕ → Unit {0} → Text → Past Line
+  after-space t u p = onward (contents w p) (after-list t)
+
+  abbrev pub after-operand : ℕ → Text → Past Line
+  after-operand t q = onward (literal (space ∷ []) q) (after-space t)
+
+  pub wrap-seen : (s : Text) → onward (operand s) after-operand ≡ ofList (contents w) (listed w) s
+  unfolding ofList
+  wrap-seen s = onward-assoc (literal (space ∷ []) s) (λ _ q. Rattle.grammar.specs.Text.number q) after-operand
+
+-- The answers on a line of a kind with a list: by its operand, by the space after it, by its list, and by the end.
+module _ (w : WrapKind) (words : List Text) (line : Text) where
+  abbrev Due : Past Line
+  Due = ofList (contents w) (listed w) line
+
+  pub no-operand : {t : Text} {p : ℕ} → Stands line p (stuck t) (operand line) → Stands line p (stuck t) Due
+  no-operand s = become (wrap-seen w line) (stops (after-operand w) s)
+
+  module _ {t from : ℕ} (s : Stands line from (past t (drop from line)) (operand line)) where
+    reach : {p : ℕ} {x : Past Line} → x ≡ after-operand w t (drop from line) → p ≤ length line → Stands line p x Due
+    reach h k = become (wrap-seen w line) (goes (after-operand w) s (record { says = h; within = k }))
+
+    pub no-space : starts space (drop from line) ≡ false → Stands line from (stuck (drop from line)) Due
+    no-space f = reach (ap (λ d. onward d (after-space w t)) (literal-other space [] (drop from line) f)) (s .within)
+
+    module _ (f : starts space (drop from line) ≡ true) {kind : ListKind} (j : kind ≡ listKind w) (i : from + 1 ≤ length line)
+        {before after : List ℕ} {l : SaidStep}
+        (h : ListRead kind (drop (from + 1) line) (wholeList words kind (drop (from + 1) line)) before after l) where
+      list : ListRead (listKind w) (drop (from + 1) line) (wholeList words (listKind w) (drop (from + 1) line)) before after l
+      list = rw j at h
+
+      beyond : {p : ℕ} {x : Past Line} → x ≡ onward (contents w (drop (from + 1) line)) (after-list w t) → p ≤ length line → Stands line p x Due
+      unfolding literal
+      beyond e k = reach (e ∙ ap (λ d. onward d (after-space w t)) (literal-more space [] line from f)) k
+
+      inside : {p : ℕ} → p ≡ saidPlace l → from + 1 + p ≤ length line
+      inside e = said-within line (from + 1) i (h .read) e
+
+      pub no-list : {p : ℕ} → l ≡ S.Stuck p → Stands line (from + 1 + p) (stuck (drop (from + 1 + p) line)) Due
+      no-list e = beyond (ap (λ d. onward d (after-list w t)) (wrap-stuck w words line (from + 1) i list e)) (inside (sym (ap saidPlace e)))
+
+      module _ {said : C.Said} {n : ℕ} (g : l ≡ S.To said n) where
+        abbrev end : ContentsOf w → Unit {0} → Text → Past Line
+        end c u m = past (wraps (listed w c) t) m
+
+        pub no-end : from + 1 + n < length line → Stands line (from + 1 + n) (stuck (drop (from + 1 + n) line)) Due
+        no-end k =
+            let c = wrap-went w words line (from + 1) i list g in
+            beyond (ap (λ d. onward d (end (c .0))) (ended-some line (from + 1 + n) k) ∙ ap (λ d. onward d (after-list w t)) (c .1))
+            (inside (sym (ap saidPlace g)))
+
+        pub wrap-line : (number : ℕ) {o : Operator} → length line ≤ from + 1 + n → o ≡ wrappedOf w (record { at = 32 * number; entries = said .first })
+            → LineTerm words number Due before after (Wrap o t) (said .fault)
+        unfolding wordsOfFault
+        wrap-line number k o =
+            let c = wrap-went w words line (from + 1) i list g in
+            let ending = ap (λ d. onward d (end (c .0))) (ended-none line (from + 1 + n) k) ∙ ap (λ d. onward d (after-list w t)) (c .1) in
+            record {
+              line = wraps (listed w (c .0)) t;
+              says = beyond ending (inside (sym (ap saidPlace g))) .says;
+              term =
+                  ap (λ p. Wrap p t)
+                  (o ∙ ap (λ i. wrappedOf w (record { at = 32 * number; entries = i })) (ap (λ d. d .first) (c .2)) ∙ listed-operator w words number (c .0));
+              faults = ap (λ d. d .found) (c .2) ∙ listed-faults w words (c .0);
+              stored = λ z. c .3 ∙ ap (λ ws. over ws before) (listed-words w words (c .0) z);
+            }
+
+-- every other place is that of allow
+pub wrap-rest : {A : Type 0} (f : WrapKind → A) (k : ℕ)
+    → (((Unit {0} × (k ≡ 12 → ⊥)) × (k ≡ 13 → ⊥)) × (k ≡ 14 → ⊥)) × (k ≡ 15 → ⊥)
+    → f Allow ≡ f (wrapOf k)
+wrap-rest f k r = rw (ne-eqb k 12 (r .0 .0 .0 .1), ne-eqb k 13 (r .0 .0 .1), ne-eqb k 14 (r .0 .1), ne-eqb k 15 (r .1))

@@ -1,0 +1,35 @@
+-- A term's line as the code reads it, with its names looked up.
+-- Assumes nothing.
+use mathlib.Core.Path.{_≡_}
+use mathlib.Core.List.{List, []}
+use Prim.Native.Nat.{ℕ}
+use lib.ListN.{drop}
+use Rattle.meaning.specs.Bytes.{Text}
+use Rattle.table.specs.declared.Term.{Term}
+use Rattle.table.specs.Encoded.{termWords, termFor}
+use Rattle.grammar.specs.Text.{Past, past, stuck}
+use Rattle.grammar.specs.Forms.{Line}
+use Rattle.grammar.specs.Faults.{fine, termSaid, wordsOfFault}
+use Rattle.faults.specs.CodedFaults.{foundOf}
+use Rattle.faults.specs.declared.Found as G
+use Rattle.words.specs.Steps.{Stands}
+use Rattle.lists.specs.Lists.{over}
+use Rattle.tails.specs.declared.TermStep.{TermStep}
+use Rattle.tails.specs.declared.TermStep.the-variants as T
+
+-- The term at its number, the fault of its names and its list, and the list's words over the start of the store.
+pub record LineTerm (words : List Text) (n : ℕ) (due : Past Line) (before after : List ℕ) (x : Term) (f : G.Found) : Type 0 where
+  pub line : Line
+  pub says : past line [] ≡ due
+  pub term : x ≡ termFor n (termSaid words line)
+  pub faults : foundOf f ≡ wordsOfFault words line
+  pub stored : wordsOfFault words line ≡ fine → after ≡ over (termWords (termSaid words line)) before
+
+-- where it is stuck the place lies in the line
+abbrev pub LineRead : List Text → ℕ → Text → Past Line → List ℕ → List ℕ → TermStep → Type 0
+LineRead words n line due before after (T.To x f) = LineTerm words n due before after x f
+LineRead words n line due before after (T.Stuck p) = Stands line p (stuck (drop p line)) due
+
+-- a line that has no list: the term is the same at every number, and nothing is put into any store
+abbrev pub Storeless : List Text → Text → Past Line → TermStep → Type 0
+Storeless words line due r = (n : ℕ) (store : List ℕ) → LineRead words n line due store store r

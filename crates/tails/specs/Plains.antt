@@ -1,0 +1,41 @@
+-- The kinds without a list.
+-- Assumes nothing.
+use mathlib.Core.Path.{_≡_}
+use mathlib.Core.List.{[]}
+use Prim.Native.Nat.{ℕ}
+use lib.Dec.{ltb}
+use lib.ListN.{drop}
+use Rattle.meaning.specs.Bytes.{Text}
+use Rattle.meaning.specs.Descriptions as D
+use Rattle.meaning.specs.Rounds.{pick}
+use Rattle.table.specs.Packed.{plainOf}
+use Rattle.table.specs.Terms.{IsPlain, bareTerm}
+use Rattle.table.specs.declared.Term.{Term}
+use Rattle.grammar.specs.Text.{Past, past, stuck}
+use Rattle.grammar.specs.Forms.{Line, plain, alone, ofName, ofOne, ofTwo}
+use Rattle.faults.specs.declared.Found as G
+use Rattle.faults.specs.declared.Found.the-variants.{Fine}
+use Rattle.words.specs.Steps.{Stands}
+use Rattle.tails.specs.declared.TermStep.{TermStep}
+use Rattle.tails.specs.declared.TermStep.the-variants as T
+
+-- A term of numbers alone: there is no name and no list in it that could have a fault.
+pub record PlainTerm (due : Past Line) (x : Term) (f : G.Found) : Type 0 where
+  pub says : past (plain (bareTerm x)) [] ≡ due
+  pub fault-free : f ≡ Fine
+  pub plainly : IsPlain x
+
+abbrev pub PlainRead : Text → Past Line → TermStep → Type 0
+PlainRead line due (T.To x f) = PlainTerm due x f
+PlainRead line due (T.Stuck p) = Stands line p (stuck (drop p line)) due
+
+-- The kinds with one number and with two, which the table counts by their places among all kinds: by the last number, and one
+-- before it for the kinds with two.
+abbrev pub madeOf : ℕ → ℕ → ℕ → D.Term
+madeOf k t u = bareTerm (plainOf k t u)
+
+-- What follows the word of a kind without a list, by the kind's place: act, tau, delta, and those with one number and with two.
+abbrev pub plainTail : ℕ → Text → Past Line
+plainTail k s =
+    pick (ltb k 1) (ofName s) (pick (ltb k 2) (alone D.tau s) (pick (ltb k 3) (alone D.delta s)
+    (pick (ltb k 6) (ofOne (madeOf k 0) s) (ofTwo (madeOf k) s))))

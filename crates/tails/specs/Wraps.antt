@@ -1,0 +1,56 @@
+-- The kinds with a list.
+-- Assumes nothing.
+use mathlib.Core.List.{List}
+use Prim.Native.Nat.{ℕ, _*_}
+use lib.Dec.{eqb}
+use Rattle.meaning.specs.Bytes.{Text}
+use Rattle.meaning.specs.Rounds.{pick}
+use Rattle.table.specs.Packed.{operatorAt}
+use Rattle.table.specs.declared.Term.the-variants.{Wrap}
+use Rattle.grammar.specs.Text.{Past, separated}
+use Rattle.grammar.specs.Forms as F
+use Rattle.grammar.specs.Forms.{Listed, Parts, WordPair, WordRule, comma, wordList, pair, rule, labelList}
+use Rattle.entries.specs.declared.Said.{Said}
+use Rattle.entries.specs.declared.ListKind.{ListKind}
+use Rattle.entries.specs.declared.ListKind.the-variants.{Names, Pairs, Rules, Labels}
+use Rattle.tails.specs.declared.TermStep.{TermStep}
+use Rattle.tails.specs.declared.TermStep.the-variants as T
+
+pub data WrapKind : Type 0 where
+  Block Hide Rename Comm Allow : WrapKind
+
+-- by their places among all kinds; every other place is that of allow
+abbrev pub wrapOf : ℕ → WrapKind
+wrapOf k = pick (eqb k 12) Block (pick (eqb k 13) Hide (pick (eqb k 14) Rename (pick (eqb k 15) Comm Allow)))
+
+abbrev pub listKind : WrapKind → ListKind
+listKind Block = Names
+listKind Hide = Names
+listKind Rename = Pairs
+listKind Comm = Rules
+listKind Allow = Labels
+
+abbrev pub ContentsOf : WrapKind → Type 0
+ContentsOf Block = List Text
+ContentsOf Hide = List Text
+ContentsOf Rename = List WordPair
+ContentsOf Comm = List WordRule
+ContentsOf Allow = List Parts
+
+abbrev pub contents : (w : WrapKind) → Text → Past (ContentsOf w)
+contents Block = wordList
+contents Hide = wordList
+contents Rename = separated comma pair
+contents Comm = separated comma rule
+contents Allow = labelList
+
+abbrev pub listed : (w : WrapKind) → ContentsOf w → Listed
+listed Block ws = F.block ws
+listed Hide ws = F.hide ws
+listed Rename ps = F.rename ps
+listed Comm rs = F.comm rs
+listed Allow ls = F.allow ls
+
+-- the term of a kind with a list, at its number, with the list's fault
+abbrev pub wrapStep : ℕ → ℕ → ℕ → Said → TermStep
+wrapStep k t n said = T.To (Wrap (operatorAt k (record { at = 32 * n; entries = said .first })) t) (said .fault)

@@ -1,0 +1,36 @@
+// The tails of term lines: what follows the word of a kind, up to the end of the line.
+//
+// As in `words`, what is lent is the rest of a line, and an answer that is stuck says after how many bytes.
+mod plains;
+mod wraps;
+
+ghost use Rattle.tails.specs.Tails.{TailRead};
+use crate::plains::read_plain;
+use crate::wraps::read_wrap;
+use faults::Found;
+use table::NAMES;
+use table::TERMS;
+use table::Term;
+
+// A term with its fault, or the place where the line is stuck.
+pub enum TermStep {
+    To(Term, Found),
+    Stuck(usize),
+}
+
+// What follows the word of the kind at a place among the kinds: the term at a number, its list's words put into the store.
+// With more names than a description has, or at a number that no term has, nothing is read.
+pub fn read_tail(k: usize, rest: &[u8], names: &[u64], n: usize, store: &mut [u64]) -> TermStep
+    ensures { λ r. ⌜ TailRead (now (names .entry)) n k (now (rest .entry)) (now (store .entry)) (now (store .exit)) r ⌝ }
+{
+    if NAMES < names.len() {
+        return TermStep::Stuck(0);
+    }
+    if TERMS <= n {
+        return TermStep::Stuck(0);
+    }
+    if k < 12 {
+        return read_plain(k, rest, names);
+    }
+    read_wrap(k, rest, names, n, store)
+}

@@ -1,0 +1,104 @@
+// The kinds without a list: a name, or the numbers of the operands, and the end of the line.
+ghost use Prim.Native.Nat.{_≤_};
+ghost use mathlib.Core.List.{map};
+ghost use lib.ListN.{length, drop};
+ghost use Rattle.table.specs.Decoded.{nameOf};
+ghost use Rattle.table.specs.Terms.{IsPlain, bareTerm};
+ghost use Rattle.grammar.specs.Text.{past, onward, ended, byte, number};
+ghost use Rattle.grammar.specs.Forms.{space, plain, ofName, ofOne, ofTwo};
+ghost use Rattle.words.specs.Steps.{Steps};
+ghost use Rattle.tails.specs.Lines.{Storeless};
+ghost use Rattle.tails.specs.Plains.{PlainRead, madeOf, plainTail};
+use crate::TermStep;
+use entries::SaidStep;
+use entries::read_name;
+use entries::said_stuck_at;
+use faults::Found;
+use table::Term;
+use table::packing::plain;
+use words::Step;
+use words::literals::sign_at;
+use words::numbers::number_after;
+use words::stuck_at;
+
+// A term with nothing after it.
+fn finish(line: &[u8], at: usize, x: Term) -> TermStep
+    requires { ⌜ (at ≤ length (now line)) × IsPlain x ⌝ }
+    ensures { λ r. ⌜ PlainRead (now (line .entry)) (onward (ended (drop at (now (line .entry)))) (λ _ s. past (plain (bareTerm x)) s)) r ⌝ }
+{
+    if at < line.len() {
+        return TermStep::Stuck(at);
+    }
+    TermStep::To(x, Found::Fine)
+}
+
+// A number after a space, at a place of the line; the answer's place is one of the line too.
+fn read_operand(line: &[u8], at: usize) -> Step
+    requires { ⌜ at ≤ length (now line) ⌝ }
+    ensures { λ r. ⌜ Steps (λ n. n) (now (line .entry)) r (onward (byte space (drop at (now (line .entry)))) (λ _ s. number s)) ⌝ }
+{
+    let read = number_after(&line[at..], b' ');
+    let Step::To(n, bytes) = read else {
+        return Step::Stuck(at + stuck_at(read));
+    };
+    Step::To(n, at + bytes)
+}
+
+// The last number of a line, or the only one. From ref on a kind has the same number here, by its word's place, as in the table.
+fn read_last(k: usize, t: usize, line: &[u8], at: usize) -> TermStep
+    requires { ⌜ at ≤ length (now line) ⌝ }
+    ensures { λ r. ⌜ PlainRead (now (line .entry)) (ofOne (madeOf k t) (drop at (now (line .entry)))) r ⌝ }
+{
+    let last = read_operand(line, at);
+    let Step::To(u, next) = last else {
+        return TermStep::Stuck(stuck_at(last));
+    };
+    finish(line, next, plain(k, t, u as usize))
+}
+
+fn read_two(k: usize, rest: &[u8]) -> TermStep
+    ensures { λ r. ⌜ PlainRead (now (rest .entry)) (ofTwo (madeOf k) (now (rest .entry))) r ⌝ }
+{
+    let first = number_after(rest, b' ');
+    let Step::To(t, after) = first else {
+        return TermStep::Stuck(stuck_at(first));
+    };
+    read_last(k, t as usize, rest, after)
+}
+
+fn read_act(rest: &[u8], names: &[u64]) -> TermStep
+    ensures { λ r. ⌜ Storeless (map (nameOf 8) (now (names .entry))) (now (rest .entry)) (ofName (now (rest .entry))) r ⌝ }
+{
+    if !sign_at(rest, 0, b' ') {
+        return TermStep::Stuck(0);
+    }
+    let name = read_name(&rest[1..], names);
+    let SaidStep::To(said, bytes) = name else {
+        return TermStep::Stuck(1 + said_stuck_at(name));
+    };
+    let next = 1 + bytes;
+    if next < rest.len() {
+        return TermStep::Stuck(next);
+    }
+    let fault = said.fault;
+    TermStep::To(Term::Act(said.first as usize), fault)
+}
+
+// What follows the word of the kind at a place before those with a list.
+pub fn read_plain(k: usize, rest: &[u8], names: &[u64]) -> TermStep
+    ensures { λ r. ⌜ Storeless (map (nameOf 8) (now (names .entry))) (now (rest .entry)) (plainTail k (now (rest .entry))) r ⌝ }
+{
+    if k < 1 {
+        return read_act(rest, names);
+    }
+    if k < 2 {
+        return finish(rest, 0, Term::Tau);
+    }
+    if k < 3 {
+        return finish(rest, 0, Term::Delta);
+    }
+    if k < 6 {
+        return read_last(k, 0, rest, 0);
+    }
+    read_two(k, rest)
+}

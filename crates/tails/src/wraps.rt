@@ -1,0 +1,76 @@
+// The kinds with a list: an operand, the list and the end of the line.
+ghost use Prim.Native.Nat.{_≤_, _<_};
+ghost use mathlib.Core.Path.{_≡_};
+ghost use mathlib.Core.List.{map};
+ghost use lib.ListN.{length};
+ghost use Rattle.table.specs.Decoded.{nameOf};
+ghost use Rattle.grammar.specs.Forms.{ofList};
+ghost use Rattle.tails.specs.Lines.{LineRead};
+ghost use Rattle.tails.specs.Wraps.{wrapOf, listKind, contents, listed, wrapStep};
+use crate::TermStep;
+use entries::ListKind;
+use entries::Said;
+use entries::SaidStep;
+use entries::said_stuck_at;
+use lists::read_whole;
+use table::Place;
+use table::Term;
+use table::packing::operator;
+use words::Step;
+use words::literals::sign_at;
+use words::numbers::number_after;
+use words::stuck_at;
+
+// What the list of a kind is of, by the kind's place.
+fn list_kind(k: usize) -> ListKind
+    ensures { λ r. ⌜ r ≡ listKind (wrapOf k) ⌝ }
+{
+    match k {
+        12 => ListKind::Names,
+        13 => ListKind::Names,
+        14 => ListKind::Pairs,
+        15 => ListKind::Rules,
+        _ => ListKind::Labels,
+    }
+}
+
+// The term of a kind with a list, at its number: the list has the words at 32 times the number.
+fn wrapped(k: usize, t: usize, n: usize, said: Said) -> TermStep
+    requires { ⌜ n < 96 ⌝ }
+    ensures { λ r. ⌜ r ≡ wrapStep k t n said ⌝ }
+{
+    let first = 32 * n;
+    let place = Place {
+        at: first,
+        entries: said.first as usize,
+    };
+    let fault = said.fault;
+    let with_list = operator(k, place);
+    TermStep::To(Term::Wrap(with_list, t), fault)
+}
+
+// What follows the word of a kind with a list.
+pub fn read_wrap(k: usize, rest: &[u8], names: &[u64], n: usize, store: &mut [u64]) -> TermStep
+    requires { ⌜ (length (now names) ≤ 12) × (n < 96) ⌝ }
+    ensures { λ r. ⌜ LineRead (map (nameOf 8) (now (names .entry))) n (now (rest .entry))
+        (ofList (contents (wrapOf k)) (listed (wrapOf k)) (now (rest .entry))) (now (store .entry)) (now (store .exit)) r ⌝ }
+{
+    let operand = number_after(rest, b' ');
+    let Step::To(t, after) = operand else {
+        return TermStep::Stuck(stuck_at(operand));
+    };
+    if !sign_at(rest, after, b' ') {
+        return TermStep::Stuck(after);
+    }
+    let kind = list_kind(k);
+    let behind = after + 1;
+    let list = read_whole(kind, &rest[behind..], names, store);
+    let SaidStep::To(said, taken) = list else {
+        return TermStep::Stuck(behind + said_stuck_at(list));
+    };
+    let next = behind + taken;
+    if next < rest.len() {
+        return TermStep::Stuck(next);
+    }
+    wrapped(k, t as usize, n, said)
+}
