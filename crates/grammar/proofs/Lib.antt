@@ -5,6 +5,7 @@ pub mod Cases
 pub mod Writings
 pub mod Decimal
 pub mod Areas
+pub mod Underway
 pub mod Findings
 pub mod Onwards
 pub mod Writes

@@ -12,7 +12,7 @@ use lib.ListN.{length, length-append, length-map}
 use Rattle.meaning.specs.Bytes.{Text, ascii}
 use Rattle.grammar.specs.Marks.{decimal}
 use Rattle.grammar.specs.Printed.{line, answerText}
-use Rattle.marks.specs.Packed.{wordsOf, countsOf}
+use Rattle.label_texts.specs.Packed.{wordsOf, countsOf}
 use Rattle.printing.specs.Steps.{answerHead}
 use Rattle.printing.proofs.Line.{length-head}
 use Rattle.printing.proofs.LabelLines.{linesFrom}

@@ -17,8 +17,8 @@ use Rattle.table.specs.Encoded.{filled, wordOf}
 use Rattle.grammar.specs.Forms.{dot}
 use Rattle.grammar.specs.Marks.{joined, partText, partTexts}
 use Rattle.grammar.specs.Printed.{printedLabel, orTau, labelLines, line, answerText}
-use Rattle.marks.specs.Packed.{wordsOf, countsOf}
-use Rattle.marks.proofs.Names.{first-byte}
+use Rattle.label_texts.specs.Packed.{wordsOf, countsOf}
+use Rattle.label_texts.proofs.Names.{first-byte}
 use Rattle.grammar.proofs.Marks.{partTexts-zero, partTexts-some}
 
 -- The bytes of a word of a description: at most eight, none of them 0.

@@ -10,7 +10,7 @@ use Rattle.grammar.proofs.Texts.{text}
 use Rattle.grammar.proofs.Cases.{listing}
 use Rattle.table.specs.Decoded.{nameOf}
 use Rattle.table.specs.Encoded.{filled, wordOf}
-use Rattle.marks.specs.Packed.{wordsOf, countsOf}
+use Rattle.label_texts.specs.Packed.{wordsOf, countsOf}
 
 pub packed-listing : answerText (wordsOf (filled 12 0 (map wordOf names))) 2 (map countsOf (1 ∷ 2 ∷ 32 ∷ [])) ≡ text listing
 unfolding answerText labelLines printedLabel partTexts joined followed digits labelOf nameOf filled wordOf

@@ -9,9 +9,9 @@ use lib.ListN.{length, drop, getD, length-append}
 use lib.Seq.{drop-cons, drop-length}
 use Rattle.meaning.specs.Bytes.{Text, ascii}
 use Rattle.grammar.specs.Printed.{line, printedLabel, labelLines}
-use Rattle.marks.specs.Packed.{wordsOf, countsOf}
+use Rattle.label_texts.specs.Packed.{wordsOf, countsOf}
 use Rattle.printing.proofs.Line.{length-line}
-use Rattle.marks.proofs.Tau.{length-label}
+use Rattle.label_texts.proofs.Tau.{length-label}
 
 abbrev pub labelLine : List ℕ → ℕ → Text
 labelLine names label = line (ascii "label=") (printedLabel (wordsOf names) (countsOf label))

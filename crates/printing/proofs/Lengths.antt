@@ -8,7 +8,7 @@ use lib.ListN.{length}
 use Rattle.meaning.specs.Bytes.{ascii}
 use Rattle.grammar.specs.Printed.{answerText, refusedText}
 pub use Rattle.grammar.proofs.Areas.{printed-within}
-use Rattle.marks.specs.Packed.{wordsOf, countsOf}
+use Rattle.label_texts.specs.Packed.{wordsOf, countsOf}
 use Rattle.printing.proofs.Line.{length-head}
 use Rattle.printing.proofs.LabelLines.{lines-short}
 use Rattle.printing.proofs.Answers.{length-answer-head, length-joined}

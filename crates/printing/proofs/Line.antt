@@ -11,7 +11,7 @@ use Rattle.grammar.specs.Printed.{line}
 use Rattle.grammar.specs.Areas.{Written}
 use Rattle.printing.specs.Steps.{headText}
 use Rattle.grammar.proofs.Decimal.{length-decimal}
-use Rattle.marks.proofs.Underway.{Underway, underway-first, lent, back, underway-step, underway-byte, underway-end, underway-kept, underway-room, written-length}
+use Rattle.grammar.proofs.Underway.{Underway, underway-first, lent, back, underway-step, underway-byte, underway-end, underway-kept, underway-room, written-length}
 
 pub length-line : (key value : Text) → length (line key value) ≡ length key + length value + 1
 length-line key value = rw (length-append (key ++ value) (10 ∷ []), length-append key value)

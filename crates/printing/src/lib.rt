@@ -15,7 +15,7 @@ ghost use lib.Dec.{leb};
 ghost use lib.ListN.{length};
 ghost use Rattle.grammar.specs.Printed.{answerText, refusedText};
 ghost use Rattle.grammar.specs.Areas.{Written, Printed};
-ghost use Rattle.marks.specs.Packed.{wordsOf, countsOf};
+ghost use Rattle.label_texts.specs.Packed.{wordsOf, countsOf};
 ghost use Rattle.printing.specs.Steps.{answerHead};
 
 // Two numbers of at most twenty digits, and fewer than forty bytes around them.

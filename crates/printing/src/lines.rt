@@ -1,7 +1,7 @@
 // The lines of a text: what was answered and two counts, then a line for each label.
-use marks::labels::label_length;
-use marks::labels::write_label;
-use marks::numbers::write_number;
+use label_texts::label_length;
+use label_texts::write_label;
+use numerals::write_number;
 use table::NAMES;
 ghost use mathlib.Core.Path.{_≡_};
 ghost use mathlib.Core.List.{map};
@@ -12,7 +12,7 @@ ghost use Rattle.meaning.specs.Bytes.{ascii};
 ghost use Rattle.grammar.specs.Marks.{decimal};
 ghost use Rattle.grammar.specs.Printed.{line, printedLabel, labelLines};
 ghost use Rattle.grammar.specs.Areas.{Written};
-ghost use Rattle.marks.specs.Packed.{wordsOf, countsOf};
+ghost use Rattle.label_texts.specs.Packed.{wordsOf, countsOf};
 ghost use Rattle.printing.specs.Steps.{headText};
 
 fn write_count_line(text: &mut [u8], key: &[u8], n: usize) -> usize

@@ -27,12 +27,12 @@ use Rattle.reading.specs.declared.Answer as B
 use Rattle.reading.specs.declared.Answer.the-variants.{Fine, Bad, TooLong}
 use Rattle.reading.specs.declared.Read.{Read}
 use Rattle.rounds.specs.declared.Answer as R
-use Rattle.rounds.specs.declared.Answer.the-variants.{TooLarge, Listed}
 use Rattle.rounds.specs.Alphabets as Q
 use Rattle.rounds.specs.Alphabets.{alphabetOf, Answered}
 use Rattle.reading.specs.Stored.{faultFor, readFor, storeFor, withRoom, readWith, Stored}
 use Rattle.rimecutter.specs.Calls.{Call, refusing, tooShort, ofOutcome, ofReading, unlessShort, call, cleared, answerWords}
 use Rattle.rimecutter.specs.Answers.{verdictFor, Responded}
+use Rattle.rimecutter.specs.Steps.{answerFor}
 
 or-false : (a b : Bool) → (a || b) ≡ false → (a ≡ false) × (b ≡ false)
 or-false true b e = absurd (true≢false e)
@@ -64,11 +64,6 @@ fault-back A.name = refl
 fault-back A.range = refl
 fault-back A.amount = refl
 fault-back A.operand = refl
-
--- what the call makes of what the rounds answer
-abbrev pub answerFor : R.Answer → Answer
-answerFor TooLarge = C.TooLarge
-answerFor (Listed rounds labels) = C.Listed rounds labels
 
 responded : (c c′ : Call) (work work′ answer answer′ : List ℕ) (r : Response) → c ≡ c′ → Responded c′ work work′ answer answer′ r
     → Responded c work work′ answer answer′ r

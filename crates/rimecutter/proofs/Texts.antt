@@ -28,7 +28,7 @@ use Rattle.table.specs.Encoded.{filled, wordOf}
 use Rattle.grammar.specs.Text.{isLower, isDigit}
 use Rattle.grammar.specs.Printed.{refusedText, answerText}
 use Rattle.grammar.specs.Areas.{Printed}
-use Rattle.marks.specs.Packed.{wordsOf, countsOf}
+use Rattle.label_texts.specs.Packed.{wordsOf, countsOf}
 use Rattle.printing.proofs.Callers.{Bytes, Fits, same-answer}
 use Rattle.rimecutter.specs.Calls.{Call, refusing, answering, workWords, answerWords, tooShort, ofOutcome, ofReading, unlessShort, call, verdictOf, answerAfter, textOf}
 use Rattle.rimecutter.specs.Answers.{verdictFor, NamesFor, Responded}

@@ -7,7 +7,7 @@ use lib.ListN.{length}
 use Rattle.meaning.specs.Bytes.{Text}
 use Rattle.grammar.specs.Areas.{Written}
 use Rattle.grammar.proofs.Areas.{test-fits, written→printed, unfitting→printed}
-use Rattle.marks.proofs.Underway.{Underway, underway-first, back, underway-last, underway-room, lent-room, written-within, written-length}
+use Rattle.grammar.proofs.Underway.{Underway, underway-first, back, underway-last, underway-room, lent-room, written-within, written-length}
 use Rattle.printing.specs.Steps.{answerHead}
 use Rattle.printing.proofs.LabelLines.{linesFrom}
 use Rattle.printing.proofs.Answers.{packedAnswer, answer-joined, length-joined}

@@ -1,7 +1,6 @@
 -- `rimecutter::alphabet_text` meets its contract: what is responded, printed; one case for each answer.
 -- Assumes nothing.
-use borrow.Author.Needs.{needs}
-use mathlib.Core.Path.{sym, ap, _∙_}
+use mathlib.Core.Path.{refl, sym, ap, _∙_}
 use native.Mathlib.Nat.{min-eq-left}
 use native.Mathlib.Omega.{arith}
 use lib.ListN.{length-take}
@@ -15,16 +14,16 @@ use Rattle.rimecutter.proofs.alphabet_text.Statement.{statement}
 use Rattle.rimecutter.proofs.alphabet_text.Tie as tie
 
 slice-aggregate-respond : tie.Need-slice-aggregate-respond
-slice-aggregate-respond c = search needs
+slice-aggregate-respond c = refl
 
 slice-aggregate-respond-2 : tie.Need-slice-aggregate-respond-2
-slice-aggregate-respond-2 c = search needs
+slice-aggregate-respond-2 c = refl
 
 respond-requires : tie.Need-respond-requires
-respond-requires c κs = search needs
+respond-requires c κs = tt
 
 enum-known-said : tie.Need-enum-known-said
-enum-known-said c = search needs
+enum-known-said c = c .match .keys1
 
 array-share-prefix-answer : tie.Need-array-share-prefix-answer
 array-share-prefix-answer c =
@@ -44,31 +43,31 @@ slice-aggregate-write-answer c =
     sym (rw length-take (min-eq-left (omega (arith, list .few))))
 
 write-answer-requires : tie.Need-write-answer-requires
-write-answer-requires c κs = search needs
+write-answer-requires c κs = tt
 
 enum-told : tie.Need-enum-told
-enum-told c = search needs
+enum-told c = c .match .keys2
 
 write-refusal-requires : tie.Need-write-refusal-requires
-write-refusal-requires c κs = search needs
+write-refusal-requires c κs = tt
 
 enum-known-said-2 : tie.Need-enum-known-said-2
-enum-known-said-2 c = search needs
+enum-known-said-2 c = c .match .keys3
 
 number-of-requires : tie.Need-number-of-requires
-number-of-requires c κs = search needs
+number-of-requires c κs = tt
 
 write-refusal-requires-2 : tie.Need-write-refusal-requires-2
-write-refusal-requires-2 c κs = search needs
+write-refusal-requires-2 c κs = tt
 
 enum-told-2 : tie.Need-enum-told-2
-enum-told-2 c = search needs
+enum-told-2 c = c .match .keys4
 
 write-refusal-requires-3 : tie.Need-write-refusal-requires-3
-write-refusal-requires-3 c κs = search needs
+write-refusal-requires-3 c κs = tt
 
 same-length : tie.Need-same-length
-same-length c = search needs
+same-length c = c .before .before .write-answer .kept .0
 
 returns : tie.Need-returns
 returns c =
@@ -80,7 +79,7 @@ returns c =
     printed (textOf (call (a .description .now) workWords answerWords)) _ _ _ _ (list .says) (c .before .before .write-answer .ensures)
 
 same-length-2 : tie.Need-same-length-2
-same-length-2 c = search needs
+same-length-2 c = c .before .before .write-refusal .kept .0
 
 returns-2 : tie.Need-returns-2
 returns-2 c =
@@ -93,7 +92,7 @@ returns-2 c =
     (c .before .before .write-refusal .ensures)
 
 same-length-3 : tie.Need-same-length-3
-same-length-3 c = search needs
+same-length-3 c = c .before .before .write-refusal2 .kept .0
 
 returns-3 : tie.Need-returns-3
 returns-3 c =
@@ -110,7 +109,7 @@ returns-3 c =
     (c .before .before .write-refusal2 .ensures)
 
 same-length-4 : tie.Need-same-length-4
-same-length-4 c = search needs
+same-length-4 c = c .before .before .write-refusal3 .kept .0
 
 returns-4 : tie.Need-returns-4
 returns-4 c =

@@ -7,7 +7,7 @@ use native.Mathlib.Omega.{arith}
 use borrow.Author.Tests.{le-leb, lt-leb}
 use lib.ListN.{length, getD}
 use Rattle.printing.proofs.LabelLines.{linesFrom, length-lines, lines-end, lines-short}
-use Rattle.marks.proofs.Tau.{length-label}
+use Rattle.label_texts.proofs.Tau.{length-label}
 use Rattle.printing.proofs.lines.label_lines_fit.Statement.{statement}
 use Rattle.printing.proofs.lines.label_lines_fit.Tie as tie
 

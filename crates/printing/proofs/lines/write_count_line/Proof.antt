@@ -9,7 +9,7 @@ use Rattle.meaning.specs.Bytes.{Text}
 use Rattle.grammar.specs.Marks.{decimal}
 use Rattle.grammar.specs.Printed.{line}
 use Rattle.grammar.proofs.Areas.{printed→written}
-use Rattle.marks.proofs.Underway.{Underway, lent, copied, underway-room, next-room}
+use Rattle.grammar.proofs.Underway.{Underway, lent, copied, underway-room, next-room}
 use Rattle.printing.proofs.Line.{length-line, keyed, Ended, ended}
 use Rattle.printing.proofs.lines.write_count_line.Statement.{statement}
 use Rattle.printing.proofs.lines.write_count_line.Tie as tie

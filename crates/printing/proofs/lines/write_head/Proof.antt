@@ -10,7 +10,7 @@ use Rattle.meaning.specs.Bytes.{Text}
 use Rattle.grammar.specs.Marks.{decimal}
 use Rattle.grammar.specs.Printed.{line}
 use Rattle.printing.specs.Steps.{headText}
-use Rattle.marks.proofs.Underway.{Underway, copied, underway-first, back, underway-step, underway-last, underway-kept, underway-room, next-room, lent-room, written-within, written-length}
+use Rattle.grammar.proofs.Underway.{Underway, copied, underway-first, back, underway-step, underway-last, underway-kept, underway-room, next-room, lent-room, written-within, written-length}
 use Rattle.printing.proofs.lines.write_head.Statement.{statement}
 use Rattle.printing.proofs.lines.write_head.Tie as tie
 

@@ -8,9 +8,9 @@ use native.Mathlib.Omega.{arith}
 use lib.ListN.{length}
 use Rattle.meaning.specs.Bytes.{Text, ascii}
 use Rattle.grammar.specs.Printed.{printedLabel, line}
-use Rattle.marks.specs.Packed.{wordsOf, countsOf}
+use Rattle.label_texts.specs.Packed.{wordsOf, countsOf}
 use Rattle.grammar.proofs.Areas.{printed→written}
-use Rattle.marks.proofs.Underway.{Underway, lent, copied, underway-room, next-room}
+use Rattle.grammar.proofs.Underway.{Underway, lent, copied, underway-room, next-room}
 use Rattle.printing.proofs.Line.{keyed, Ended, ended}
 use Rattle.printing.proofs.lines.write_label_line.Statement.{statement}
 use Rattle.printing.proofs.lines.write_label_line.Tie as tie

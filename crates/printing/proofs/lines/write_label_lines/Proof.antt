@@ -6,7 +6,7 @@ use Prim.Native.Nat.{_-_, _+_, _≤_}
 use native.Mathlib.Nat.{le-refl}
 use native.Mathlib.Omega.{arith}
 use lib.ListN.{length, getD}
-use Rattle.marks.proofs.Underway.{Underway, underway-start, underway-step, underway-end, underway-kept, underway-room, next-room}
+use Rattle.grammar.proofs.Underway.{Underway, underway-start, underway-step, underway-end, underway-kept, underway-room, next-room}
 use Rattle.printing.proofs.LabelLines.{labelLine, linesFrom, lines-step, lines-end}
 use Rattle.printing.proofs.lines.write_label_lines.Statement.{statement}
 use Rattle.printing.proofs.lines.write_label_lines.Tie as tie

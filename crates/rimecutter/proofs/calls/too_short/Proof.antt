@@ -1,12 +1,12 @@
+-- `rimecutter::calls::too_short` meets its contract: the work area is too short, or the answer area is asked.
+-- Assumes nothing.
 use borrow.Author.Tests.{lt-ltb, le-ltb}
 use Rattle.rimecutter.proofs.calls.too_short.Statement.{statement}
 use Rattle.rimecutter.proofs.calls.too_short.Tie as tie
 
--- src/calls.rt:21:1
 returns : tie.Need-returns
 returns c = rw (lt-ltb _ _ (c .if1 .taken))
 
--- src/calls.rt:21:1
 returns-2 : tie.Need-returns-2
 returns-2 c = rw (le-ltb _ _ (c .if1 .left))
 
