@@ -30,7 +30,7 @@ use Rattle.sections.specs.Walks.{Padded}
 use Rattle.sections.specs.Lines.{between}
 use Rattle.sections.proofs.Walking.{padded-length}
 use Rattle.sections.proofs.Taking.{words-back, taken-fit}
-use Rattle.reading.specs.Stored.{faultFor, refusing, readFor, badAnswer, FitsAfter, Ended, Named, Held}
+use Rattle.reading.specs.Stored.{faultFor, refusing, readFor, Ended, Named, Held}
 use Rattle.reading.specs.declared.Answer.the-variants as N
 use Rattle.reading.specs.declared.Read.{Read}
 use Rattle.sections.specs.declared.Progress.{Progress}
@@ -80,14 +80,11 @@ terms-test n = rw (at-most n 96)
 -- A step that ends the reading, and one after which it goes on.
 module _ {A : Type 0} {due : Walk A} (k : A → ℕ → Text → Walk Whole) {after : List ℕ} {r : Read} where
   pub ends-bad : (before : ℕ) {p : Progress} {f : Fault} {line at : ℕ} → p ≡ Bad f line → before + line ≡ at → halted (faultOf f) at ≡ due
-      → r ≡ refusing (badAnswer before p) → Ended (described (walk due k)) after r
-  ends-bad before {f = f} e l q h = rw (← q) (record { result = rw (fault-back f, ← l) (rw e at h); left = tt })
+      → ((g : Fault) (n : ℕ) → p ≡ Bad g n → r ≡ refusing (N.Bad g (before + n))) → Ended (described (walk due k)) after r
+  ends-bad before {f = f} {line} e l q h = rw (← q) (record { result = rw (fault-back f, ← l) (h f line e); left = tt })
 
   pub ends-on : {a : A} {line : ℕ} {s : Text} → reached a line s ≡ due → Ended (described (k a line s)) after r → Ended (described (walk due k)) after r
   ends-on q h = rw (← q) h
-
-pub fits-after : {p : Progress} {f : Fault} {line : ℕ} (before : ℕ) → p ≡ Bad f line → before + line < 2 ^ 64 → FitsAfter before p
-fits-after before e h = rw e h
 
 -- The end of the text.
 module _ (w : Whole) (line end : ℕ) (text : Text) {after : List ℕ} {r : Read} where

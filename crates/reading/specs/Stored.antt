@@ -18,9 +18,6 @@ use Rattle.grammar.specs.Reading.{Reading, read, overlong, badLine, readText}
 use Rattle.reading.specs.declared.Answer.{Answer}
 use Rattle.reading.specs.declared.Answer.the-variants.{Fine, TooLong, Bad}
 use Rattle.reading.specs.declared.Read.{Read}
-use Rattle.sections.specs.declared.Progress.{Progress}
-use Rattle.sections.specs.declared.Progress.the-variants as P
-use Rattle.sections.specs.declared.Progress.the-variants.{To}
 use Rattle.sections.specs.Walks.{Padded}
 use Rattle.meaning.specs.Descriptions.{Term, Description}
 
@@ -68,15 +65,7 @@ pub record Ended (due : Reading) (after : List ℕ) (r : Read) : Type 0 where
   pub result : r ≡ readFor due
   pub left : Left due after
 
--- The answer that a bad line's progress is given on as, where so many lines stand before. (Only private functions cite this and what
--- follows: no public contract rests on it.)
-abbrev pub badAnswer : ℕ → Progress → Answer
-badAnswer before (To v took) = TooLong
-badAnswer before (P.Bad f line) = Bad f (before + line)
-
-abbrev pub FitsAfter : ℕ → Progress → Type 0
-FitsAfter before (To v took) = Unit {0}
-FitsAfter before (P.Bad f line) = before + line < 2 ^ 64
+-- (Only private functions cite what follows: no public contract rests on it.)
 
 -- Names in an array with 0 after them.
 pub record Named (names : List ℕ) (named : ℕ) : Type 0 where

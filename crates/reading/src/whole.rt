@@ -1,13 +1,13 @@
 // The lines of the whole text, section after section: each function is lent the text from its section's first line on.
 ghost use mathlib.Core.Path.{_≡_};
 ghost use mathlib.Core.List.{List, [], map};
-ghost use Prim.Native.Nat.{_+_, _≤_};
+ghost use Prim.Native.Nat.{ℕ, _+_, _^_, _≤_, _<_};
 ghost use lib.ListN.{length, take};
 ghost use Rattle.meaning.specs.Descriptions as D;
 ghost use Rattle.table.specs.Decoded.{nameOf};
 ghost use Rattle.table.specs.Encoded.{filled};
 ghost use Rattle.grammar.specs.Reading.{fromOrder, fromRoot, fromBodies, fromTerms, fromCounts, fromNames, wholeText, described};
-ghost use Rattle.reading.specs.Stored.{refusing, badAnswer, FitsAfter, Ended, Named, Sized, HeldTerms, Held};
+ghost use Rattle.reading.specs.Stored.{refusing, Ended, Named, Sized, HeldTerms, Held};
 use crate::Answer;
 use crate::Read;
 use faults::Fault;
@@ -34,8 +34,8 @@ pub fn refused(answer: Answer) -> Read
 
 // The refusal of a bad line, where so many lines stand before those that were read.
 fn bad(p: Progress, before: usize) -> Read
-    requires { ⌜ FitsAfter before p ⌝ }
-    ensures { λ r. ⌜ r ≡ refusing (badAnswer before p) ⌝ }
+    requires { ⌜ ((f : Fault) (line : ℕ) → p ≡ Progress.Bad f line → before + line < 2 ^ 64) ⌝ }
+    ensures { λ r. ⌜ ((f : Fault) (line : ℕ) → p ≡ Progress.Bad f line → r ≡ refusing (Answer.Bad f (before + line))) ⌝ }
 {
     match p {
         Progress::To(_, _) => refused(Answer::TooLong),

@@ -1,5 +1,7 @@
 -- `reading::whole::bad` meets its contract.
 -- Assumes nothing.
+use mathlib.Core.Path.{_≡_, sym, _∙_}
+use Prim.Native.Nat.{ℕ}
 use native.Mathlib.Omega.{arith}
 use Rattle.faults.proofs.Calls.{asks-nothing}
 use Rattle.reading.proofs.whole.bad.Statement.{statement}
@@ -12,13 +14,17 @@ enum-known-p : tie.Need-enum-known-p
 enum-known-p c = c .match .keys2
 
 add-t7 : tie.Need-add-t7
-add-t7 c = let h = rw (c .before .p .given .1) at (c .before .before .before .pre) in omega arith
+add-t7 c = omega (arith, c .before .before .before .pre _ _ (c .before .p .given .1))
 
 returns : tie.Need-returns
-returns c = rw (c .before .enum-told .given .1) (c .refused .ensures)
+returns c = λ f line e. let k = sym (c .before .enum-told .given .1) ∙ e in let z : _≡_ {A = ℕ} 0 1 = cc in absurd (omega arith)
 
 returns-2 : tie.Need-returns-2
-returns-2 c = rw (c .before .before .p .given .1) (c .refused2 .ensures)
+returns-2 c = λ f line e.
+    let k = sym (c .before .before .p .given .1) ∙ e in
+    let g : c .before .before .p .given .0 .0 ≡ f = cc in
+    let n : c .before .before .p .given .0 .1 .0 ≡ line = cc in
+    rw (← g, ← n) (c .refused2 .ensures)
 
 pub bad-spec : {M : Type 1} → statement M
 bad-spec = tie.close (tie.spec enum-told asks-nothing enum-known-p add-t7 asks-nothing returns returns-2)

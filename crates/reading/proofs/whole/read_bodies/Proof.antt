@@ -8,7 +8,7 @@ use native.Mathlib.Omega.{arith}
 use Rattle.faults.proofs.Calls.{asks-nothing}
 use Rattle.grammar.specs.Reading.{takeBody, lines}
 use Rattle.sections.proofs.Walking.{gone-to, gone-within, gone-bad, gone-before, rest-lent, rest-length, later-to, later-bad, room-there}
-use Rattle.reading.proofs.Wholes.{ends-bad, ends-on, fits-after, table-held}
+use Rattle.reading.proofs.Wholes.{ends-bad, ends-on, table-held}
 use Rattle.reading.proofs.whole.read_bodies.Statement.{statement}
 use Rattle.reading.proofs.whole.read_bodies.Tie as tie
 
@@ -25,11 +25,9 @@ enum-told : tie.Need-enum-told
 enum-told c = c .match .keys2
 
 bad-requires : tie.Need-bad-requires
-bad-requires c κs =
+bad-requires c κs = λ f line e.
     let start = c .before .before .before .before .before in
-    let a = start .args in
-    fits-after (4 + a .named + a .count) (c .enum-told .given .1)
-    (omega (arith, gone-before (c .before .before .take-bodies .ensures .walks) (c .enum-told .given .1), start .pre .0 .few, start .pre .2, start .pre .3))
+    omega (arith, gone-before (c .before .before .take-bodies .ensures .walks) e, start .pre .0 .few, start .pre .2, start .pre .3)
 
 returns : tie.Need-returns
 returns c = λ terms h.

@@ -12,7 +12,7 @@ use Rattle.grammar.specs.Reading.{equationCount, termCount}
 use Rattle.faults.proofs.Calls.{asks-nothing}
 use Rattle.sections.specs.Lines.{between}
 use Rattle.sections.proofs.Walking.{gone-to, gone-within, gone-bad, gone-before, gone-below, rest-lent, rest-length}
-use Rattle.reading.proofs.Wholes.{other-test, equations-test, terms-test, ends-bad, ends-on, fits-after}
+use Rattle.reading.proofs.Wholes.{other-test, equations-test, terms-test, ends-bad, ends-on}
 use Rattle.reading.proofs.whole.read_counts.Statement.{statement}
 use Rattle.reading.proofs.whole.read_counts.Tie as tie
 
@@ -29,13 +29,8 @@ enum-told : tie.Need-enum-told
 enum-told c = c .match .keys2
 
 bad-requires : tie.Need-bad-requires
-bad-requires c κs =
-    fits-after 0 (c .enum-told .given .1) (omega (
-      arith,
-      gone-before (c .before .before .take-number .ensures .walks)
-          (c .enum-told .given .1),
-      c .before .before .before .before .before .before .pre .1 .few,
-    ))
+bad-requires c κs = λ f line e.
+    omega (arith, gone-before (c .before .before .take-number .ensures .walks) e, c .before .before .before .before .before .before .pre .1 .few)
 
 returns : tie.Need-returns
 returns c =
@@ -67,14 +62,9 @@ enum-told-2 : tie.Need-enum-told-2
 enum-told-2 c = c .match2 .keys2
 
 bad-requires-2 : tie.Need-bad-requires-2
-bad-requires-2 c κs =
-    fits-after 0 (c .enum-told2 .given .1)
-    (omega (
-      arith,
-      gone-before (c .before .before .take-number2 .ensures .walks)
-          (c .enum-told2 .given .1),
-      c .before .before .before .before .before .before .before .before .before .before .before .before .pre .1 .few,
-    ))
+bad-requires-2 c κs = λ f line e.
+    let start = c .before .before .before .before .before .before .before .before .before .before .before .before in
+    omega (arith, gone-before (c .before .before .take-number2 .ensures .walks) e, start .pre .1 .few)
 
 returns-2 : tie.Need-returns-2
 returns-2 c =

@@ -9,7 +9,7 @@ use Rattle.grammar.specs.Reading.{nameCount, wholeText}
 use Rattle.faults.proofs.Calls.{asks-nothing}
 use Rattle.sections.specs.Lines.{between}
 use Rattle.sections.proofs.Walking.{gone-to, gone-within, gone-bad, gone-before, gone-below, rest-lent, rest-length}
-use Rattle.reading.proofs.Wholes.{other-test, names-test, ends-bad, ends-on, fits-after}
+use Rattle.reading.proofs.Wholes.{other-test, names-test, ends-bad, ends-on}
 use Rattle.reading.proofs.whole.read_lines.Statement.{statement}
 use Rattle.reading.proofs.whole.read_lines.Tie as tie
 
@@ -23,7 +23,7 @@ enum-told : tie.Need-enum-told
 enum-told c = c .match .keys2
 
 bad-requires : tie.Need-bad-requires
-bad-requires c κs = fits-after 0 (c .enum-told .given .1) (omega (arith, gone-before (c .before .before .take-number .ensures .walks) (c .enum-told .given .1)))
+bad-requires c κs = λ f line e. omega (arith, gone-before (c .before .before .take-number .ensures .walks) e)
 
 returns : tie.Need-returns
 unfolding wholeText

@@ -7,7 +7,7 @@ use native.Mathlib.Omega.{arith}
 use Rattle.grammar.specs.Reading.{takeName, lines}
 use Rattle.faults.proofs.Calls.{asks-nothing}
 use Rattle.sections.proofs.Walking.{gone-to, gone-within, gone-bad, gone-before, rest-lent, rest-length, later-to, later-bad, room-there}
-use Rattle.reading.proofs.Wholes.{ends-bad, ends-on, fits-after}
+use Rattle.reading.proofs.Wholes.{ends-bad, ends-on}
 use Rattle.reading.proofs.whole.read_names.Statement.{statement}
 use Rattle.reading.proofs.whole.read_names.Tie as tie
 
@@ -18,13 +18,8 @@ enum-told : tie.Need-enum-told
 enum-told c = c .match .keys2
 
 bad-requires : tie.Need-bad-requires
-bad-requires c κs =
-    fits-after 2 (c .enum-told .given .1) (omega (
-      arith,
-      gone-before (c .before .before .take-names .ensures .section .walks)
-          (c .enum-told .given .1),
-      c .before .before .before .before .before .pre .1,
-    ))
+bad-requires c κs = λ f line e.
+    omega (arith, gone-before (c .before .before .take-names .ensures .section .walks) e, c .before .before .before .before .before .pre .1)
 
 returns : tie.Need-returns
 returns c =

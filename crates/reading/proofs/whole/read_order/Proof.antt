@@ -8,7 +8,7 @@ use Prim.Native.Nat.{suc}
 use lib.ListN.{length, length-take}
 use lib.Seq.{length-take-le}
 use Rattle.faults.proofs.Calls.{asks-nothing}
-use Rattle.reading.proofs.Wholes.{ends-bad, ends-on, fits-after, ends-short, ends-whole, order-stored, table-read}
+use Rattle.reading.proofs.Wholes.{ends-bad, ends-on, ends-short, ends-whole, order-stored, table-read}
 use Rattle.reading.proofs.whole.read_order.Statement.{statement}
 use Rattle.reading.proofs.whole.read_order.Tie as tie
 
@@ -38,11 +38,11 @@ enum-told : tie.Need-enum-told
 enum-told c = c .match .keys2
 
 bad-requires : tie.Need-bad-requires
-bad-requires c κs =
+bad-requires c κs = λ f line e.
     let start = c .before .before .before .before .before .before .before .before .before .before in
     let t = c .before .before .before .before .take-order .ensures (rw length-take (omega (arith, start .pre .few))) (start .pre .short) in
-    let k = rw (c .enum-told .given .1) at t in
-    fits-after 0 (c .enum-told .given .1) (omega (arith, k .here, start .pre .low))
+    let k = rw e at t in
+    omega (arith, k .here, start .pre .low)
 
 same-length : tie.Need-same-length
 same-length c = c .before .before .before .before .store .given .1

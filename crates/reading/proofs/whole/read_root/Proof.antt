@@ -10,7 +10,7 @@ use Rattle.meaning.specs.Answers.{range}
 use Rattle.faults.proofs.Calls.{asks-nothing}
 use Rattle.sections.specs.Lines.{between}
 use Rattle.sections.proofs.Walking.{gone-to, gone-within, gone-bad, gone-before, rest-lent, rest-length}
-use Rattle.reading.proofs.Wholes.{other-test, below-test, ends-bad, ends-on, fits-after, held-root}
+use Rattle.reading.proofs.Wholes.{other-test, below-test, ends-bad, ends-on, held-root}
 use Rattle.reading.proofs.whole.read_root.Statement.{statement}
 use Rattle.reading.proofs.whole.read_root.Tie as tie
 
@@ -24,13 +24,8 @@ enum-told : tie.Need-enum-told
 enum-told c = c .match .keys2
 
 bad-requires : tie.Need-bad-requires
-bad-requires c κs =
-    fits-after 0 (c .enum-told .given .1) (omega (
-      arith,
-      gone-before (c .before .before .take-number .ensures .walks)
-          (c .enum-told .given .1),
-      c .before .before .before .before .before .before .pre .low,
-    ))
+bad-requires c κs = λ f line e.
+    omega (arith, gone-before (c .before .before .take-number .ensures .walks) e, c .before .before .before .before .before .before .pre .low)
 
 returns : tie.Need-returns
 returns c = λ d h.

@@ -12,7 +12,7 @@ use Rattle.table.proofs.Filled.{filled-length}
 use Rattle.grammar.specs.Reading.{takeTerm, lines}
 use Rattle.faults.proofs.Calls.{asks-nothing}
 use Rattle.sections.proofs.Walking.{padded-length, rest-lent, rest-length, later-to, later-bad, room-there}
-use Rattle.reading.proofs.Wholes.{front-free, rest-free, ends-bad, ends-on, fits-after, held-length}
+use Rattle.reading.proofs.Wholes.{front-free, rest-free, ends-bad, ends-on, held-length}
 use Rattle.reading.proofs.whole.read_terms.Statement.{statement}
 use Rattle.reading.proofs.whole.read_terms.Tie as tie
 
@@ -42,13 +42,13 @@ add-bad : tie.Need-add-bad
 add-bad c = omega (arith, c .before .before .before .before .before .before .before .before .before .pre .1 .few)
 
 bad-requires : tie.Need-bad-requires
-bad-requires c κs =
+bad-requires c κs = λ f line e.
     let start = c .before .before .before .before .before .before .before .before .before in
     let t =
     c .before .before .before .before .take-terms .ensures
     (record { few = rw length-take (omega (arith, start .pre .1 .few)); short = start .pre .0; free = front-free 3104 3072 32 (start .pre .4) refl }) in
-    let k = rw (c .enum-told .given .1) at t in
-    fits-after (4 + start .args .named) (c .enum-told .given .1) (omega (arith, k .within, start .pre .1 .few, start .pre .3))
+    let k = rw e at t in
+    omega (arith, k .within, start .pre .1 .few, start .pre .3)
 
 same-length : tie.Need-same-length
 same-length c = search needs
