@@ -57,8 +57,8 @@ pub record Compared (small large : ℕ) (r : Bool) : Type 0 where
   pub holds : small < 32 ^ digits
   pub equal : inside (labelOf digits small) (labelOf digits large) ≡ r
 
-pub compared-ends : {large : ℕ} {r : Bool} → Compared 0 large r → true ≡ r
-compared-ends {large} x = sym (inside-none (x .digits) large) ∙ x .equal
+pub compared-end : {large : ℕ} {r : Bool} → Compared 0 large r → true ≡ r
+compared-end {large} x = sym (inside-none (x .digits) large) ∙ x .equal
 
 digits-positive : (k w : ℕ) → w < 32 ^ k → (w ≡ 0 → ⊥) → (j : ℕ) × (k ≡ suc j)
 digits-positive zero w h n = absurd (n (let k : w < 1 = h in omega arith))
@@ -75,12 +75,12 @@ one-digit {small} {large} {r} x n =
     let p = digits-positive (x .digits) small (x .holds) n in
     (p .0, rw (p .1) at (x .holds), split-digit (p .0) small large r (rw (p .1) at (x .equal)))
 
-pub compared-fails : {small large : ℕ} {r : Bool} → Compared small large r → (small ≡ 0 → ⊥) → large % 32 < small % 32 → false ≡ r
-compared-fails {small} {large} x n h = rw (lt-leb (small % 32) (large % 32) h) at (one-digit x n .2)
+pub compared-fail : {small large : ℕ} {r : Bool} → Compared small large r → (small ≡ 0 → ⊥) → large % 32 < small % 32 → false ≡ r
+compared-fail {small} {large} x n h = rw (lt-leb (small % 32) (large % 32) h) at (one-digit x n .2)
 
-pub compared-goes : {small large : ℕ} {r : Bool} → Compared small large r → (small ≡ 0 → ⊥) → small % 32 ≤ large % 32
+pub compared-step : {small large : ℕ} {r : Bool} → Compared small large r → (small ≡ 0 → ⊥) → small % 32 ≤ large % 32
     → Compared (small / 32) (large / 32) r
-compared-goes {small} {large} x n h =
+compared-step {small} {large} x n h =
     let p = one-digit x n in
     record { digits = p .0; holds = fewer-digits (p .0) small (p .1); equal = rw (le-leb (small % 32) (large % 32) h) at (p .2) }
 

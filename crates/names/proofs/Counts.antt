@@ -18,7 +18,8 @@ unfolding labelOf
 count-labelOf zero w n h = absurd (not-suc-le-zero h)
 count-labelOf (suc names) w zero h = rw (div-one w)
 count-labelOf (suc names) w (suc n) h =
-    count-labelOf names (w / 32) n (le-of-suc-le-suc h) ∙ ap (λ (x : ℕ). x % 32) (div-div-eq-div-mul w 32 (32 ^ n) ∙ ap (λ (x : ℕ). w / x) (sym (pow-succ' 32 n)))
+    count-labelOf names (w / 32) n (le-of-suc-le-suc h)
+    ∙ ap (λ (x : ℕ). x % 32) (div-div-eq-div-mul w 32 (32 ^ n) ∙ ap (λ (x : ℕ). w / x) (sym (pow-succ' 32 n)))
 
 pub word-count : (w n : ℕ) → n < 13 → count (bag w) n ≡ w / 2 ^ (5 * n) % 32
 word-count w n h = count-labelOf 13 w n h ∙ ap (λ (x : ℕ). w / x % 32) (sym (pow-mul 5 n))
@@ -30,7 +31,8 @@ number-cleared [] n h = absurd (not-suc-le-zero h)
 number-cleared (x ∷ a) zero h = let e = mul-one x in omega arith
 number-cleared (x ∷ a) (suc n) h =
     let ih = number-cleared a n (le-of-suc-le-suc h) in
-    let e : count a n * 32 ^ suc n ≡ 32 * (count a n * 32 ^ n) = rw (pow-suc 32 n) (sym (mul-assoc (count a n) (32 ^ n) 32) ∙ mul-comm (count a n * 32 ^ n) 32) in
+    let e : count a n * 32 ^ suc n ≡ 32 * (count a n * 32 ^ n) =
+    rw (pow-suc 32 n) (sym (mul-assoc (count a n) (32 ^ n) 32) ∙ mul-comm (count a n * 32 ^ n) 32) in
     omega arith
 
 pub number-less : (a : Label) (n : ℕ) → number (set a n 0) ≤ number a

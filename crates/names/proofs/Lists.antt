@@ -38,33 +38,35 @@ pub hidden-start : (names : List ℕ) (w : ℕ) → w < 2 ^ 64 → Hidden names 
 unfolding without
 hidden-start names w h = record { within = le-refl (length names); fits = h; hidden = rw (drop-of-length-le names (le-refl (length names))) }
 
-pub hidden-more : {names : List ℕ} {w i left n next : ℕ} → Hidden names w i left → 0 < i → n ≡ getD names (i - 1) 0
+pub hidden-step : {names : List ℕ} {w i left n next : ℕ} → Hidden names w i left → 0 < i → n ≡ getD names (i - 1) 0
     → next ≡ number (without (n ∷ []) (bag left)) → Hidden names w (i - 1) next
 unfolding without
-hidden-more {names} {w} {i} {left} {n} {next} x p e r = record {
+hidden-step {names} {w} {i} {left} {n} {next} x p e r = record {
   within = let h = x .within in omega arith;
   fits = let h = number-less (bag left) n in let k = number-bag left (x .fits) in let l = x .fits in omega arith;
   hidden = ap bag r ∙ bag-cleared left n ∙ ap (λ (a : Label). set a n 0) (x .hidden)
       ∙ sym (ap (λ (l : List ℕ). without l (bag w)) (from-before names i n p (x .within) e));
 }
 
-pub hidden-all : {names : List ℕ} {w i left : ℕ} → Hidden names w i left → i ≤ 0 → left ≡ number (without names (bag w))
-hidden-all {names} {w} {i} {left} x h =
+pub hidden-end : {names : List ℕ} {w i left : ℕ} → Hidden names w i left → i ≤ 0 → left ≡ number (without names (bag w))
+hidden-end {names} {w} {i} {left} x h =
     let z : i ≡ 0 = omega arith in
     sym (number-bag left (x .fits)) ∙ ap number (x .hidden) ∙ ap (λ (k : ℕ). number (without (drop k names) (bag w))) z
 
--- The names from the i-th on decide whether none occurs.
-pub clear-fails : (names : List ℕ) (a : Label) (i n : ℕ) → i < length names → n ≡ getD names i 0 → (count a n ≡ 0 → ⊥) → clear (drop i names) a ≡ false
-unfolding clear
-clear-fails names a i n h e k = rw (drop-cons names i 0 h, ← e, ne-eqb (count a n) 0 k)
+-- The names from the i-th on decide whether none occurs: the i-th occurs or does not, or there is none left.
+module _ (names : List ℕ) (a : Label) (i : ℕ) where
+  module _ {n : ℕ} (h : i < length names) (e : n ≡ getD names i 0) where
+    pub clear-fail : (count a n ≡ 0 → ⊥) → clear (drop i names) a ≡ false
+    unfolding clear
+    clear-fail k = rw (drop-cons names i 0 h, ← e, ne-eqb (count a n) 0 k)
 
-pub clear-goes : (names : List ℕ) (a : Label) (i n : ℕ) → i < length names → n ≡ getD names i 0 → count a n ≡ 0 → clear (drop (i + 1) names) a ≡ clear (drop i names) a
-unfolding clear
-clear-goes names a i n h e k = rw (add-one i, drop-cons names i 0 h, ← e, eq-eqb (count a n) 0 k)
+    pub clear-step : count a n ≡ 0 → clear (drop (i + 1) names) a ≡ clear (drop i names) a
+    unfolding clear
+    clear-step k = rw (add-one i, drop-cons names i 0 h, ← e, eq-eqb (count a n) 0 k)
 
-pub clear-ends : (names : List ℕ) (a : Label) (i : ℕ) → length names ≤ i → clear (drop i names) a ≡ true
-unfolding clear
-clear-ends names a i h = rw (drop-of-length-le names h)
+  pub clear-end : length names ≤ i → clear (drop i names) a ≡ true
+  unfolding clear
+  clear-end h = rw (drop-of-length-le names h)
 
 -- A map with one more name sent elsewhere is its list with one entry set.
 listed-equal : (more first : ℕ) (f g : ℕ → ℕ) → ((n : ℕ) → first ≤ n → f n ≡ g n) → listed more first f ≡ listed more first g
@@ -104,30 +106,30 @@ length-listed zero first f = refl
 length-listed (suc more) first f = ap suc (length-listed more (suc first) f)
 
 -- The list of a map before and after one more pair is read, the last first. An entry past the 12 names changes nothing.
-pub record Filled (pairs : List ℕ) (i : ℕ) (to : List ℕ) : Type 0 where
+pub record Directed (pairs : List ℕ) (i : ℕ) (to : List ℕ) : Type 0 where
   pub within : i ≤ length pairs
-  pub filled : to ≡ targets (pairsIn (drop i pairs))
+  pub directed : to ≡ targets (pairsIn (drop i pairs))
 
-pub filled-start : (pairs : List ℕ) → Filled pairs (length pairs) (0 ∷ 1 ∷ 2 ∷ 3 ∷ 4 ∷ 5 ∷ 6 ∷ 7 ∷ 8 ∷ 9 ∷ 10 ∷ 11 ∷ [])
+pub directed-start : (pairs : List ℕ) → Directed pairs (length pairs) (0 ∷ 1 ∷ 2 ∷ 3 ∷ 4 ∷ 5 ∷ 6 ∷ 7 ∷ 8 ∷ 9 ∷ 10 ∷ 11 ∷ [])
 unfolding listed target
-filled-start pairs = record { within = le-refl (length pairs); filled = rw (drop-of-length-le pairs (le-refl (length pairs))) }
+directed-start pairs = record { within = le-refl (length pairs); directed = rw (drop-of-length-le pairs (le-refl (length pairs))) }
 
-pub filled-more : {pairs : List ℕ} {i : ℕ} {to : List ℕ} (pair : ℕ) → Filled pairs i to → 0 < i → pair ≡ getD pairs (i - 1) 0
-    → Filled pairs (i - 1) (set to (pair % 32) (pair / 32))
-filled-more {pairs} {i} {to} pair x p e = record {
+pub directed-step : {pairs : List ℕ} {i : ℕ} {to : List ℕ} (pair : ℕ) → Directed pairs i to → 0 < i → pair ≡ getD pairs (i - 1) 0
+    → Directed pairs (i - 1) (set to (pair % 32) (pair / 32))
+directed-step {pairs} {i} {to} pair x p e = record {
   within = let h = x .within in omega arith;
-  filled = ap (λ (l : List ℕ). set l (pair % 32) (pair / 32)) (x .filled) ∙ set-target (pairsIn (drop i pairs)) (pairOf pair)
+  directed = ap (λ (l : List ℕ). set l (pair % 32) (pair / 32)) (x .directed) ∙ set-target (pairsIn (drop i pairs)) (pairOf pair)
       ∙ sym (ap (λ (l : List ℕ). targets (pairsIn l)) (from-before pairs i pair p (x .within) e));
 }
 
-pub filled-skips : {pairs : List ℕ} {i : ℕ} {to : List ℕ} (pair : ℕ) → Filled pairs i to → 0 < i → pair ≡ getD pairs (i - 1) 0
-    → 12 ≤ pair % 32 → Filled pairs (i - 1) to
-filled-skips {pairs} {i} {to} pair x p e h =
-    let l = ap length (x .filled) ∙ length-listed 12 0 (target (pairsIn (drop i pairs))) in
-    subst (Filled pairs (i - 1)) (set-out to (pair % 32) (pair / 32) (omega arith)) (filled-more pair x p e)
+pub directed-skip : {pairs : List ℕ} {i : ℕ} {to : List ℕ} (pair : ℕ) → Directed pairs i to → 0 < i → pair ≡ getD pairs (i - 1) 0
+    → 12 ≤ pair % 32 → Directed pairs (i - 1) to
+directed-skip {pairs} {i} {to} pair x p e h =
+    let l = ap length (x .directed) ∙ length-listed 12 0 (target (pairsIn (drop i pairs))) in
+    subst (Directed pairs (i - 1)) (set-out to (pair % 32) (pair / 32) (omega arith)) (directed-step pair x p e)
 
-pub filled-all : {pairs : List ℕ} {i : ℕ} {to : List ℕ} → Filled pairs i to → i ≤ 0 → to ≡ targets (pairsIn pairs)
-filled-all {pairs} {i} x h = let z : i ≡ 0 = omega arith in x .filled ∙ ap (λ (k : ℕ). targets (pairsIn (drop k pairs))) z
+pub directed-end : {pairs : List ℕ} {i : ℕ} {to : List ℕ} → Directed pairs i to → i ≤ 0 → to ≡ targets (pairsIn pairs)
+directed-end {pairs} {i} x h = let z : i ≡ 0 = omega arith in x .directed ∙ ap (λ (k : ℕ). targets (pairsIn (drop k pairs))) z
 
 -- A label renamed, its first i names done: what they weigh stands in `word`, and the counts of the others in `rest`.
 pub record Moved (to : ℕ → ℕ) (w i rest word : ℕ) : Type 0 where
@@ -153,26 +155,27 @@ weight n x = elim (decLt n 12) [
 pub weight-fits : (n x : ℕ) → x < 32 → x * number (several 12 n 1) ≤ 31 * 2 ^ 55
 weight-fits n x h = let k : x ≤ 31 = omega arith in mul-le-mul k (number-single n)
 
-moved-step : (to : ℕ → ℕ) (i more rest : ℕ)
-    → number (renamedFrom i 12 to (labelOf (suc more) rest)) ≡ rest % 32 * number (several 12 (to i) 1) + number (renamedFrom (suc i) 12 to (labelOf more (rest / 32)))
+number-renamedFrom : (to : ℕ → ℕ) (i more rest : ℕ)
+    → number (renamedFrom i 12 to (labelOf (suc more) rest))
+    ≡ rest % 32 * number (several 12 (to i) 1) + number (renamedFrom (suc i) 12 to (labelOf more (rest / 32)))
 unfolding renamedFrom labelOf
-moved-step to i more rest =
+number-renamedFrom to i more rest =
     number-plus (several 12 (to i) (rest % 32)) (renamedFrom (suc i) 12 to (labelOf more (rest / 32)))
     ∙ ap (λ (x : ℕ). x + number (renamedFrom (suc i) 12 to (labelOf more (rest / 32)))) (weight (to i) (rest % 32))
 
-pub moved-more : {to : ℕ → ℕ} {w i rest word : ℕ} → Moved to w i rest word → i < 12
+pub moved-step : {to : ℕ → ℕ} {w i rest word : ℕ} → Moved to w i rest word → i < 12
     → Moved to w (i + 1) (rest / 32) (word + rest % 32 * number (several 12 (to i) 1))
-moved-more {to} {w} {i} {rest} {word} x h =
+moved-step {to} {w} {i} {rest} {word} x h =
     let more : 12 - i ≡ suc (12 - (i + 1)) = omega arith in
-    let e = rw (more, moved-step to i (12 - (i + 1)) rest, ← add-one i) at (x .moved) in
+    let e = rw (more, number-renamedFrom to i (12 - (i + 1)) rest, ← add-one i) at (x .moved) in
     record { within = omega arith; fits = let k = weight-fits (to i) (rest % 32) (omega arith) in let l = x .fits in omega arith; moved = omega arith }
 
 renamed-none : (to : ℕ → ℕ) (i rest : ℕ) → number (renamedFrom i 12 to (labelOf 0 rest)) ≡ 0
 unfolding renamedFrom labelOf number
 renamed-none to i rest = refl
 
-pub moved-all : {to : ℕ → ℕ} {w i rest word : ℕ} → Moved to w i rest word → 12 ≤ i → word ≡ number (renamed 12 to (labelOf 12 w))
-moved-all {to} {w} {i} {rest} {word} x h =
+pub moved-end : {to : ℕ → ℕ} {w i rest word : ℕ} → Moved to w i rest word → 12 ≤ i → word ≡ number (renamed 12 to (labelOf 12 w))
+moved-end {to} {w} {i} {rest} {word} x h =
     let t : i ≡ 12 = let l = x .within in omega arith in
     let e = rw t at (x .moved) in
     let z = renamed-none to 12 rest in
@@ -180,7 +183,7 @@ moved-all {to} {w} {i} {rest} {word} x h =
 
 renamed-zero : (to : ℕ → ℕ) (i more : ℕ) → number (renamedFrom i 12 to (labelOf more 0)) ≡ 0
 renamed-zero to i zero = renamed-none to i 0
-renamed-zero to i (suc more) = moved-step to i more 0 ∙ ap₂ _+_ (zero-mul (number (several 12 (to i) 1))) (renamed-zero to (suc i) more)
+renamed-zero to i (suc more) = number-renamedFrom to i more 0 ∙ ap₂ _+_ (zero-mul (number (several 12 (to i) 1))) (renamed-zero to (suc i) more)
 
 -- nothing is left to be moved
 pub moved-early : {to : ℕ → ℕ} {w i rest word : ℕ} → Moved to w i rest word → rest ≡ 0 → word ≡ number (renamed 12 to (labelOf 12 w))

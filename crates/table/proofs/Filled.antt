@@ -98,7 +98,9 @@ module _ (size at k : ℕ) (ts : List D.Term) (a : at ≡ 32 * length ts) (e : s
   store = filled size 0 (termsWords ts)
 
   free : store ≡ termsWords ts ++ (filled 32 0 [] ++ filled k 0 [])
-  free = let l = length-termsWords ts in filled-after 0 size (32 + k) (termsWords ts) (omega arith) ∙ ap (λ r. termsWords ts ++ r) (filled-two 0 (32 + k) 32 k refl)
+  free =
+      let l = length-termsWords ts in
+      filled-after 0 size (32 + k) (termsWords ts) (omega arith) ∙ ap (λ r. termsWords ts ++ r) (filled-two 0 (32 + k) 32 k refl)
 
   after-terms : drop at store ≡ filled 32 0 [] ++ filled k 0 []
   after-terms = let l = length-termsWords ts in rw free (drop-at (termsWords ts) (filled 32 0 [] ++ filled k 0 []) at (omega arith))

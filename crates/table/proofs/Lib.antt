@@ -1,6 +1,6 @@
 -- Laws of the table and its list store.
 
--- past-end, all-left: parts of a list that reach past its end
+-- take-drop-past, take-drop-all: parts of a list that reach past its end
 pub mod Parts
 -- shift-pow: a number shifted up in a word
 pub mod Shifts

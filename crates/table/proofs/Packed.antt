@@ -30,12 +30,16 @@ rising-pairs m ps low up = omega (arith, rising-few m (map (λ p. p .left) ps) u
 
 -- The terms of a legal description: every number of theirs is small.
 module _ (d : D.Description) (narrow : D.names d ≤ 12) (few : D.equations d ≤ 16) (n : ℕ) (h : n < 96) where
-  wrap-back : (o : D.Operator) (u : ℕ) → u < n → LegalOperator (D.names d) o → wordTerm (termWord (termFor n (D.wrap o u))) ≡ termFor n (D.wrap o u)
-  wrap-back (D.block ns) u b l = wordTerm-small 12 (32 * n) u (length ns) (omega arith) (omega arith) (omega arith) (omega (arith, rising-few (D.names d) ns (l .2) (l .1)))
-  wrap-back (D.hide ns) u b l = wordTerm-small 13 (32 * n) u (length ns) (omega arith) (omega arith) (omega arith) (omega (arith, rising-few (D.names d) ns (l .2) (l .1)))
-  wrap-back (D.rename ps) u b l = wordTerm-small 14 (32 * n) u (length ps) (omega arith) (omega arith) (omega arith) (omega (arith, rising-pairs (D.names d) ps (l .1) (l .2)))
-  wrap-back (D.comm rs) u b l = wordTerm-small 15 (32 * n) u (length rs) (omega arith) (omega arith) (omega arith) (omega (arith, l .1))
-  wrap-back (D.allow ls) u b l = wordTerm-small 16 (32 * n) u (length ls) (omega arith) (omega arith) (omega arith) (omega (arith, l .0))
+  listed-back : (k u entries : ℕ) → k < 32 → u < n → entries ≤ 32 → wordTerm (packed k (32 * n) u entries) ≡ kindTerm k (32 * n) u entries
+  listed-back k u entries s b e = wordTerm-small k (32 * n) u entries s (omega arith) (omega arith) (omega arith)
+
+  wrap-back : (o : D.Operator) (u : ℕ) → u < n → LegalOperator (D.names d) o
+      → wordTerm (termWord (termFor n (D.wrap o u))) ≡ termFor n (D.wrap o u)
+  wrap-back (D.block ns) u b l = listed-back 12 u (length ns) (omega arith) b (omega (arith, rising-few (D.names d) ns (l .2) (l .1)))
+  wrap-back (D.hide ns) u b l = listed-back 13 u (length ns) (omega arith) b (omega (arith, rising-few (D.names d) ns (l .2) (l .1)))
+  wrap-back (D.rename ps) u b l = listed-back 14 u (length ps) (omega arith) b (omega (arith, rising-pairs (D.names d) ps (l .1) (l .2)))
+  wrap-back (D.comm rs) u b l = listed-back 15 u (length rs) (omega arith) b (omega (arith, l .1))
+  wrap-back (D.allow ls) u b l = listed-back 16 u (length ls) (omega arith) b (omega (arith, l .0))
 
   two-back : (k t u : ℕ) → k < 32 → (t < n) × (u < n) → wordTerm (packed k t u 0) ≡ kindTerm k t u 0
   two-back k t u s b = wordTerm-small k t u 0 s (omega (arith, b .0)) (omega (arith, b .1)) (omega arith)

@@ -7,11 +7,11 @@ use native.Mathlib.Omega.{arith}
 use lib.ListN.{length, take, drop, length-drop, drop-of-length-le}
 use lib.Seq.{take-all, take-nil}
 
-pub past-end : (l : List ℕ) (at n : ℕ) → length l ≤ at → [] ≡ take n (drop at l)
-past-end l at n h = sym (ap (take n) (drop-of-length-le l h) ∙ take-nil n)
+pub take-drop-past : (l : List ℕ) (at n : ℕ) → length l ≤ at → [] ≡ take n (drop at l)
+take-drop-past l at n h = sym (ap (take n) (drop-of-length-le l h) ∙ take-nil n)
 
 -- two counts that both take all there is
-pub all-left : (l : List ℕ) (at m n : ℕ) → length l - at ≤ m → length l - at ≤ n → take m (drop at l) ≡ take n (drop at l)
-all-left l at m n p q =
+pub take-drop-all : (l : List ℕ) (at m n : ℕ) → length l - at ≤ m → length l - at ≤ n → take m (drop at l) ≡ take n (drop at l)
+take-drop-all l at m n p q =
     let e = length-drop at l in
     take-all m (drop at l) (omega arith) ∙ sym (take-all n (drop at l) (omega arith))

@@ -35,11 +35,11 @@ unfolding filled
 filled-whole x [] = refl
 filled-whole x (y ∷ ys) = ap (λ (l : List _). y ∷ l) (filled-whole x ys)
 
-filled-taken : {A : Type 0} (n : ℕ) (x : A) (xs : List A) → n ≤ length xs → filled n x xs ≡ take n xs
+filled-take : {A : Type 0} (n : ℕ) (x : A) (xs : List A) → n ≤ length xs → filled n x xs ≡ take n xs
 unfolding filled
-filled-taken zero x xs h = refl
-filled-taken (suc n) x [] h = absurd (omega arith)
-filled-taken (suc n) x (y ∷ ys) h = ap (λ (l : List _). y ∷ l) (filled-taken n x ys (omega arith))
+filled-take zero x xs h = refl
+filled-take (suc n) x [] h = absurd (omega arith)
+filled-take (suc n) x (y ∷ ys) h = ap (λ (l : List _). y ∷ l) (filled-take n x ys (omega arith))
 
 pub getD-filled : {A : Type 0} (n : ℕ) (x z : A) (xs : List A) (i : ℕ) → i < n → i < length xs → getD (filled n x xs) i z ≡ getD xs i z
 unfolding filled
@@ -62,20 +62,24 @@ first-whole : (count : ℕ) (ws : List ℕ) → length ws ≡ count → count �
 first-whole count ws e small = take-filled count 32 0 ws small ∙ ap (λ (m : ℕ). filled m 0 ws) (sym e) ∙ filled-whole 0 ws
 
 module _ (d : D.Description) (o : D.Order) where
-  pub term-words : (n count : ℕ) → n < D.termCount d → D.termCount d ≤ 96 → length (termWords (D.termAt d n)) ≡ count → count ≤ 32
+  pub term-words : (n count : ℕ) → n < D.termCount d → D.termCount d ≤ 96
+      → length (termWords (D.termAt d n)) ≡ count → count ≤ 32
       → take count (drop (32 * n) (storeOf d o)) ≡ termWords (D.termAt d n)
   unfolding storeOf termsWords
   term-words n count h few e small =
       let all = filled 3072 0 (termsWords (d .terms)) in
       let long = length-filled 0 3072 (termsWords (d .terms)) in
       let ws = termWords (D.termAt d n) in
+      let later = termsWords (drop (suc n) (d .terms)) in
+      let here : drop (32 * n) (termsWords (d .terms)) ≡ filled 32 0 ws ++ later =
+      drop-terms n (d .terms) ∙ ap termsWords (drop-cons (d .terms) n D.delta h) in
       let inside = length-drop (32 * n) all in
       ap (take count) (drop-append-le (32 * n) all (filled 32 0 (orderWords o)) (omega arith))
       ∙ take-append-le count (drop (32 * n) all) (filled 32 0 (orderWords o)) (omega arith)
-      ∙ ap (take count) (drop-filled (32 * n) 3072 0 (termsWords (d .terms)) ∙ ap (filled (3072 - 32 * n) 0) (drop-terms n (d .terms) ∙ ap termsWords (drop-cons (d .terms) n D.delta h)))
-      ∙ take-filled count (3072 - 32 * n) 0 (filled 32 0 ws ++ termsWords (drop (suc n) (d .terms))) (omega arith)
-      ∙ filled-taken count 0 (filled 32 0 ws ++ termsWords (drop (suc n) (d .terms))) (omega (arith, length-filled 0 32 ws, length-append (filled 32 0 ws) (termsWords (drop (suc n) (d .terms)))))
-      ∙ take-append-le count (filled 32 0 ws) (termsWords (drop (suc n) (d .terms))) (omega (arith, length-filled 0 32 ws))
+      ∙ ap (take count) (drop-filled (32 * n) 3072 0 (termsWords (d .terms)) ∙ ap (filled (3072 - 32 * n) 0) here)
+      ∙ take-filled count (3072 - 32 * n) 0 (filled 32 0 ws ++ later) (omega arith)
+      ∙ filled-take count 0 (filled 32 0 ws ++ later) (omega (arith, length-filled 0 32 ws, length-append (filled 32 0 ws) later))
+      ∙ take-append-le count (filled 32 0 ws) later (omega (arith, length-filled 0 32 ws))
       ∙ first-whole count ws e small
 
   pub order-words : (count : ℕ) → length (orderWords o) ≡ count → count ≤ 32 → take count (drop 3072 (storeOf d o)) ≡ orderWords o

@@ -25,9 +25,11 @@ same-length c = c .before .before .loop .inv .1
 
 returns : tie.Need-returns Inv-loop μ-loop
 returns c =
-    let area₀ = c .before .before .before .args .area .now in
-    let h : length area₀ ≤ c .before .before .loop .i = omega (arith, c .before .before .loop .inv .1, c .if1 .taken) in
-    c .before .before .loop .inv .0 ∙ sym (zeroed-all (c .before .before .loop .i) (c .before .before .before .args .count) area₀ h (omega (arith, c .before .before .loop .inv .2)))
+    let a = c .before .before .before .args in
+    let area₀ = a .area .now in
+    let l = c .before .before .loop in
+    let h : length area₀ ≤ l .i = omega (arith, l .inv .1, c .if1 .taken) in
+    l .inv .0 ∙ sym (zeroed-all (l .i) (a .count) area₀ h (omega (arith, l .inv .2)))
 
 mul-area : tie.Need-mul-area Inv-loop μ-loop
 mul-area c = omega arith
@@ -43,18 +45,22 @@ loop-less c = omega arith
 
 loop-again : tie.Need-loop-again Inv-loop μ-loop
 loop-again c =
-    let area = c .before .before .loop .area in
     let area₀ = c .before .before .before .args .area .now in
-    let i = c .before .before .loop .i in
-    (rw (c .before .before .loop .inv .0, add-one i) (zeroed-set i area₀), length-set area i 0 ∙ c .before .before .loop .inv .1, omega (arith, c .before .loop-test .taken))
+    let l = c .before .before .loop in (
+      rw (l .inv .0, add-one (l .i)) (zeroed-set (l .i) area₀),
+      length-set (l .area) (l .i) 0 ∙ l .inv .1,
+      omega (arith, c .before .loop-test .taken),
+    )
 
 same-length-2 : tie.Need-same-length-2 Inv-loop μ-loop
 same-length-2 c = c .before .loop .inv .1
 
 returns-2 : tie.Need-returns-2 Inv-loop μ-loop
 returns-2 c =
-    let end : c .before .loop .i ≡ c .before .before .args .count = omega (arith, c .before .loop .inv .2, c .loop-test) in
-    c .before .loop .inv .0 ∙ ap (λ (i : ℕ). zeroed i (c .before .before .args .area .now)) end
+    let a = c .before .before .args in
+    let l = c .before .loop in
+    let end : l .i ≡ a .count = omega (arith, l .inv .2, c .loop-test) in
+    l .inv .0 ∙ ap (λ (i : ℕ). zeroed i (a .area .now)) end
 
 pub clear-spec : {M : Type 1} → statement M
 clear-spec =

@@ -7,7 +7,7 @@ use borrow.Author.Needs.{needs}
 use lib.ListN.{length, drop}
 use Rattle.meaning.specs.Labels.{clear}
 use Rattle.labels.specs.Bags.{bag}
-use Rattle.names.proofs.Lists.{clear-fails, clear-goes, clear-ends}
+use Rattle.names.proofs.Lists.{clear-fail, clear-step, clear-end}
 use Rattle.names.proofs.clear.Statement.{statement}
 use Rattle.names.proofs.clear.Tie as tie
 
@@ -28,9 +28,11 @@ count-requires c κs = search needs
 
 returns : tie.Need-returns Inv-loop μ-loop
 returns c =
-    let d = c .before .before .before .before .before .before .args in
-    sym (clear-fails (d .names .now) (bag (d .a .word)) (c .before .before .before .before .loop .i) (c .before .before .word-at .result) (c .before .before .before .loop-test .taken)
-    (c .before .before .word-at .ensures) (λ z. c .if1 .taken (c .before .count .ensures .exact ∙ z))) ∙ c .before .before .before .before .loop .inv
+    let read = c .before .before in
+    let l = read .before .before .loop in
+    let a = read .before .before .before .before .args in
+    let some = clear-fail (a .names .now) (bag (a .a .word)) (l .i) (read .before .loop-test .taken) (read .word-at .ensures) in
+    sym (some (λ z. c .if1 .taken (c .before .count .ensures .exact ∙ z))) ∙ l .inv
 
 add-i : tie.Need-add-i Inv-loop μ-loop
 add-i c = omega arith
@@ -40,14 +42,17 @@ loop-less c = omega arith
 
 loop-again : tie.Need-loop-again Inv-loop μ-loop
 loop-again c =
-    let d = c .before .before .before .before .before .before .args in
-    clear-goes (d .names .now) (bag (d .a .word)) (c .before .before .before .before .loop .i) (c .before .before .word-at .result) (c .before .before .before .loop-test .taken)
-    (c .before .before .word-at .ensures) (sym (c .before .count .ensures .exact) ∙ c .if1 .left) ∙ c .before .before .before .before .loop .inv
+    let read = c .before .before in
+    let l = read .before .before .loop in
+    let a = read .before .before .before .before .args in
+    let none = sym (c .before .count .ensures .exact) ∙ c .if1 .left in
+    clear-step (a .names .now) (bag (a .a .word)) (l .i) (read .before .loop-test .taken) (read .word-at .ensures) none ∙ l .inv
 
 returns-2 : tie.Need-returns-2 Inv-loop μ-loop
 returns-2 c =
-    let d = c .before .before .before .args in
-    sym (clear-ends (d .names .now) (bag (d .a .word)) (c .before .loop .i) (c .loop-test .left)) ∙ c .before .loop .inv
+    let l = c .before .loop in
+    let a = c .before .before .before .args in
+    sym (clear-end (a .names .now) (bag (a .a .word)) (l .i) (c .loop-test .left)) ∙ l .inv
 
 pub clear-spec : {M : Type 1} → statement M
 clear-spec =

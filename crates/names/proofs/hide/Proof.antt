@@ -4,7 +4,7 @@ use mathlib.Core.Path.{ap}
 use native.Mathlib.Omega.{arith}
 use borrow.Author.Needs.{needs}
 use Rattle.labels.specs.Packing.{packed}
-use Rattle.names.proofs.Lists.{Hidden, hidden-start, hidden-more, hidden-all}
+use Rattle.names.proofs.Lists.{Hidden, hidden-start, hidden-step, hidden-end}
 use Rattle.names.proofs.hide.Statement.{statement}
 use Rattle.names.proofs.hide.Tie as tie
 
@@ -30,10 +30,12 @@ loop-less : tie.Need-loop-less Inv-loop μ-loop
 loop-less c = omega arith
 
 loop-again : tie.Need-loop-again Inv-loop μ-loop
-loop-again c = hidden-more (c .before .before .before .loop .inv) (c .before .before .loop-test .taken) (c .before .word-at .ensures) (ap (λ x. x .word) (c .hide-one .ensures))
+loop-again c =
+    let so-far = c .before .before .before .loop .inv in
+    hidden-step so-far (c .before .before .loop-test .taken) (c .before .word-at .ensures) (ap (λ x. x .word) (c .hide-one .ensures))
 
 returns : tie.Need-returns Inv-loop μ-loop
-returns c = ap packed (hidden-all (c .before .loop .inv) (c .loop-test .left))
+returns c = ap packed (hidden-end (c .before .loop .inv) (c .loop-test .left))
 
 pub hide-spec : {M : Type 1} → statement M
 hide-spec =

@@ -6,7 +6,7 @@ use native.Mathlib.Omega.{arith}
 use borrow.Author.Needs.{needs}
 use lib.ListN.{getD}
 use Rattle.labels.specs.Packing.{packed}
-use Rattle.names.proofs.Lists.{Moved, moved-start, moved-more, moved-early, moved-all, weight-fits}
+use Rattle.names.proofs.Lists.{Moved, moved-start, moved-step, moved-early, moved-end, weight-fits}
 use Rattle.names.proofs.rename.Statement.{statement}
 use Rattle.names.proofs.rename.Tie as tie
 
@@ -32,10 +32,12 @@ single-requires : tie.Need-single-requires Inv-loop μ-loop
 single-requires c κs = search needs
 
 -- what the i-th name adds
-added : (c : tie.After-struct-known Inv-loop μ-loop) → c .before .before .before .before .loop .rest % 32 * c .before .single .result .word ≤ 31 * 2 ^ 55
+added : (c : tie.After-struct-known Inv-loop μ-loop)
+    → c .before .before .before .before .loop .rest % 32 * c .before .single .result .word ≤ 31 * 2 ^ 55
 added c =
-    rw (ap (λ x. x .word) (c .before .single .ensures))
-    (weight-fits (getD (c .before .before .before .before .before .args .t2) (c .before .before .before .before .loop .i) 0) (c .before .before .before .before .loop .rest % 32) (omega arith))
+    let so-far = c .before .before .before .before in
+    let to = so-far .before .args .t2 in
+    rw (ap (λ x. x .word) (c .before .single .ensures)) (weight-fits (getD to (so-far .loop .i) 0) (so-far .loop .rest % 32) (omega arith))
 
 mul-word : tie.Need-mul-word Inv-loop μ-loop
 mul-word c = omega (arith, added c)
@@ -50,10 +52,12 @@ loop-less : tie.Need-loop-less Inv-loop μ-loop
 loop-less c = omega arith
 
 loop-again : tie.Need-loop-again Inv-loop μ-loop
-loop-again c = rw (ap (λ x. x .word) (c .before .single .ensures)) (moved-more (c .before .before .before .before .loop .inv) (c .before .before .before .loop-test .taken))
+loop-again c =
+    let tested = c .before .before .before in
+    rw (ap (λ x. x .word) (c .before .single .ensures)) (moved-step (tested .before .loop .inv) (tested .loop-test .taken))
 
 returns-2 : tie.Need-returns-2 Inv-loop μ-loop
-returns-2 c = ap packed (moved-all (c .before .loop .inv) (c .loop-test .left))
+returns-2 c = ap packed (moved-end (c .before .loop .inv) (c .loop-test .left))
 
 pub rename-spec : {M : Type 1} → statement M
 rename-spec =

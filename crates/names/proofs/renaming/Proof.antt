@@ -2,18 +2,18 @@
 -- measure is i. Assumes nothing.
 use native.Mathlib.Omega.{arith}
 use borrow.Author.Needs.{needs}
-use Rattle.names.proofs.Lists.{Filled, filled-start, filled-more, filled-skips, filled-all}
+use Rattle.names.proofs.Lists.{Directed, directed-start, directed-step, directed-skip, directed-end}
 use Rattle.names.proofs.renaming.Statement.{statement}
 use Rattle.names.proofs.renaming.Tie as tie
 
 abbrev Inv-loop : tie.InvT-loop
-Inv-loop pairs to₀ i₀ to i = Filled pairs i to
+Inv-loop pairs to₀ i₀ to i = Directed pairs i to
 
 abbrev μ-loop : tie.MeasureT-loop
 μ-loop pairs to₀ i₀ to i = i
 
 loop-holds : tie.Need-loop-holds Inv-loop μ-loop
-loop-holds c = filled-start (c .before .args .pairs .now)
+loop-holds c = directed-start (c .before .args .pairs .now)
 
 sub-i : tie.Need-sub-i Inv-loop μ-loop
 sub-i c = search needs
@@ -32,18 +32,18 @@ loop-less c = omega arith
 
 loop-again : tie.Need-loop-again Inv-loop μ-loop
 loop-again c =
-    filled-more (c .before .word-at .result) (c .before .before .before .loop .inv) (c .before .before .loop-test .taken) (c .before .word-at .ensures)
+    directed-step (c .before .word-at .result) (c .before .before .before .loop .inv) (c .before .before .loop-test .taken) (c .before .word-at .ensures)
 
 loop-less-2 : tie.Need-loop-less-2 Inv-loop μ-loop
 loop-less-2 c = omega arith
 
 loop-again-2 : tie.Need-loop-again-2 Inv-loop μ-loop
 loop-again-2 c =
-    filled-skips (c .before .word-at .result) (c .before .before .before .loop .inv) (c .before .before .loop-test .taken) (c .before .word-at .ensures)
+    directed-skip (c .before .word-at .result) (c .before .before .before .loop .inv) (c .before .before .loop-test .taken) (c .before .word-at .ensures)
     (c .if1 .left)
 
 returns : tie.Need-returns Inv-loop μ-loop
-returns c = filled-all (c .before .loop .inv) (c .loop-test .left)
+returns c = directed-end (c .before .loop .inv) (c .loop-test .left)
 
 pub renaming-spec : {M : Type 1} → statement M
 renaming-spec =

@@ -4,7 +4,7 @@ use mathlib.Core.Path.{refl}
 use native.Mathlib.Omega.{arith}
 use Rattle.meaning.specs.Labels.{inside}
 use Rattle.labels.specs.Bags.{bag}
-use Rattle.labels.proofs.Words.{Compared, compared-ends, compared-fails, compared-goes}
+use Rattle.labels.proofs.Words.{Compared, compared-end, compared-fail, compared-step}
 use Rattle.labels.proofs.bags.inside.Statement.{statement}
 use Rattle.labels.proofs.bags.inside.Tie as tie
 
@@ -18,16 +18,16 @@ loop-holds : tie.Need-loop-holds Inv-loop μ-loop
 loop-holds c = record { digits = 13; holds = omega arith; equal = refl }
 
 returns : tie.Need-returns Inv-loop μ-loop
-returns c = compared-fails (c .before .before .loop .inv) (c .before .loop-test .taken) (c .if1 .taken)
+returns c = compared-fail (c .before .before .loop .inv) (c .before .loop-test .taken) (c .if1 .taken)
 
 loop-less : tie.Need-loop-less Inv-loop μ-loop
 loop-less c = let n = c .before .loop-test .taken in omega arith
 
 loop-again : tie.Need-loop-again Inv-loop μ-loop
-loop-again c = compared-goes (c .before .before .loop .inv) (c .before .loop-test .taken) (c .if1 .left)
+loop-again c = compared-step (c .before .before .loop .inv) (c .before .loop-test .taken) (c .if1 .left)
 
 returns-2 : tie.Need-returns-2 Inv-loop μ-loop
-returns-2 c = compared-ends (rw (c .loop-test .left) at (c .before .loop .inv))
+returns-2 c = compared-end (rw (c .loop-test .left) at (c .before .loop .inv))
 
 pub inside-spec : {M : Type 1} → statement M
 inside-spec =

@@ -1,4 +1,5 @@
 -- `labels::bags::sum` meets its contract. Assumes nothing.
+use Prim.Native.Nat.{_+_}
 use native.Mathlib.Omega.{arith}
 use borrow.Author.Needs.{needs}
 use borrow.Author.Tests.{lt-ltb, le-ltb}
@@ -23,13 +24,18 @@ wrapping-add-u64-requires c κs = search needs
 
 returns : tie.Need-returns
 unfolding sumOf
-returns c = rw (← c .before .before .size .ensures, ← c .before .size2 .ensures, lt-ltb _ _ (c .if1 .taken))
+returns c =
+    let both = c .before in
+    let actions = both .before .size .result + both .size2 .result in
+    rw (← both .before .size .ensures, ← both .size2 .ensures, lt-ltb 31 actions (omega (arith, c .if1 .taken)))
 
 returns-2 : tie.Need-returns-2
 unfolding sumOf
 returns-2 c =
-    let sizes = c .before .before in
-    rw (← sizes .before .size .ensures, ← sizes .size2 .ensures, le-ltb _ _ (c .before .if1 .left), ← c .wrapping-add-u64 .ensures)
+    let both = c .before .before in
+    let actions = both .before .size .result + both .size2 .result in
+    let few = le-ltb 31 actions (omega (arith, c .before .if1 .left)) in
+    rw (← both .before .size .ensures, ← both .size2 .ensures, few, ← c .wrapping-add-u64 .ensures)
 
 pub sum-spec : {M : Type 1} → statement M
 sum-spec =

@@ -119,4 +119,8 @@ returns-13 c = rw (c .before .before .x11 .given .1) (c .pack-operator .ensures)
 pub pack-spec : {M : Type 1} → statement M
 pack-spec =
     tie.close
-    (tie.spec enum-told enum-told-2 enum-known-x packed-requires enum-known-x-2 packed-requires-2 enum-known-x-3 packed-requires-3 enum-known-x-4 packed-requires-4 enum-known-x-5 packed-requires-5 enum-known-x-6 packed-requires-6 enum-known-x-7 packed-requires-7 enum-known-x-8 packed-requires-8 enum-known-x-9 packed-requires-9 enum-known-x-10 packed-requires-10 enum-known-x-11 pack-operator-requires returns returns-2 returns-3 returns-4 returns-5 returns-6 returns-7 returns-8 returns-9 returns-10 returns-11 returns-12 returns-13)
+    (tie.spec enum-told enum-told-2 enum-known-x packed-requires enum-known-x-2 packed-requires-2 enum-known-x-3 packed-requires-3
+    enum-known-x-4 packed-requires-4 enum-known-x-5 packed-requires-5 enum-known-x-6 packed-requires-6 enum-known-x-7 packed-requires-7
+    enum-known-x-8 packed-requires-8 enum-known-x-9 packed-requires-9 enum-known-x-10 packed-requires-10
+    enum-known-x-11 pack-operator-requires
+    returns returns-2 returns-3 returns-4 returns-5 returns-6 returns-7 returns-8 returns-9 returns-10 returns-11 returns-12 returns-13)

@@ -52,4 +52,5 @@ returns-5 c = rw (c .before .before .o5 .given .1) (c .packed5 .ensures)
 pub pack-operator-spec : {M : Type 1} → statement M
 pack-operator-spec =
     tie.close
-    (tie.spec enum-known-o packed-requires enum-known-o-2 packed-requires-2 enum-known-o-3 packed-requires-3 enum-known-o-4 packed-requires-4 enum-known-o-5 packed-requires-5 returns returns-2 returns-3 returns-4 returns-5)
+    (tie.spec enum-known-o packed-requires enum-known-o-2 packed-requires-2 enum-known-o-3 packed-requires-3
+    enum-known-o-4 packed-requires-4 enum-known-o-5 packed-requires-5 returns returns-2 returns-3 returns-4 returns-5)

@@ -41,7 +41,21 @@ returns-12 : tie.Need-returns-12
 returns-12 c =
     let k = c .before .args .k in
     let r = c .match .rest in
-    rw (ne-eqb k 1 (r .0 .0 .0 .0 .0 .0 .0 .0 .0 .0 .1), ne-eqb k 2 (r .0 .0 .0 .0 .0 .0 .0 .0 .0 .1), ne-eqb k 3 (r .0 .0 .0 .0 .0 .0 .0 .0 .1), ne-eqb k 4 (r .0 .0 .0 .0 .0 .0 .0 .1), ne-eqb k 5 (r .0 .0 .0 .0 .0 .0 .1), ne-eqb k 6 (r .0 .0 .0 .0 .0 .1), ne-eqb k 7 (r .0 .0 .0 .0 .1), ne-eqb k 8 (r .0 .0 .0 .1), ne-eqb k 9 (r .0 .0 .1), ne-eqb k 10 (r .0 .1), ne-eqb k 11 (r .1))
+    rw (
+      ne-eqb k 1 (r .0 .0 .0 .0 .0 .0 .0 .0 .0 .0 .1),
+      ne-eqb k 2 (r .0 .0 .0 .0 .0 .0 .0 .0 .0 .1),
+      ne-eqb k 3 (r .0 .0 .0 .0 .0 .0 .0 .0 .1),
+      ne-eqb k 4 (r .0 .0 .0 .0 .0 .0 .0 .1),
+      ne-eqb k 5 (r .0 .0 .0 .0 .0 .0 .1),
+      ne-eqb k 6 (r .0 .0 .0 .0 .0 .1),
+      ne-eqb k 7 (r .0 .0 .0 .0 .1),
+      ne-eqb k 8 (r .0 .0 .0 .1),
+      ne-eqb k 9 (r .0 .0 .1),
+      ne-eqb k 10 (r .0 .1),
+      ne-eqb k 11 (r .1),
+    )
 
 pub plain-spec : {M : Type 1} → statement M
-plain-spec = tie.close (tie.spec returns returns-2 returns-3 returns-4 returns-5 returns-6 returns-7 returns-8 returns-9 returns-10 returns-11 returns-12)
+plain-spec =
+    tie.close
+    (tie.spec returns returns-2 returns-3 returns-4 returns-5 returns-6 returns-7 returns-8 returns-9 returns-10 returns-11 returns-12)

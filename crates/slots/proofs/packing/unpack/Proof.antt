@@ -21,7 +21,9 @@ operator-requires c κs = tt
 
 returns-2 : tie.Need-returns-2
 unfolding wordTerm
-returns-2 c = rw (le-ltb _ _ (c .before .if1 .left)) (ap (λ (o : Operator). Wrap o (c .before .before .args .w / 2097152 % 65536)) (c .operator .ensures))
+returns-2 c =
+    let w = c .before .before .args .w in
+    rw (le-ltb _ _ (c .before .if1 .left)) (ap (λ (o : Operator). Wrap o (w / 2097152 % 65536)) (c .operator .ensures))
 
 pub unpack-spec : {M : Type 1} → statement M
 unpack-spec = tie.close (tie.spec plain-requires returns operator-requires returns-2)

@@ -1,6 +1,6 @@
 -- `table::lists::part_of` meets its contract.
 -- Assumes nothing.
-use Rattle.table.proofs.Parts.{past-end, all-left}
+use Rattle.table.proofs.Parts.{take-drop-past, take-drop-all}
 use native.Mathlib.Omega.{arith}
 use native.Mathlib.Nat.{add-sub-cancel-left}
 use Prim.Native.Nat.{_-_}
@@ -13,7 +13,9 @@ slice-aggregate-result : tie.Need-slice-aggregate-result
 slice-aggregate-result c = search needs
 
 returns : tie.Need-returns
-returns c = past-end (c .before .before .args .store .now) (c .before .before .args .at) (c .before .before .args .count) (omega arith)
+returns c =
+    let a = c .before .before .args in
+    take-drop-past (a .store .now) (a .at) (a .count) (omega arith)
 
 sub-if2 : tie.Need-sub-if2
 sub-if2 c = search needs
@@ -34,7 +36,9 @@ part-result-end : tie.Need-part-result-end
 part-result-end c = search needs
 
 returns-2 : tie.Need-returns-2
-returns-2 c = rw (add-sub-cancel-left (c .before .before .before .args .at) (c .before .before .before .args .count))
+returns-2 c =
+    let a = c .before .before .before .args in
+    rw (add-sub-cancel-left (a .at) (a .count))
 
 mul-result-2 : tie.Need-mul-result-2
 mul-result-2 c = search needs
@@ -49,7 +53,10 @@ part-result-end-2 : tie.Need-part-result-end-2
 part-result-end-2 c = search needs
 
 returns-3 : tie.Need-returns-3
-returns-3 c = all-left (c .before .before .before .args .store .now) (c .before .before .before .args .at) (length (c .before .before .before .args .store .now) - c .before .before .before .args .at) (c .before .before .before .args .count) (omega arith) (omega arith)
+returns-3 c =
+    let a = c .before .before .before .args in
+    let store = a .store .now in
+    take-drop-all store (a .at) (length store - a .at) (a .count) (omega arith) (omega arith)
 
 pub part-of-spec : {M : Type 1} → statement M
 part-of-spec =
