@@ -10,6 +10,7 @@ pub struct Place {
     pub entries: usize,
 }
 
+// The operators with a list, each with the place of its list.
 pub enum Operator {
     Block(Place),
     Hide(Place),
@@ -18,6 +19,7 @@ pub enum Operator {
     Allow(Place),
 }
 
+// A term of each kind: the number of a name or an equation, or those of its operands, which are earlier terms.
 pub enum Term {
     Delta,
     Tau,
