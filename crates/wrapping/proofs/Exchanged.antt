@@ -76,7 +76,8 @@ first-few ws rs e = omega (arith, ap length e, length-take 16 ws)
 
 pub lent-within : (rs list : List ℕ) → length rs ≤ 16 → list ≡ exchangeList rs → length rs ≤ length list
 lent-within rs list h e =
-    omega (arith, ap length e, length-append (exchangeWords rs) (replicate (16 - length (exchangeWords rs)) 0), length-zeros (16 - length (exchangeWords rs)), exchange-shorter rs)
+    let n = length (exchangeWords rs) in
+    omega (arith, ap length e, length-append (exchangeWords rs) (replicate (16 - n) 0), length-zeros (16 - n), exchange-shorter rs)
 
 pub lent-length : (rs list : List ℕ) → length rs ≤ 16 → list ≡ exchangeList rs → length rs ≡ length (take (length rs) list)
 lent-length rs list h e = omega (arith, length-take (length rs) list, lent-within rs list h e)

@@ -61,7 +61,11 @@ loop-less : tie.Need-loop-less Inv-loop μ-loop
 loop-less c = omega arith
 
 loop-again : tie.Need-loop-again Inv-loop μ-loop
-loop-again c = over-step (c .before .before .before .before .before .before .args .rules .now) (c .before .before .before .before .loop .list) (c .before .before .before .before .loop .i) _ (c .before .before .before .before .loop .inv) (omega arith) (ap (λ (l : Label). l .word) (c .before .single .ensures))
+loop-again c =
+    let looped = c .before .before .before .before in
+    let rules = looped .before .before .args .rules .now in
+    let right = ap (λ (l : Label). l .word) (c .before .single .ensures) in
+    over-step rules (looped .loop .list) (looped .loop .i) _ (looped .loop .inv) (omega arith) right
 
 returns : tie.Need-returns Inv-loop μ-loop
 returns c = over-end (c .before .before .before .args .rules .now) (c .before .loop .list) (c .before .loop .i) (c .before .loop .inv) (omega arith)

@@ -11,10 +11,16 @@ exchanges-requires : tie.Need-exchanges-requires
 exchanges-requires c κs = first-few (c .before .before .before .args .rules .now) (c .first-rules .result .now) (c .first-rules .ensures)
 
 array-share-prefix-list : tie.Need-array-share-prefix-list
-array-share-prefix-list c = lent-within (c .before .before .first-rules .result .now) (c .before .exchanges .result) (first-few (c .before .before .before .before .before .args .rules .now) (c .before .before .first-rules .result .now) (c .before .before .first-rules .ensures)) (c .before .exchanges .ensures)
+array-share-prefix-list c =
+    let first = c .before .before in
+    let few = first-few (first .before .before .before .args .rules .now) (first .first-rules .result .now) (first .first-rules .ensures) in
+    lent-within (first .first-rules .result .now) (c .before .exchanges .result) few (c .before .exchanges .ensures)
 
 slice-aggregate-through : tie.Need-slice-aggregate-through
-slice-aggregate-through c = lent-length (c .before .before .before .first-rules .result .now) (c .before .before .exchanges .result) (first-few (c .before .before .before .before .before .before .args .rules .now) (c .before .before .before .first-rules .result .now) (c .before .before .before .first-rules .ensures)) (c .before .before .exchanges .ensures)
+slice-aggregate-through c =
+    let first = c .before .before .before in
+    let few = first-few (first .before .before .before .args .rules .now) (first .first-rules .result .now) (first .first-rules .ensures) in
+    lent-length (first .first-rules .result .now) (c .before .before .exchanges .result) few (c .before .before .exchanges .ensures)
 
 through-requires : tie.Need-through-requires
 through-requires c κs = tt
@@ -23,7 +29,9 @@ same-length : tie.Need-same-length
 same-length c = c .before .before .through .kept .0
 
 returns : tie.Need-returns
-returns c = rw (c .before .before .before .before .before .exchanges .ensures, c .before .before .before .before .before .before .first-rules .ensures) at (c .before .before .through .ensures)
+returns c =
+    let taken-over = c .before .before .before .before .before in
+    rw (taken-over .exchanges .ensures, taken-over .before .first-rules .ensures) at (c .before .before .through .ensures)
 
 pub communicate-spec : {M : Type 1} → statement M
 communicate-spec =
