@@ -186,7 +186,12 @@ module _ (t : Target) (g : Growth) (giving : Giving) (list before : List ℕ) {k
   pub all-new : kept ≤ g .known .from → Gives t giving list (wordsOf (t .at) (g .part) before) before after r
       → Gives t giving list (newIn (t .at) g before) before after r
   all-new h x =
-      rw (part-end (t .at) (g .known .from) (g .known .to) before, ← known, no-part (g .known .from) kept before h, fresh-all (wordsOf (t .at) (g .part) before)) x
+      rw (
+        part-end (t .at) (g .known .from) (g .known .to) before,
+        ← known,
+        no-part (g .known .from) kept before h,
+        fresh-all (wordsOf (t .at) (g .part) before),
+      ) x
 
   pub some-new : {end len : ℕ} → end ≡ min (min (g .part .to) (t .at)) (length before) → len ≡ reachOf (t .at) (t .len) (length before)
       → Gives (record { at = t .at; len = len; most = t .most }) giving list (fresh (part (g .known .from) kept before) (part (g .part .from) end before))

@@ -11,6 +11,7 @@ use Rattle.merging.specs.Multiplying.{row}
 use Rattle.ways.specs.Imaging.{imaged}
 use Rattle.sets.specs.declared.Built.{Built}
 use Rattle.sets.specs.declared.Target.{Target}
+use Rattle.ways.specs.declared.Way.{Way}
 use Rattle.places.specs.declared.Growth.{Growth}
 use Rattle.growth.specs.declared.Giving.{Giving}
 use Rattle.growth.specs.declared.Giving.the-variants.{Through, Times}
@@ -47,3 +48,7 @@ given room at ls (Times by) list = row room (wordsOf at by ls)
 -- what the labels of a list give goes into a set, one after the other
 abbrev pub Gives : Target → Giving → (list labels before after : List ℕ) → Built → Type 0
 Gives t giving list labels before after r = GrownAt t (λ room. each (given room (t .at) before giving list) labels) before after r
+
+-- what a way makes of each label of a list goes into a set
+abbrev pub throughBuilt : ℕ → Way → List ℕ → List ℕ → List ℕ → Building
+throughBuilt room way list a s = each (imaged room way list) a s

@@ -1,4 +1,3 @@
 -- The labels that are new, and what they give.
-pub mod Exchanging
+-- fresh, freshIn, newIn: the labels that are new; given, Gives, throughBuilt: what goes into a set of them
 pub mod Fresh
-pub mod Ways

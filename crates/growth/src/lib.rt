@@ -1,7 +1,5 @@
 // What new labels give: the labels of a set that the round before did not have, through an operator or as sums with another set.
-mod exchanging;
 pub mod growing;
-pub mod operators;
 
 use sets::Part;
 use ways::Way;

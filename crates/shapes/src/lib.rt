@@ -1,7 +1,4 @@
-// The shapes of terms: what the set of a term is built of, and whether that stayed since the round before; the set of a leaf, and that
-// of two operands, made whole or added to.
-pub mod adding;
-pub mod making;
+// The shapes of terms: what the set of a term is built of, and whether that stayed since the round before.
 pub mod sameness;
 pub mod shaping;
 

@@ -19,7 +19,8 @@ pub record Carrying (area₀ : List ℕ) (from to count : ℕ) (area : List ℕ)
   pub same : length area ≡ length area₀
 
 module _ (area₀ : List ℕ) (from to count : ℕ) where
-  pub carrying-start : ((from + count ≤ to) ⊎ (to + count ≤ from)) × (from + count ≤ length area₀) × (to + count ≤ length area₀) → Carrying area₀ from to count area₀ 0
+  pub carrying-start : ((from + count ≤ to) ⊎ (to + count ≤ from)) × (from + count ≤ length area₀) × (to + count ≤ length area₀)
+      → Carrying area₀ from to count area₀ 0
   carrying-start h = record { apart = h .0; source = h .1; room = h .2; within = zero-le; words = paste-zero area₀ to (drop from area₀); same = refl }
 
   module _ (area : List ℕ) (i : ℕ) (c : Carrying area₀ from to count area i) (h : i < count) where

@@ -54,10 +54,12 @@ module _ (at most from to end given : ℕ) (work : List ℕ) (e : end ≡ min (m
   pub large-copied : given < end - from → Copied work TooLarge
   large-copied h = copy-large (roomAt at most (length work)) at (partBefore at from to work) work work (omega (arith, size))
 
-  pub carry-fits : from < end → end - from ≤ given → ((from + (end - from) ≤ at) ⊎ (at + (end - from) ≤ from)) × (from + (end - from) ≤ length work) × (at + (end - from) ≤ length work)
+  pub carry-fits : from < end → end - from ≤ given
+      → ((from + (end - from) ≤ at) ⊎ (at + (end - from) ≤ from)) × (from + (end - from) ≤ length work) × (at + (end - from) ≤ length work)
   carry-fits l h = (inl (omega arith), omega arith, omega arith)
 
-  pub part-copied : (work′ : List ℕ) → from < end → end - from ≤ given → work′ ≡ take at work ++ take (end - from) (drop from work) ++ drop (at + (end - from)) work
+  pub part-copied : (work′ : List ℕ) → from < end → end - from ≤ given
+      → work′ ≡ take at work ++ take (end - from) (drop from work) ++ drop (at + (end - from)) work
       → Copied work′ (Holds (end - from))
   part-copied work′ l h w =
       let k : from + (end - from) ≡ end = omega arith in

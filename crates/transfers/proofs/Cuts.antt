@@ -8,9 +8,9 @@ use native.Mathlib.Nat.{le-step}
 use native.Mathlib.Numerals.{add-one}
 use native.Mathlib.Omega.{arith}
 use lib.Seq.{drop-cons}
-use borrow.Author.Tests.{eq-eqb, ne-eqb, le-leb, lt-leb}
+use borrow.Author.Tests.{le-leb, lt-leb}
 use lib.ListN.{length, getD, drop, set, drop-of-length-le, length-drop}
-use Rattle.ways.specs.Imaging.{listedIn}
+use Rattle.ways.specs.Imaging.{allowedIn}
 use Rattle.transfers.specs.Cutting.{allows, cutWords, cutInto, put}
 use Rattle.transfers.proofs.Filling.{Filling, filling-start, filling-step, filling-end, left-first}
 
@@ -32,30 +32,14 @@ pub cut-left : (all : Bool) (list l : List ℕ) (i : ℕ) → i < length l → a
 cut-left all list l i h t =
     rw (add-one i) (ap (cutWords all list) (drop-cons l i 0 h) ∙ cut-none all list (drop (suc i) l) (getD l i 0) t)
 
--- A word looked for in a list, from a place on.
-pub listed-here : (w : ℕ) (l : List ℕ) (i : ℕ) → i < length l → getD l i 0 ≡ w → listedIn w (drop i l) ≡ true
-unfolding listedIn
-listed-here w l i h e = rw (drop-cons l i 0 h, eq-eqb w (getD l i 0) (sym e))
-
-pub listed-on : (w : ℕ) (l : List ℕ) (i : ℕ) → i < length l → (getD l i 0 ≡ w → ⊥) → listedIn w (drop i l) ≡ listedIn w (drop (i + 1) l)
-unfolding listedIn
-listed-on w l i h n = rw (add-one i, drop-cons l i 0 h, ne-eqb w (getD l i 0) (λ e. n (sym e)))
-
-pub listed-out : (w : ℕ) (l : List ℕ) (i : ℕ) → length l ≤ i → listedIn w (drop i l) ≡ false
-unfolding listedIn
-listed-out w l i h = rw (drop-of-length-le l h)
-
+-- The order's test.
 pub allows-all : (all : Bool) (list : List ℕ) (w : ℕ) → all ≡ true → true ≡ allows all list w
 unfolding allows
 allows-all all list w e = rw e
 
-pub allows-tau : (all : Bool) (list : List ℕ) (w : ℕ) → all ≡ false → w ≡ 0 → true ≡ allows all list w
+pub allows-listed : (all : Bool) (list : List ℕ) (w : ℕ) → all ≡ false → allowedIn w list ≡ allows all list w
 unfolding allows
-allows-tau all list w e z = rw (e, eq-eqb w 0 z)
-
-pub allows-listed : (all : Bool) (list : List ℕ) (w : ℕ) → all ≡ false → (w ≡ 0 → ⊥) → listedIn w list ≡ allows all list w
-unfolding allows
-allows-listed all list w e z = rw (e, ne-eqb w 0 z)
+allows-listed all list w e = rw e
 
 pub cut-shorter : (all : Bool) (list ws : List ℕ) → length (cutWords all list ws) ≤ length ws
 unfolding cutWords
@@ -87,23 +71,34 @@ module _ {all : Bool} {list ws area₀ : List ℕ} where
         left = refl;
       }
 
-  module _ {i n : ℕ} {area : List ℕ} (c : Cut all list ws area₀ i n area) (h : i < length ws) where
-    pub cut-room : allows all list (getD ws i 0) ≡ true → n < length area
-    cut-room t =
-        let x = left-first (cutWords all list ws) (cutWords all list (drop (i + 1) ws)) n (getD ws i 0) (c .left ∙ cut-taken all list ws i h t) in
-        omega (arith, x .0, c .fill .fits, c .fill .same)
+  -- a word that is looked at, and whether it is allowed
+  module _ {i n : ℕ} {area : List ℕ} (c : Cut all list ws area₀ i n area) (h : i < length ws) {w : ℕ} (e : w ≡ getD ws i 0) {tested : Bool}
+      (test : tested ≡ allows all list w) where
+    by-test : (b : Bool) → tested ≡ b → allows all list (getD ws i 0) ≡ b
+    by-test b t = ap (allows all list) (sym e) ∙ sym test ∙ t
 
-    pub cut-keep : allows all list (getD ws i 0) ≡ true → Cut all list ws area₀ (i + 1) (n + 1) (set area n (getD ws i 0))
+    first : tested ≡ true
+        → (n < length (cutWords all list ws)) × (w ≡ getD (cutWords all list ws) n 0)
+        × (drop (n + 1) (cutWords all list ws) ≡ cutWords all list (drop (i + 1) ws))
+    first t =
+        let x = left-first (cutWords all list ws) (cutWords all list (drop (i + 1) ws)) n (getD ws i 0)
+        (c .left ∙ cut-taken all list ws i h (by-test true t)) in
+        (x .0, e ∙ x .1, x .2)
+
+    pub cut-room : tested ≡ true → n < length area
+    cut-room t = let x = first t in omega (arith, x .0, c .fill .fits, c .fill .same)
+
+    pub cut-keep : tested ≡ true → Cut all list ws area₀ (i + 1) (n + 1) (set area n w)
     cut-keep t =
-        let x = left-first (cutWords all list ws) (cutWords all list (drop (i + 1) ws)) n (getD ws i 0) (c .left ∙ cut-taken all list ws i h t) in
+        let x = first t in
         record {
           within = omega arith;
-          fill = filling-step (cutWords all list ws) (length (cutWords all list ws)) area₀ area n (getD ws i 0) (c .fill) (x .0) (x .1);
+          fill = filling-step (cutWords all list ws) (length (cutWords all list ws)) area₀ area n w (c .fill) (x .0) (x .1);
           left = x .2;
         }
 
-    pub cut-skip : allows all list (getD ws i 0) ≡ false → Cut all list ws area₀ (i + 1) n area
-    cut-skip t = record { within = omega arith; fill = c .fill; left = c .left ∙ cut-left all list ws i h t }
+    pub cut-skip : tested ≡ false → Cut all list ws area₀ (i + 1) n area
+    cut-skip t = record { within = omega arith; fill = c .fill; left = c .left ∙ cut-left all list ws i h (by-test false t) }
 
   pub cut-end : {i n : ℕ} {area : List ℕ} → Cut all list ws area₀ i n area → length ws ≤ i → length ws ≤ length area₀
       → (area ≡ put (cutInto all list ws area₀) area₀) × (n ≡ length (cutInto all list ws area₀))

@@ -39,13 +39,15 @@ pub filling-step : (vs : List ℕ) (n : ℕ) (area₀ area : List ℕ) (i v : �
     → Filling vs n area₀ (set area i v) (i + 1)
 filling-step vs n area₀ area i v f h e =
     let k : i ≡ length (take i vs) = sym (length-take i vs ∙ min-eq-left (omega (arith, f .count))) in
+    let one-more : take i vs ++ (v ∷ []) ≡ take (i + 1) vs =
+    ap (λ (x : ℕ). take i vs ++ (x ∷ [])) e ∙ sym (take-suc vs i 0 (omega (arith, f .count))) ∙ ap (λ (m : ℕ). take m vs) (sym (add-one i)) in
     record {
       count = f .count;
       within = omega arith;
       fits = f .fits;
       words = ap (λ (a : List ℕ). set a i v) (f .words)
           ∙ put-step (take i vs) area₀ v i k (omega (arith, f .fits))
-          ∙ ap (λ (xs : List ℕ). put xs area₀) (ap (λ (x : ℕ). take i vs ++ (x ∷ [])) e ∙ sym (take-suc vs i 0 (omega (arith, f .count))) ∙ ap (λ (m : ℕ). take m vs) (sym (add-one i)));
+          ∙ ap (λ (xs : List ℕ). put xs area₀) one-more;
       same = length-set area i v ∙ f .same;
     }
 

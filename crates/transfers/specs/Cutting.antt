@@ -3,13 +3,13 @@
 use mathlib.Core.Bool.{Bool, true, false, _||_}
 use mathlib.Core.List.{List, [], _∷_, _++_}
 use Prim.Native.Nat.{ℕ}
-use lib.Dec.{leb, eqb}
+use lib.Dec.{leb}
 use lib.ListN.{length, drop}
-use Rattle.ways.specs.Imaging.{listedIn}
+use Rattle.ways.specs.Imaging.{allowedIn}
 
--- whether an order allows a word: `all` allows every one, a list what it lists
+-- whether an order allows a word: `all` allows every one, a list what it lets pass
 unfoldable pub allows : Bool → List ℕ → ℕ → Bool
-allows all list w = all || (eqb w 0 || listedIn w list)
+allows all list w = all || allowedIn w list
 
 unfoldable pub cutWords : Bool → List ℕ → List ℕ → List ℕ
 cutWords all list [] = []

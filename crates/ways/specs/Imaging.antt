@@ -24,13 +24,17 @@ unfoldable pub listedIn : ℕ → List ℕ → Bool
 listedIn w [] = false
 listedIn w (v ∷ vs) = eqb w v || listedIn w vs
 
+-- what a list lets pass: what it has, and tau, whose number is 0
+abbrev pub allowedIn : ℕ → List ℕ → Bool
+allowedIn w list = eqb w 0 || listedIn w list
+
 abbrev pub offerOf : Way → List ℕ → ℕ → Offer
 offerOf Copy list w = Next (packed w)
 offerOf Block list w = pickOffer (clear list (bag w)) (Next (packed w))
 offerOf Hide list w = Next (packed (number (without list (bag w))))
 offerOf Rename list w = Next (packed (number (renamed 12 (λ n. getD (targets (pairsIn list)) n 0) (labelOf 12 w))))
 offerOf Comm list w = Next (packed w)
-offerOf Allow list w = pickOffer (eqb w 0 || listedIn w (held list)) (Next (packed w))
+offerOf Allow list w = pickOffer (allowedIn w (held list)) (Next (packed w))
 
 -- the map that a renaming goes by
 abbrev pub MapFor : Way → (list map : List ℕ) → Type 0

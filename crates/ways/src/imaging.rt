@@ -20,24 +20,19 @@ use sets::Built;
 use sets::Offer;
 use sets::inserting::enter;
 ghost use mathlib.Core.Path.{_≡_};
-ghost use mathlib.Core.Bool.{_||_};
 ghost use Prim.Native.Nat.{_-_, _≤_};
-ghost use lib.Dec.{eqb};
 ghost use lib.ListN.{length};
 ghost use Rattle.labels.specs.Packing.{held, code};
 ghost use Rattle.parts.specs.Parts.{wordsOf};
 ghost use Rattle.sets.specs.Building.{GrownAt, each, taken};
-ghost use Rattle.ways.specs.Imaging.{imaged, listedIn, MapFor, offerOf, depthOf};
+ghost use Rattle.ways.specs.Imaging.{imaged, listedIn, allowedIn, MapFor, offerOf, depthOf};
 ghost use Rattle.comm.specs.Following.{closed};
 ghost use Rattle.comm.specs.Rules.{exchangesIn};
 
-// Whether a label is in a list of labels, or is tau.
-fn allowed(list: &[u64], label: Label) -> bool
-    ensures { λ r. ⌜ r ≡ eqb (code label) 0 || listedIn (code label) (held (now (list .entry))) ⌝ }
+// Whether a label is in a list of labels.
+fn listed(list: &[u64], label: Label) -> bool
+    ensures { λ r. ⌜ r ≡ listedIn (code label) (held (now (list .entry))) ⌝ }
 {
-    if same(label, tau()) {
-        return true;
-    }
     let mut i = 0;
     while i < labels_in(list) {
         if same(label, read_label(list, i)) {
@@ -46,6 +41,17 @@ fn allowed(list: &[u64], label: Label) -> bool
         i += 1;
     }
     false
+}
+
+// Whether a list of labels lets a label pass: it does if it has it, and it always lets tau.
+pub fn allowed(list: &[u64], label: Label) -> bool
+    ensures { λ r. ⌜ r ≡ allowedIn (code label) (held (now (list .entry))) ⌝ }
+{
+    if same(label, tau()) {
+        true
+    } else {
+        listed(list, label)
+    }
 }
 
 // The map of a renaming, made of the list once for the part; the other ways have none.

@@ -15,7 +15,11 @@ same-requires : tie.Need-same-requires
 same-requires c κs = search needs
 
 returns : tie.Need-returns
-returns c = let a = c .before .before .before .before .before .args in rw (lt-ltb (a .next) (a .end) (c .before .before .before .if1 .taken)) (rw (c .before .before .read-label .ensures, c .before .read-label2 .ensures) at (c .same .ensures))
+returns c =
+    let read = c .before in
+    let tested = read .before .before in
+    let a = tested .before .before .args in
+    rw (lt-ltb (a .next) (a .end) (tested .if1 .taken)) (rw (read .before .read-label .ensures, read .read-label2 .ensures) at (c .same .ensures))
 
 returns-2 : tie.Need-returns-2
 returns-2 c = let a = c .before .before .args in rw (le-ltb (a .next) (a .end) (c .if1 .left))

@@ -29,7 +29,13 @@ stays-requires : tie.Need-stays-requires Inv-loop μ-loop
 stays-requires c κs = tt
 
 returns : tie.Need-returns Inv-loop μ-loop
-returns c = sym (stay-fails (c .before .before .before .before .before .before .before .before .args .older .now) (c .before .before .before .before .before .before .before .before .args .newer .now) (c .before .before .before .before .before .before .before .before .args .bodies .now) (c .before .before .before .before .loop .i) (c .before .before .before .loop-test .taken) (sym (c .before .stays .ensures) ∙ not-true _ (c .if1 .taken))) ∙ c .before .before .before .before .loop .inv .1
+returns c =
+    let tested = c .before in
+    let looped = tested .before .before .before in
+    let a = looped .before .before .before .before .args in
+    let more = tested .before .before .loop-test .taken in
+    let fails = sym (tested .stays .ensures) ∙ not-true _ (c .if1 .taken) in
+    sym (stay-fails (a .older .now) (a .newer .now) (a .bodies .now) (looped .loop .i) more fails) ∙ looped .loop .inv .1
 
 add-i : tie.Need-add-i Inv-loop μ-loop
 add-i c = omega arith
@@ -38,10 +44,19 @@ loop-less : tie.Need-loop-less Inv-loop μ-loop
 loop-less c = omega arith
 
 loop-again : tie.Need-loop-again Inv-loop μ-loop
-loop-again c = (omega arith, stay-goes (c .before .before .before .before .before .before .before .before .args .older .now) (c .before .before .before .before .before .before .before .before .args .newer .now) (c .before .before .before .before .before .before .before .before .args .bodies .now) (c .before .before .before .before .loop .i) (c .before .before .before .loop-test .taken) (sym (c .before .stays .ensures) ∙ not-false _ (c .if1 .left)) ∙ c .before .before .before .before .loop .inv .1)
+loop-again c =
+    let tested = c .before in
+    let looped = tested .before .before .before in
+    let a = looped .before .before .before .before .args in
+    let more = tested .before .before .loop-test .taken in
+    let goes = sym (tested .stays .ensures) ∙ not-false _ (c .if1 .left) in
+    (omega arith, stay-goes (a .older .now) (a .newer .now) (a .bodies .now) (looped .loop .i) more goes ∙ looped .loop .inv .1)
 
 returns-2 : tie.Need-returns-2 Inv-loop μ-loop
-returns-2 c = sym (stay-ends (c .before .before .before .before .before .args .older .now) (c .before .before .before .before .before .args .newer .now) (c .before .before .before .before .before .args .bodies .now) (c .before .loop .i) (omega arith)) ∙ c .before .loop .inv .1
+returns-2 c =
+    let looped = c .before in
+    let a = looped .before .before .before .before .args in
+    sym (stay-ends (a .older .now) (a .newer .now) (a .bodies .now) (looped .loop .i) (omega arith)) ∙ looped .loop .inv .1
 
 pub all-stay-spec : {M : Type 1} → statement M
 all-stay-spec =

@@ -40,13 +40,19 @@ loop-less : tie.Need-loop-less Inv-loop μ-loop
 loop-less c = omega arith
 
 loop-again : tie.Need-loop-again Inv-loop μ-loop
-loop-again c = carrying-step (c .before .before .before .args .area .now) (c .before .before .before .args .from) (c .before .before .before .args .to) (c .before .before .before .args .count) (c .before .before .loop .area) (c .before .before .loop .i) (c .before .before .loop .inv) (c .before .loop-test .taken)
+loop-again c =
+    let looped = c .before .before in
+    let a = looped .before .args in
+    carrying-step (a .area .now) (a .from) (a .to) (a .count) (looped .loop .area) (looped .loop .i) (looped .loop .inv) (c .before .loop-test .taken)
 
 same-length : tie.Need-same-length Inv-loop μ-loop
 same-length c = c .before .loop .inv .same
 
 returns : tie.Need-returns Inv-loop μ-loop
-returns c = carrying-end (c .before .before .args .area .now) (c .before .before .args .from) (c .before .before .args .to) (c .before .before .args .count) (c .before .loop .area) (c .before .loop .i) (c .before .loop .inv) (omega arith)
+returns c =
+    let looped = c .before in
+    let a = looped .before .args in
+    carrying-end (a .area .now) (a .from) (a .to) (a .count) (looped .loop .area) (looped .loop .i) (looped .loop .inv) (omega arith)
 
 pub carry-spec : {M : Type 1} → statement M
 carry-spec =

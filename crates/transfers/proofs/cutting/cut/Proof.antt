@@ -1,10 +1,11 @@
 -- `transfers::cutting::cut` meets its contract: the words that the order allows are put one after the other.
 -- Assumes nothing.
-use mathlib.Core.Path.{sym, _∙_}
+use mathlib.Core.Path.{ap}
 use mathlib.Core.Logic.{⊎-elim}
 use Prim.Native.Nat.{_-_}
 use native.Mathlib.Omega.{arith}
 use lib.ListN.{length}
+use Rattle.labels.specs.declared.Label.{Label}
 use Rattle.transfers.proofs.Cuts.{Cut, cut-short, cut-start, cut-room, cut-keep, cut-skip, cut-end}
 use Rattle.transfers.proofs.cutting.cut.Statement.{statement}
 use Rattle.transfers.proofs.cutting.cut.Tie as tie
@@ -21,30 +22,33 @@ returns c = let a = c .before .before .before .before .args in cut-short (a .all
 loop-holds : tie.Need-loop-holds Inv-loop μ-loop
 loop-holds c = cut-start (omega arith)
 
-mul-word : tie.Need-mul-word Inv-loop μ-loop
-mul-word c = omega arith
+read-label-requires : tie.Need-read-label-requires Inv-loop μ-loop
+read-label-requires c κs = tt
 
-shared-slice-read-word : tie.Need-shared-slice-read-word Inv-loop μ-loop
-shared-slice-read-word c = omega arith
-
-allowed-requires : tie.Need-allowed-requires Inv-loop μ-loop
-allowed-requires c κs = tt
+admitted-requires : tie.Need-admitted-requires Inv-loop μ-loop
+admitted-requires c κs = tt
 
 mul-answer : tie.Need-mul-answer Inv-loop μ-loop
 mul-answer c =
-    let looked = c .before .before .before .before .loop in
-    let room = cut-room (looked .inv) (c .before .before .before .loop-test .taken) (sym (c .before .allowed .ensures) ∙ c .if2 .taken) in
+    let looked = c .before .before in
+    let so-far = looked .before .before .loop .inv in
+    let read = ap (λ (l : Label). l .word) (looked .read-label .ensures) in
+    let room = cut-room so-far (looked .before .loop-test .taken) read (c .before .admitted .ensures) (c .if2 .taken) in
     omega arith
 
 slice-write-answer : tie.Need-slice-write-answer Inv-loop μ-loop
 slice-write-answer c =
-    let looked = c .before .before .before .before .loop in
-    cut-room (looked .inv) (c .before .before .before .loop-test .taken) (sym (c .before .allowed .ensures) ∙ c .if2 .taken)
+    let looked = c .before .before in
+    let so-far = looked .before .before .loop .inv in
+    let read = ap (λ (l : Label). l .word) (looked .read-label .ensures) in
+    cut-room so-far (looked .before .loop-test .taken) read (c .before .admitted .ensures) (c .if2 .taken)
 
 add-n : tie.Need-add-n Inv-loop μ-loop
 add-n c =
-    let looked = c .before .before .before .before .loop in
-    let room = cut-room (looked .inv) (c .before .before .before .loop-test .taken) (sym (c .before .allowed .ensures) ∙ c .if2 .taken) in
+    let looked = c .before .before in
+    let so-far = looked .before .before .loop .inv in
+    let read = ap (λ (l : Label). l .word) (looked .read-label .ensures) in
+    let room = cut-room so-far (looked .before .loop-test .taken) read (c .before .admitted .ensures) (c .if2 .taken) in
     omega arith
 
 add-i : tie.Need-add-i Inv-loop μ-loop
@@ -55,12 +59,14 @@ loop-less c = omega arith
 
 loop-again : tie.Need-loop-again Inv-loop μ-loop
 loop-again c =
-    let so-far = c .before .before .before .before .loop .inv in
-    let more = c .before .before .before .loop-test .taken in
-    let test = c .before .allowed .ensures in
+    let looked = c .before .before in
+    let so-far = looked .before .before .loop .inv in
+    let more = looked .before .loop-test .taken in
+    let read = ap (λ (l : Label). l .word) (looked .read-label .ensures) in
+    let test = c .before .admitted .ensures in
     ⊎-elim
-    (λ w. rw (w .1, w .2) (cut-keep so-far more (sym test ∙ w .0 .taken)))
-    (λ w. rw (w .1, w .2) (cut-skip so-far more (sym test ∙ w .0 .left)))
+    (λ w. rw (w .1, w .2) (cut-keep so-far more read test (w .0 .taken)))
+    (λ w. rw (w .1, w .2) (cut-skip so-far more read test (w .0 .left)))
     (c .if2 .came)
 
 same-length : tie.Need-same-length Inv-loop μ-loop
@@ -72,5 +78,5 @@ returns-2 c = cut-end (c .before .loop .inv) (omega arith) (omega arith)
 pub cut-spec : {M : Type 1} → statement M
 cut-spec =
     tie.close
-    (tie.spec Inv-loop μ-loop returns loop-holds mul-word shared-slice-read-word allowed-requires mul-answer slice-write-answer add-n add-i loop-less
+    (tie.spec Inv-loop μ-loop returns loop-holds read-label-requires admitted-requires mul-answer slice-write-answer add-n add-i loop-less
     loop-again same-length returns-2)

@@ -28,21 +28,29 @@ same-length-2 c = search needs
 
 returns-2 : tie.Need-returns-2
 returns-2 c =
-    let a = c .before .before .before .before .before .before .before .args in
-    large-copied (a .at) (a .most) (a .part .from) (a .part .to) _ _ (a .work .now) (c .before .before .before .before .end-before .ensures) (c .before .room .ensures) (omega arith)
+    let roomy = c .before in
+    let ended = roomy .before .before .before in
+    let a = ended .before .before .before .args in
+    large-copied (a .at) (a .most) (a .part .from) (a .part .to) _ _ (a .work .now) (ended .end-before .ensures) (roomy .room .ensures) (omega arith)
 
 carry-requires : tie.Need-carry-requires
 carry-requires c κs =
-    let a = c .before .before .before .before .before .before .before .before .args in
-    carry-fits (a .at) (a .most) (a .part .from) (a .part .to) _ _ (a .work .now) (c .before .before .before .before .before .end-before .ensures) (c .before .before .room .ensures) (omega arith) (omega arith)
+    let roomy = c .before .before in
+    let ended = roomy .before .before .before in
+    let a = ended .before .before .before .args in
+    carry-fits (a .at) (a .most) (a .part .from) (a .part .to) _ _ (a .work .now) (ended .end-before .ensures) (roomy .room .ensures)
+    (omega arith) (omega arith)
 
 same-length-3 : tie.Need-same-length-3
 same-length-3 c = search needs
 
 returns-3 : tie.Need-returns-3
 returns-3 c =
-    let a = c .before .before .before .before .before .before .before .before .before .before .before .args in
-    part-copied (a .at) (a .most) (a .part .from) (a .part .to) _ _ (a .work .now) (c .before .before .before .before .before .before .before .before .end-before .ensures) (c .before .before .before .before .before .room .ensures) _ (omega arith) (omega arith) (c .before .before .carry .ensures)
+    let roomy = c .before .before .before .before .before in
+    let ended = roomy .before .before .before in
+    let a = ended .before .before .before .args in
+    part-copied (a .at) (a .most) (a .part .from) (a .part .to) _ _ (a .work .now) (ended .end-before .ensures) (roomy .room .ensures)
+    _ (omega arith) (omega arith) (c .before .before .carry .ensures)
 
 pub lay-spec : {M : Type 1} → statement M
 lay-spec =

@@ -1,0 +1,58 @@
+-- What is built for two operands: all of it, or what is added to a set for the new labels of both.
+-- Assumes nothing.
+use mathlib.Core.Bool.{Bool, true, false}
+use mathlib.Core.List.{List, []}
+use Prim.Native.Nat.{ℕ}
+use Rattle.ways.specs.declared.Way.the-variants.{Copy}
+use Rattle.sets.specs.Parts.{part, wordsOf}
+use Rattle.sets.specs.Building.{Building, next, each, GrownAt}
+use Rattle.merging.specs.Multiplying.{row, multiplied}
+use Rattle.ways.specs.Imaging.{imaged}
+use Rattle.sets.specs.declared.Built.{Built}
+use Rattle.sets.specs.declared.Part.{Part}
+use Rattle.sets.specs.declared.Target.{Target}
+use Rattle.places.specs.declared.Growth.{Growth}
+use Rattle.growth.specs.declared.Giving.{Giving}
+use Rattle.growth.specs.declared.Giving.the-variants.{Through, Times}
+use Rattle.growth.specs.Fresh.{fresh, newIn, throughBuilt}
+use Rattle.composing.specs.Making.{eitherBuilt, bothBuilt}
+
+-- What is new in a set, and what a label of it gives, of the words before the place where the set is built.
+abbrev pub wordsIn : Part → List ℕ → List ℕ
+wordsIn p ls = part (p .from) (p .to) ls
+
+abbrev pub newFrom : Growth → List ℕ → List ℕ
+newFrom g ls = fresh (wordsIn (g .known) ls) (wordsIn (g .part) ls)
+
+abbrev pub givenFrom : ℕ → List ℕ → Giving → ℕ → List ℕ → Building
+givenFrom room ls (Through way) = imaged room way []
+givenFrom room ls (Times by) = row room (wordsIn by ls)
+
+-- what the new labels of one set give, and then those of another
+abbrev pub eachAdded : ℕ → List ℕ → Growth → Giving → Growth → Giving → List ℕ → Building
+eachAdded room ls a byA b byB s = next (each (givenFrom room ls byA) (newFrom a ls) s) (each (givenFrom room ls byB) (newFrom b ls))
+
+-- What is added to a set for the new labels of two others: those labels; every sum with one of them.
+abbrev pub eitherAdded : ℕ → (newA newB : List ℕ) → List ℕ → Building
+eitherAdded room newA newB s = next (throughBuilt room Copy [] newA s) (throughBuilt room Copy [] newB)
+
+abbrev pub jointAdded : ℕ → (newA a newB b : List ℕ) → List ℕ → Building
+jointAdded room newA a newB b s = next (multiplied room newA b s) (multiplied room newB a)
+
+abbrev pub bothAdded : ℕ → (newA a newB b : List ℕ) → List ℕ → Building
+bothAdded room newA a newB b s = next (eitherAdded room newA newB s) (jointAdded room newA a newB b)
+
+-- `sums` says whether every sum goes in as well.
+abbrev pub wholeOf : (sums : Bool) → ℕ → (a b : List ℕ) → List ℕ → Building
+wholeOf true room a b = bothBuilt room a b
+wholeOf false room a b = eitherBuilt room a b
+
+abbrev pub addedOf : (sums : Bool) → ℕ → (newA a newB b : List ℕ) → List ℕ → Building
+addedOf true room newA a newB b = bothAdded room newA a newB b
+addedOf false room newA a newB b = eitherAdded room newA newB
+
+-- what the new labels of two sets add to a set, by what of both stands before it
+abbrev pub TwoAdded : Target → (sums : Bool) → (a b : Growth) → (before after : List ℕ) → Built → Type 0
+TwoAdded t sums a b before after r =
+    let words : Part → List ℕ = λ p. wordsOf (t .at) p before in
+    GrownAt t (λ room. addedOf sums room (newIn (t .at) a before) (words (a .part)) (newIn (t .at) b before) (words (b .part))) before after r

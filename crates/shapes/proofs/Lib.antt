@@ -1,3 +1,0 @@
--- Laws of steps that build one set after one another.
-pub mod Makings
-pub mod Sequence

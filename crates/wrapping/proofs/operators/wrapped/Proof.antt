@@ -1,0 +1,71 @@
+-- `wrapping::operators::wrapped` meets its contract: each operator goes its way, with its list; that of comm holds rules.
+-- Assumes nothing.
+use mathlib.Core.Path.{_≡_, refl}
+use mathlib.Core.List.{List, [], _∷_}
+use Prim.Native.Nat.{ℕ}
+use types.Run.{OneOf, miss}
+use denote.Enum.Declared.{tagOf}
+use Rattle.table.specs.declared.Operator.{Operator}
+use Rattle.table.specs.declared.Operator.the-variants.{Block, Hide, Rename, Comm, Allow}
+use Rattle.table.proofs.Operator.{the-type}
+use Rattle.table.specs.Decoded.{wordsAt}
+use Rattle.wrapping.specs.Ways.{placeFor, wordsFor}
+use Rattle.wrapping.proofs.operators.wrapped.Statement.{statement}
+use Rattle.wrapping.proofs.operators.wrapped.Tie as tie
+
+-- the list of every operator but comm has a word an entry
+plain : (store : List ℕ) (o : Operator) → OneOf (0 ∷ 1 ∷ 2 ∷ 4 ∷ []) (tagOf the-type o) → wordsAt store (placeFor o) 1 ≡ wordsFor store o
+plain store (Block p) h = refl
+plain store (Hide p) h = refl
+plain store (Rename p) h = refl
+plain store (Comm p) h = absurd (miss (0 ∷ 1 ∷ 2 ∷ 4 ∷ []) 3 tt h)
+plain store (Allow p) h = refl
+
+list-place-requires : tie.Need-list-place-requires
+list-place-requires c κs = tt
+
+enum-told : tie.Need-enum-told
+enum-told c = c .match .keys1
+
+rule-words-of-requires : tie.Need-rule-words-of-requires
+rule-words-of-requires c κs = tt
+
+communicate-requires : tie.Need-communicate-requires
+communicate-requires c κs = tt
+
+way-of-requires : tie.Need-way-of-requires
+way-of-requires c κs = tt
+
+words-of-requires : tie.Need-words-of-requires
+words-of-requires c κs = tt
+
+through-requires : tie.Need-through-requires
+through-requires c κs = tt
+
+same-length : tie.Need-same-length
+same-length c = c .before .before .communicate .kept .0
+
+returns : tie.Need-returns
+returns c =
+    let told = c .before .before .before .before .before in
+    let is-comm = told .enum-told .given .1 in
+    let place = told .before .before .list-place .ensures in
+    rw is-comm (rw (c .before .before .before .rule-words-of .ensures, place, is-comm) at (c .before .before .communicate .ensures))
+
+same-length-2 : tie.Need-same-length-2
+same-length-2 c = c .before .before .through .kept .0
+
+returns-2 : tie.Need-returns-2
+returns-2 c =
+    let other = c .before .before .before .before .before .before in
+    let a = other .before .before .before .before .args in
+    let place = other .before .list-place .ensures in
+    let way = c .before .before .before .before .way-of .ensures in
+    let listed = c .before .before .before .words-of .ensures in
+    rw (way, listed, place, plain (a .store .now) (a .operator) (other .match .keys2)) at (c .before .before .through .ensures)
+
+pub wrapped-spec : {M : Type 1} → statement M
+wrapped-spec =
+    tie.close
+    (tie.spec list-place-requires enum-told rule-words-of-requires communicate-requires way-of-requires words-of-requires through-requires
+    same-length returns same-length-2 returns-2)
