@@ -42,10 +42,11 @@ module _ (words : List Text) (line : Text) (at : ℕ) (i : at ≤ length line) {
   unfolding orderFault
   labels-taken {n = n} e k =
       let l = wrap-went Allow words line at i h e in
+      let counted = ap (λ s. s .first) (l .2) ∙ length-map (l .0) (labelEntry words) ∙ sym (length-map (l .0) (labelSaid words)) in
       record {
         line = only (l .0);
         says = ap (λ d. onward d (λ _ p. past (only (l .0)) p)) (ended-none line (at + n) k) ∙ ap (λ d. onward d after-labels) (l .1);
-        order = ap (λ n. Only (record { at = 3072; entries = n })) (ap (λ s. s .first) (l .2) ∙ length-map (l .0) (labelEntry words) ∙ sym (length-map (l .0) (labelSaid words)));
+        order = ap (λ n. Only (record { at = 3072; entries = n })) counted;
         faults = ap (λ s. s .found) (l .2) ∙ listed-faults Allow words (l .0);
         stored = λ z. l .3 ∙ ap (λ ws. over ws before) (listed-words Allow words (l .0) z);
       }

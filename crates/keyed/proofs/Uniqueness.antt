@@ -23,7 +23,8 @@ orderSeen line (O.Stuck p) = stopped (drop p line)
 
 module _ (names : List ℕ) (line : Text) (before after₁ after₂ : List ℕ) where
   order-meets : (words : List Text) (after : List ℕ) (r : OrderStep) → OrderRead words line before after r
-      → Meets (orderLine line) (λ l. orderFor (orderSaid words l)) (orderFault words) (λ l. over (orderWords (orderSaid words l)) before) after (orderSeen line r)
+      → Meets (orderLine line) (λ l. orderFor (orderSaid words l)) (orderFault words) (λ l. over (orderWords (orderSaid words l)) before) after
+      (orderSeen line r)
   unfolding Meets
   order-meets words after (O.To x f) p = record { line = p .line; says = p .says; made = p .order; found = p .faults; stored = p .stored }
   order-meets words after (O.Stuck n) p = p

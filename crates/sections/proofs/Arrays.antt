@@ -1,8 +1,8 @@
--- Lines whose entries stand in an array: how a section ends, and one entry more.
+-- Lines whose entries stand in an array: how a section ends, one entry more, and the loop over all of them.
 -- Assumes nothing.
 use mathlib.Core.Path.{_≡_, refl, sym, ap, _∙_}
 use mathlib.Core.List.{List, [], _∷_, _++_}
-use Prim.Native.Nat.{ℕ, _+_, _≤_, _<_}
+use Prim.Native.Nat.{ℕ, suc, _+_, _-_, _≤_, _<_}
 use native.Mathlib.Numerals.{add-one}
 use native.Mathlib.Omega.{arith}
 use lib.ListN.{length, take, drop, set, replicate}
@@ -13,10 +13,12 @@ use Rattle.table.proofs.Filled.{filled-length, filled-replicate, filled-more}
 use Rattle.faults.specs.CodedFaults.{faultOf}
 use Rattle.faults.specs.declared.Fault as F
 use Rattle.faults.specs.declared.Fault.the-variants.{Form}
-use Rattle.grammar.specs.Reading.{Walk, reached, halted}
+use Rattle.grammar.specs.Reading.{Taken, Walk, reached, halted, oneLine, lines}
+use Rattle.textlines.specs.Walks.{Walks}
 use Rattle.textlines.specs.declared.Progress.{Progress}
 use Rattle.textlines.specs.declared.Progress.the-variants.{To, Bad}
-use Rattle.textlines.proofs.Sequences.{room-there, room-lacks}
+use Rattle.textlines.proofs.Walks.{gone-to, gone-within, gone-bad, gone-before, rest-length}
+use Rattle.textlines.proofs.Sequences.{Onto, lines-start, lines-step, lines-halt, lines-end, room-there, room-lacks}
 use Rattle.sections.specs.Arrays.{Padded, Section}
 
 -- A section, by how it ends.
@@ -50,3 +52,36 @@ module _ {most i : ℕ} {xs : List ℕ} (p : Padded most i xs) where
         let t : length (take i xs) ≡ i = length-take-le i xs (omega arith) in
         let m = filled-more 0 most (take i xs) x in
         record { padded = rw (← place-more) (ap (λ l. set l i x) (p .padded) ∙ (rw t at m)) }
+
+-- The loop over such lines: the entries so far, and the lines that are left.
+pub record SoFar {A : Type 0} (value : List ℕ → A) (do-take : A → Text → Taken A) (text : Text) (most n : ℕ) (xs : List ℕ) (from i : ℕ) : Type 0 where
+  pub padded : Padded most i xs
+  pub onto : Onto do-take (lines do-take n (value []) 0 text) text n i (value (take i xs)) from
+
+pub so-far-start : {A : Type 0} (value : List ℕ → A) (do-take : A → Text → Taken A) (text : Text) (most n : ℕ)
+    → SoFar value do-take text most n (replicate most 0) 0 0
+so-far-start value do-take text most n = record { padded = padded-none most; onto = lines-start do-take text n (value []) }
+
+module _ {A : Type 0} {value : List ℕ → A} {do-take : A → Text → Taken A} {text : Text} {most n : ℕ} {xs : List ℕ} {from i : ℕ}
+    (s : SoFar value do-take text most n xs from i) (room : n ≤ most) where
+  abbrev rest : Text
+  rest = take (length text - from) (drop from text)
+
+  pub so-far-within : {B : Type 0} {f : ℕ → B} {next : ℕ} {r : Progress} {due : Walk B} → Walks f rest next r due → {x took : ℕ} → r ≡ To x took
+      → from + took ≤ length text
+  so-far-within w e = let l = rest-length text from in omega (arith, s .onto .within, gone-within w e)
+
+  module _ (more : i < n) {f : ℕ → A} {r : Progress} (w : Walks f rest (suc i) r (oneLine (do-take (value (take i xs))) i rest)) where
+    pub so-far-step : {x took : ℕ} → r ≡ To x took → f x ≡ value (take (i + 1) (set xs i x))
+        → SoFar value do-take text most n (set xs i x) (from + took) (i + 1)
+    so-far-step {x} e v =
+        record { padded = padded-more (s .padded) x (omega arith); onto = rw (← v) (lines-step (s .onto) more (gone-to w e) (gone-within w e)) }
+
+    pub so-far-halt : {g : F.Fault} {line : ℕ} {zeros : List ℕ} → r ≡ Bad g line → zeros ≡ filled most 0 []
+        → Section value text most n r zeros (lines do-take n (value []) 0 text)
+    so-far-halt e z = section-bad room e (lines-halt (s .onto) more (gone-bad w e)) (omega (arith, gone-before w e)) z
+
+  pub so-far-end : n ≤ i → Section value text most n (To 0 from) xs (lines do-take n (value []) 0 text)
+  so-far-end h =
+      let e : i ≡ n = omega (arith, s .onto .upto) in
+      section-end room (rw e at (lines-end (s .onto) h)) (s .onto .within) (rw e at (s .padded))

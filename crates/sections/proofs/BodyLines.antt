@@ -14,6 +14,9 @@ use Rattle.grammar.specs.Forms.{countLine}
 use Rattle.grammar.specs.Reading.{takenIf, formed, takeNumber, takeBody, Cut, cut, noLine, firstLine}
 use Rattle.grammar.specs.Reading.{Walk, reached, halted, walk, afterLine, lineWalk, oneLine}
 use Rattle.textlines.specs.Lines.{between}
+use Rattle.textlines.specs.Walks.{Walks}
+use Rattle.textlines.specs.declared.Progress.{Progress}
+use Rattle.textlines.specs.declared.Progress.the-variants.{To, Bad}
 
 -- A body is a number below that of the terms.
 body-taken : (terms : ℕ) (bodies : List ℕ) (f : Fault) (t : ℕ) (line : ℕ) (rest : Text)
@@ -51,3 +54,10 @@ module _ (terms line : ℕ) (s : Text) where
   pub body-to : (bodies : List ℕ) {t next : ℕ} {r : Text} → reached t next r ≡ oneLine (takeNumber (ascii "equation=") (between 0 terms) range) line s
       → reached (bodies ++ (t ∷ [])) next r ≡ oneLine (takeBody terms bodies) line s
   body-to bodies q = ap (λ w. walk w (λ n next r. reached (bodies ++ (n ∷ [])) next r)) q ∙ body-line terms bodies line s
+
+-- The same of a step over the line.
+pub body-walks : (terms line : ℕ) (s : Text) (bodies : List ℕ) {next : ℕ} (r : Progress)
+    → Walks (λ n. n) s next r (oneLine (takeNumber (ascii "equation=") (between 0 terms) range) line s)
+    → Walks (λ t. bodies ++ (t ∷ [])) s next r (oneLine (takeBody terms bodies) line s)
+body-walks terms line s bodies (To t took) w = record { says = body-to terms line s bodies (w .says); within = w .within }
+body-walks terms line s bodies (Bad f l) w = record { says = body-bad terms line s bodies (w .says); within = w .within }

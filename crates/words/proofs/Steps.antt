@@ -61,9 +61,10 @@ module _ {A : Type 0} {f : ℕ → A} (form : Text → Past A) (line : Text) (at
   stays-on e = shifted stuck h (stays there e)
 
 -- a step that is stuck is the answer of the whole
-pub halted : {A B : Type 0} {f : ℕ → A} {g : ℕ → B} {line : Text} {p : ℕ} {r : Step} {due : Past A} (k : A → Text → Past B) → Steps f line r due → r ≡ Stuck p
+pub onward-halted : {A B : Type 0} {f : ℕ → A} {g : ℕ → B} {line : Text} {p : ℕ} {r : Step} {due : Past A} (k : A → Text → Past B)
+    → Steps f line r due → r ≡ Stuck p
     → Steps g line r (onward due k)
-halted k s e = record { stands = rw e (stops k (stays s e)) }
+onward-halted k s e = record { stands = rw e (stops k (stays s e)) }
 
 -- a sign that must stand there
 module _ {B : Type 0} (sign : ℕ) (line : Text) (at : ℕ) (k : Unit {0} → Text → Past B) where

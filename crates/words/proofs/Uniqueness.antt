@@ -50,8 +50,8 @@ module _ {line : Text} {r s : Step} (a : InWord r) (b : InWord s) where
   name-unique = steps-unique (nameOf 8) wordOf (word-name 8) line a b
 
 -- a word that must stand there, as a number that is 0
-numbered : {line : Text} {due : Past (Unit {0})} (r : Step) → Passes line r due → Steps (λ n. n) line r (onward due (λ _ s. past 0 s))
-numbered {line} (To v next) p =
+passes→steps : {line : Text} {due : Past (Unit {0})} (r : Step) → Passes line r due → Steps (λ n. n) line r (onward due (λ _ s. past 0 s))
+passes→steps {line} (To v next) p =
     record {
       stands =
           record {
@@ -59,8 +59,8 @@ numbered {line} (To v next) p =
             within = p .steps .stands .within;
           };
     }
-numbered (Stuck next) p =
+passes→steps (Stuck next) p =
     record { stands = record { says = ap (λ d. onward d (λ _ s. past 0 s)) (p .steps .stands .says); within = p .steps .stands .within } }
 
 pub passes-unique : {line : Text} {r s : Step} {due : Past (Unit {0})} → InWord r → InWord s → Passes line r due → Passes line s due → r ≡ s
-passes-unique {r = r} {s} a b p q = count-unique a b (numbered r p) (numbered s q)
+passes-unique {r = r} {s} a b p q = count-unique a b (passes→steps r p) (passes→steps s q)

@@ -25,7 +25,8 @@ use Rattle.words.proofs.Rests.{rest-cons}
 abbrev pub prefixed : Text → Text → Text → Past Text
 prefixed p w r = past (p ++ w) r
 
-pub take-snoc : (line : Text) (at next : ℕ) → at ≤ next → next < length line → take (next + 1 - at) (drop at line) ≡ take (next - at) (drop at line) ++ (getD line next 0 ∷ [])
+pub take-snoc : (line : Text) (at next : ℕ) → at ≤ next → next < length line
+    → take (next + 1 - at) (drop at line) ≡ take (next - at) (drop at line) ++ (getD line next 0 ∷ [])
 take-snoc line at next h k =
     let e : next + 1 - at ≡ suc (next - at) = omega arith in
     let f : at + (next - at) ≡ next = omega arith in
@@ -47,9 +48,9 @@ module _ (line : Text) (at : ℕ) where
   word-start h e = let k : at + 1 - at ≡ 1 = omega arith in rw (k, rest-cons line at h, e, word)
 
 -- a letter more is a letter after what was read
-carried : (p : Text) (b : ℕ) (x : Past Text) → onward x (prefixed (p ++ (b ∷ []))) ≡ onward (onward x (λ w r. past (b ∷ w) r)) (prefixed p)
-carried p b (past w r) = ap (λ t. past t r) (append-snoc p b w)
-carried p b (stuck r) = refl
+onward-prefixed : (p : Text) (b : ℕ) (x : Past Text) → onward x (prefixed (p ++ (b ∷ []))) ≡ onward (onward x (λ w r. past (b ∷ w) r)) (prefixed p)
+onward-prefixed p b (past w r) = ap (λ t. past t r) (append-snoc p b w)
+onward-prefixed p b (stuck r) = refl
 
 module _ (line : Text) (next : ℕ) (p : Text) where
   pub on-full : (room : ℕ) → room ≤ 0 → past p (drop next line) ≡ onward (wordOn room (drop next line)) (prefixed p)
@@ -74,7 +75,7 @@ module _ (line : Text) (next : ℕ) (p : Text) where
   on-more zero z h e = absurd (not-suc-le-zero z)
   on-more (suc room) z h e =
       let k : suc room - 1 ≡ room = omega arith in
-      rw (k, rest-cons line next h, e, wordOn) (carried p (getD line next 0) (wordOn room (drop (next + 1) line)))
+      rw (k, rest-cons line next h, e, wordOn) (onward-prefixed p (getD line next 0) (wordOn room (drop (next + 1) line)))
 
 -- a word of so many bytes
 pub word-small : (k : ℕ) (s : Text) → length s ≤ k → ((i : ℕ) → getD s i 0 < 256) → wordOf s < 256 ^ k
@@ -99,24 +100,32 @@ abbrev ProperPast : ℕ → Past Text → Type 0
 ProperPast k (past w r) = Proper k w
 ProperPast k (stuck r) = Unit {0}
 
-letter : (b : ℕ) → isLower b ≡ true → (1 ≤ b) × (b < 256)
+isLower→byte : (b : ℕ) → isLower b ≡ true → (1 ≤ b) × (b < 256)
 unfolding isLower
-letter b e = let t : T (leb 97 b && leb b 122) = rw e tt in (omega (arith, leb→le 97 b (and-left (leb 97 b) (leb b 122) t)), omega (arith, leb→le b 122 (and-right (leb 97 b) (leb b 122) t)))
+isLower→byte b e =
+    let t : T (leb 97 b && leb b 122) = rw e tt in
+    let low = leb→le 97 b (and-left (leb 97 b) (leb b 122) t) in
+    let high = leb→le b 122 (and-right (leb 97 b) (leb b 122) t) in
+    (omega (arith, low), omega (arith, high))
 
-digit : (b : ℕ) → isDigit b ≡ true → (1 ≤ b) × (b < 256)
+isDigit→byte : (b : ℕ) → isDigit b ≡ true → (1 ≤ b) × (b < 256)
 unfolding isDigit
-digit b e = let t : T (leb 48 b && leb b 57) = rw e tt in (omega (arith, leb→le 48 b (and-left (leb 48 b) (leb b 57) t)), omega (arith, leb→le b 57 (and-right (leb 48 b) (leb b 57) t)))
+isDigit→byte b e =
+    let t : T (leb 48 b && leb b 57) = rw e tt in
+    let low = leb→le 48 b (and-left (leb 48 b) (leb b 57) t) in
+    let high = leb→le b 57 (and-right (leb 48 b) (leb b 57) t) in
+    (omega (arith, low), omega (arith, high))
 
-sign : (b : ℕ) → (isLower b || isDigit b) ≡ true → (1 ≤ b) × (b < 256)
-sign b e = cases (isLower b) refl
+isSign→byte : (b : ℕ) → (isLower b || isDigit b) ≡ true → (1 ≤ b) × (b < 256)
+isSign→byte b e = cases (isLower b) refl
   where
     cases : (t : Bool) → isLower b ≡ t → (1 ≤ b) × (b < 256)
-    cases true h = letter b h
-    cases false h = digit b (rw h at e)
+    cases true h = isLower→byte b h
+    cases false h = isDigit→byte b (rw h at e)
 
-joined : (k b : ℕ) (x : Past Text) → (1 ≤ b) × (b < 256) → ProperPast k x → ProperPast (suc k) (onward x (λ w r. past (b ∷ w) r))
-joined k b (past w r) h p = (omega (arith, p .0), (h, p .1))
-joined k b (stuck r) h p = tt
+onward-proper : (k b : ℕ) (x : Past Text) → (1 ≤ b) × (b < 256) → ProperPast k x → ProperPast (suc k) (onward x (λ w r. past (b ∷ w) r))
+onward-proper k b (past w r) h p = (omega (arith, p .0), (h, p .1))
+onward-proper k b (stuck r) h p = tt
 
 word-on-proper : (k : ℕ) (s : Text) → ProperPast k (wordOn k s)
 unfolding wordOn
@@ -125,7 +134,7 @@ word-on-proper (suc k) [] = (omega arith, tt)
 word-on-proper (suc k) (b ∷ s) = cases (isLower b || isDigit b) refl (word-on-proper k s)
   where
     cases : (t : Bool) → (isLower b || isDigit b) ≡ t → ProperPast k (wordOn k s) → ProperPast (suc k) (wordOn (suc k) (b ∷ s))
-    cases true e p = rw (e, wordOn) (joined k b (wordOn k s) (sign b e) p)
+    cases true e p = rw (e, wordOn) (onward-proper k b (wordOn k s) (isSign→byte b e) p)
     cases false e p = rw (e, wordOn) (omega arith, tt)
 
 word-proper : (s : Text) → ProperPast 8 (word s)
@@ -134,11 +143,11 @@ word-proper [] = tt
 word-proper (b ∷ s) = cases (isLower b) refl
   where
     cases : (t : Bool) → isLower b ≡ t → ProperPast 8 (word (b ∷ s))
-    cases true e = rw (e, word) (joined 7 b (wordOn 7 s) (letter b e) (word-on-proper 7 s))
+    cases true e = rw (e, word) (onward-proper 7 b (wordOn 7 s) (isLower→byte b e) (word-on-proper 7 s))
     cases false e = rw (e, word) tt
 
-pub named : {w r : Text} (s : Text) → past w r ≡ word s → (length w ≤ 8) × Each (λ b. (1 ≤ b) × (b < 256)) w
-named {w} {r} s e = let p = word-proper s in rw (← e) at p
+pub word→proper : {w r : Text} (s : Text) → past w r ≡ word s → (length w ≤ 8) × Each (λ b. (1 ≤ b) × (b < 256)) w
+word→proper {w} {r} s e = let p = word-proper s in rw (← e) at p
 
 name-none : (k : ℕ) → nameOf k 0 ≡ []
 unfolding nameOf
@@ -156,7 +165,7 @@ name-word (suc k) (b ∷ w) h p =
     rw (n, nameOf, lo, hi) (ap (λ t. b ∷ t) (name-word k w (omega arith) (p .1)))
 
 pub name-back : {w r : Text} (s : Text) → past w r ≡ word s → nameOf 8 (wordOf w) ≡ w
-name-back {w} s e = let p = named s e in name-word 8 w (p .0) (p .1)
+name-back {w} s e = let p = word→proper s e in name-word 8 w (p .0) (p .1)
 
 -- A name as far as it was read: so many bytes, packed, and what is to come.
 pub record Worded (line : Text) (at w bytes next : ℕ) : Type 0 where
@@ -169,15 +178,25 @@ pub record Worded (line : Text) (at w bytes next : ℕ) : Type 0 where
   pub ahead : onward (wordOn (8 - bytes) (drop next line)) (prefixed (take (next - at) (drop at line))) ≡ word (drop at line)
 
 module _ (line : Text) (at : ℕ) where
-  pub worded-start : at < length line → (leb 97 (getD line at 0) && leb (getD line at 0) 122) ≡ true → getD line at 0 < 256 → Worded line at (getD line at 0) 1 (at + 1)
+  pub worded-start : at < length line → (leb 97 (getD line at 0) && leb (getD line at 0) 122) ≡ true → getD line at 0 < 256
+      → Worded line at (getD line at 0) 1 (at + 1)
   unfolding wordOf
   worded-start h e b =
       let k : at + 1 - at ≡ 1 = omega arith in
-      record { some = omega arith; few = omega arith; here = refl; within = omega arith; packed = rw (k, rest-cons line at h) (omega arith); small = omega arith; ahead = word-start line at h e }
+      record {
+        some = omega arith;
+        few = omega arith;
+        here = refl;
+        within = omega arith;
+        packed = rw (k, rest-cons line at h) (omega arith);
+        small = omega arith;
+        ahead = word-start line at h e;
+      }
 
   module _ {w bytes next : ℕ} (x : Worded line at w bytes next) where
     -- nothing more belongs to it
-    pub worded-end : past (take (next - at) (drop at line)) (drop next line) ≡ onward (wordOn (8 - bytes) (drop next line)) (prefixed (take (next - at) (drop at line)))
+    pub worded-end : past (take (next - at) (drop at line)) (drop next line)
+        ≡ onward (wordOn (8 - bytes) (drop next line)) (prefixed (take (next - at) (drop at line)))
         → Stands line next (past (nameOf 8 w) (drop next line)) (word (drop at line))
     worded-end e =
         let says = e ∙ x .ahead in

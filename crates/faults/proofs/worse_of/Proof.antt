@@ -31,13 +31,17 @@ returns-3 : tie.Need-returns-3
 returns-3 c =
     let h = c .before .number-of2 .ensures in
     let g = c .before .before .number-of .ensures in
-    rw (c .before .before .before .before .before .before .before .a .given .1, c .before .before .before .before .b .given .1, le-leb (faultNumber (faultOf (c .before .before .before .before .before .before .before .a .given .0 .0))) (faultNumber (faultOf (c .before .before .before .before .b .given .0 .0))) (omega arith))
+    let a = c .before .before .before .before .before .before .before .a .given in
+    let b = c .before .before .before .before .b .given in
+    rw (a .1, b .1, le-leb (faultNumber (faultOf (a .0 .0))) (faultNumber (faultOf (b .0 .0))) (omega arith))
 
 returns-4 : tie.Need-returns-4
 returns-4 c =
     let h = c .before .number-of2 .ensures in
     let g = c .before .before .number-of .ensures in
-    rw (c .before .before .before .before .before .before .before .a .given .1, c .before .before .before .before .b .given .1, lt-leb (faultNumber (faultOf (c .before .before .before .before .before .before .before .a .given .0 .0))) (faultNumber (faultOf (c .before .before .before .before .b .given .0 .0))) (omega arith))
+    let a = c .before .before .before .before .before .before .before .a .given in
+    let b = c .before .before .before .before .b .given in
+    rw (a .1, b .1, lt-leb (faultNumber (faultOf (a .0 .0))) (faultNumber (faultOf (b .0 .0))) (omega arith))
 
 pub worse-of-spec : {M : Type 1} → statement M
 worse-of-spec = tie.close (tie.spec enum-known-a enum-told returns enum-known-b enum-told-2 returns-2 asks-nothing asks-nothing returns-3 returns-4)

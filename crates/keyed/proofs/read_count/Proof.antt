@@ -5,7 +5,7 @@ use native.Mathlib.Omega.{arith}
 use Rattle.grammar.specs.Text.{number}
 use Rattle.grammar.specs.Forms.{countLine}
 use Rattle.faults.proofs.Calls.{asks-nothing}
-use Rattle.words.proofs.Steps.{went, halted}
+use Rattle.words.proofs.Steps.{went, onward-halted}
 use Rattle.keyed.proofs.Ends.{item-last, place-fits}
 use Rattle.keyed.proofs.read_count.Statement.{statement}
 use Rattle.keyed.proofs.read_count.Tie as tie
@@ -18,7 +18,7 @@ enum-told c = c .match .keys2
 
 returns : tie.Need-returns
 unfolding countLine
-returns c = halted _ (c .before .before .read-literal .ensures .steps) (c .enum-told .given .1)
+returns c = onward-halted _ (c .before .before .read-literal .ensures .steps) (c .enum-told .given .1)
 
 part-read-number-start : tie.Need-part-read-number-start
 part-read-number-start c = went (c .before .before .before .read-literal .ensures .steps) (c .before .start .given .1) .within

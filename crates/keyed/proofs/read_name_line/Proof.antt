@@ -8,7 +8,7 @@ use Rattle.table.specs.Decoded.{nameOf}
 use Rattle.grammar.specs.Text.{word}
 use Rattle.grammar.specs.Forms.{nameLine}
 use Rattle.faults.proofs.Calls.{asks-nothing}
-use Rattle.words.proofs.Steps.{went, halted}
+use Rattle.words.proofs.Steps.{went, onward-halted}
 use Rattle.keyed.proofs.Ends.{item-last, place-fits}
 use Rattle.keyed.proofs.read_name_line.Statement.{statement}
 use Rattle.keyed.proofs.read_name_line.Tie as tie
@@ -24,7 +24,7 @@ enum-told c = c .match .keys2
 
 returns : tie.Need-returns
 unfolding nameLine
-returns c = halted _ (c .before .before .read-literal .ensures .steps) (c .enum-told .given .1)
+returns c = onward-halted _ (c .before .before .read-literal .ensures .steps) (c .enum-told .given .1)
 
 part-read-word-start : tie.Need-part-read-word-start
 part-read-word-start c = went (c .before .before .before .read-literal .ensures .steps) (c .before .start .given .1) .within

@@ -76,7 +76,19 @@ returns-3 c =
     let h = c .both-below .ensures in
     elim (c .before .match .came) [
       | inl a ↦ rw (a .1 .given .1, ← a .3, ← a .4) h
-      | inr b ↦ elim b [ inl a ↦ rw (a .1 .given .1, ← a .3, ← a .4) h | inr b ↦ elim b [ inl a ↦ rw (a .1 .given .1, ← a .3, ← a .4) h | inr b ↦ elim b [ inl a ↦ rw (a .1 .given .1, ← a .3, ← a .4) h | inr b ↦ elim b [ inl a ↦ rw (a .1 .given .1, ← a .3, ← a .4) h | inr a ↦ rw (a .1 .given .1, ← a .3, ← a .4) h ] ] ] ]
+      | inr b ↦ elim b [
+        | inl a ↦ rw (a .1 .given .1, ← a .3, ← a .4) h
+        | inr b ↦ elim b [
+          | inl a ↦ rw (a .1 .given .1, ← a .3, ← a .4) h
+          | inr b ↦ elim b [
+            | inl a ↦ rw (a .1 .given .1, ← a .3, ← a .4) h
+            | inr b ↦ elim b [
+              | inl a ↦ rw (a .1 .given .1, ← a .3, ← a .4) h
+              | inr a ↦ rw (a .1 .given .1, ← a .3, ← a .4) h
+            ]
+          ]
+        ]
+      ]
     ]
 
 returns-4 : tie.Need-returns-4

@@ -9,7 +9,14 @@ use Rattle.operands.proofs.joined_fault.Statement.{statement}
 use Rattle.operands.proofs.joined_fault.Tie as tie
 
 returns : tie.Need-returns
-returns c = c .worse-of2 .ensures ∙ ap (worse (foundOf (c .before .before .before .before .before .before .before .args .found))) (c .before .worse-of .ensures ∙ ap₂ worse (c .before .before .before .before .found-unless .ensures ∙ ap (λ b. unless b range) (c .before .before .before .before .before .in-range .ensures)) (c .before .before .found-unless2 .ensures ∙ ap (λ b. unless b operand) (c .before .before .before .operands-fit .ensures)))
+returns c =
+    let ranged = c .before .before .before .before in
+    let fitting = c .before .before in
+    let a = c .before .before .before .before .before .before .before .args in
+    c .worse-of2 .ensures
+    ∙ ap (worse (foundOf (a .found))) (c .before .worse-of .ensures
+    ∙ ap₂ worse (ranged .found-unless .ensures ∙ ap (λ b. unless b range) (ranged .before .in-range .ensures))
+    (fitting .found-unless2 .ensures ∙ ap (λ b. unless b operand) (fitting .before .operands-fit .ensures)))
 
 pub joined-fault-spec : {M : Type 1} → statement M
 joined-fault-spec = tie.close (tie.spec asks-nothing asks-nothing asks-nothing asks-nothing asks-nothing asks-nothing returns)

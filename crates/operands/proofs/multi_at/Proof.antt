@@ -30,7 +30,9 @@ returns-2 : tie.Need-returns-2
 unfolding wordTerm
 returns-2 c =
     let a = c .before .before .before .before .before .args in
-    c .is-multi .ensures ∙ ap (λ (x : Term). isMultiAction (bareTerm x)) (c .before .unpack .ensures) ∙ sym (ap isMultiAction (List·getD-map bareSlot (a .slots .now) (a .t) 0))
+    c .is-multi .ensures
+    ∙ ap (λ (x : Term). isMultiAction (bareTerm x)) (c .before .unpack .ensures)
+    ∙ sym (ap isMultiAction (List·getD-map bareSlot (a .slots .now) (a .t) 0))
 
 pub multi-at-spec : {M : Type 1} → statement M
 multi-at-spec = tie.close (tie.spec returns mul-unpack shared-slice-read-unpack asks-nothing asks-nothing returns-2)

@@ -1,12 +1,12 @@
 -- `words::names::read_word` meets its contract: byte by byte, each above those before it.
 -- Assumes nothing.
 use mathlib.Core.Path.{refl, sym, _∙_}
-use Prim.Native.Nat.{_+_, _-_, _^_, _≤_}
+use Prim.Native.Nat.{_+_, _-_, _^_, _≤_, _<_}
 use native.Mathlib.Nat.{pow-le-pow-right}
 use native.Mathlib.Omega.{arith}
 use borrow.Author.Tests.{not-true, not-false}
 use lib.Dec.{lit<}
-use lib.ListN.{getD, take, drop}
+use lib.ListN.{getD}
 use Rattle.faults.proofs.Calls.{asks-nothing}
 use Rattle.words.proofs.WordReading.{word-none, word-other, on-full, on-none, on-other, Worded, worded-start, worded-end, worded-more}
 use Rattle.words.proofs.names.read_word.Statement.{statement}
@@ -25,7 +25,10 @@ shared-slice-read-between : tie.Need-shared-slice-read-between Inv-loop μ-loop
 shared-slice-read-between c = omega arith
 
 returns-2 : tie.Need-returns-2 Inv-loop μ-loop
-returns-2 c = record { stands = record { says = word-other (c .before .before .before .before .before .args .rest .now) 0 (omega arith) (sym (c .before .between .ensures) ∙ not-true _ (c .if2 .taken)); within = omega arith } }
+returns-2 c =
+    let a = c .before .before .before .before .before .args in
+    let other = sym (c .before .between .ensures) ∙ not-true _ (c .if2 .taken) in
+    record { stands = record { says = word-other (a .rest .now) 0 (omega arith) other; within = omega arith } }
 
 shared-slice-read-w : tie.Need-shared-slice-read-w Inv-loop μ-loop
 shared-slice-read-w c = omega arith
@@ -36,13 +39,14 @@ cast-w c = omega (arith, c .shared-slice-known3 .given 0)
 loop-holds : tie.Need-loop-holds Inv-loop μ-loop
 loop-holds c =
     let a = c .before .before .before .before .before .before .args in
-    worded-start (a .rest .now) 0 (omega arith) (sym (c .before .before .between .ensures) ∙ not-false _ (c .before .if2 .left)) (omega (arith, c .shared-slice-known3 .given 0))
+    let lower = sym (c .before .before .between .ensures) ∙ not-false _ (c .before .if2 .left) in
+    worded-start (a .rest .now) 0 (omega arith) lower (omega (arith, c .shared-slice-known3 .given 0))
 
 returns-3 : tie.Need-returns-3 Inv-loop μ-loop
 returns-3 c =
     let a = c .before .before .before .before .before .before .before .before .before .args in
     let l = c .before .before .loop in
-    record { stands = worded-end (a .rest .now) 0 (l .inv) (on-none (a .rest .now) (l .next) (take (l .next - 0) (drop 0 (a .rest .now))) (8 - l .bytes) (omega arith)) }
+    record { stands = worded-end (a .rest .now) 0 (l .inv) (on-none (a .rest .now) (l .next) _ (8 - l .bytes) (omega arith)) }
 
 shared-slice-read-b : tie.Need-shared-slice-read-b Inv-loop μ-loop
 shared-slice-read-b c = omega arith
@@ -51,7 +55,8 @@ returns-4 : tie.Need-returns-4 Inv-loop μ-loop
 returns-4 c =
     let a = c .before .before .before .before .before .before .before .before .before .before .before .before .args in
     let l = c .before .before .before .before .before .loop in
-    record { stands = worded-end (a .rest .now) 0 (l .inv) (on-other (a .rest .now) (l .next) (take (l .next - 0) (drop 0 (a .rest .now))) (8 - l .bytes) (omega arith) (sym (c .before .goes-on .ensures) ∙ not-true _ (c .if4 .taken))) }
+    let other = sym (c .before .goes-on .ensures) ∙ not-true _ (c .if4 .taken) in
+    record { stands = worded-end (a .rest .now) 0 (l .inv) (on-other (a .rest .now) (l .next) _ (8 - l .bytes) (omega arith) other) }
 
 cast-w-2 : tie.Need-cast-w-2 Inv-loop μ-loop
 cast-w-2 c = omega (arith, c .before .before .shared-slice-known4 .given (c .before .before .before .before .before .loop .next))
@@ -66,7 +71,9 @@ loop-again : tie.Need-loop-again Inv-loop μ-loop
 loop-again c =
     let a = c .before .before .before .before .before .before .before .before .before .before .before .before .args in
     let l = c .before .before .before .before .before .loop in
-    worded-more (a .rest .now) 0 (l .inv) (getD (a .rest .now) (l .next) 0) refl (omega (arith, c .before .before .shared-slice-known4 .given (l .next))) (omega arith) (omega arith) (sym (c .before .goes-on .ensures) ∙ not-false _ (c .if4 .left))
+    let byte : getD (a .rest .now) (l .next) 0 < 256 = omega (arith, c .before .before .shared-slice-known4 .given (l .next)) in
+    let goes = sym (c .before .goes-on .ensures) ∙ not-false _ (c .if4 .left) in
+    worded-more (a .rest .now) 0 (l .inv) (getD (a .rest .now) (l .next) 0) refl byte (omega arith) (omega arith) goes
 
 add-w : tie.Need-add-w Inv-loop μ-loop
 add-w c =
@@ -87,7 +94,7 @@ returns-5 : tie.Need-returns-5 Inv-loop μ-loop
 returns-5 c =
     let a = c .before .before .before .before .before .before .before .before .args in
     let l = c .before .loop in
-    record { stands = worded-end (a .rest .now) 0 (l .inv) (on-full (a .rest .now) (l .next) (take (l .next - 0) (drop 0 (a .rest .now))) (8 - l .bytes) (omega arith)) }
+    record { stands = worded-end (a .rest .now) 0 (l .inv) (on-full (a .rest .now) (l .next) _ (8 - l .bytes) (omega arith)) }
 
 pub read-word-spec : {M : Type 1} → statement M
 read-word-spec =

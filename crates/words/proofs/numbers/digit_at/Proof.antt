@@ -15,7 +15,9 @@ shared-slice-read-b : tie.Need-shared-slice-read-b
 shared-slice-read-b c = omega arith
 
 returns-2 : tie.Need-returns-2
-returns-2 c = let a = c .before .before .before .before .before .args in digit-other (a .line .now) (a .at) (c .before .before .before .if1 .left) (sym (c .before .between .ensures) ∙ not-true _ (c .if2 .taken))
+returns-2 c =
+    let a = c .before .before .before .before .before .args in
+    digit-other (a .line .now) (a .at) (c .before .before .before .if1 .left) (sym (c .before .between .ensures) ∙ not-true _ (c .if2 .taken))
 
 sub-result : tie.Need-sub-result
 sub-result c = digit-low _ (sym (c .before .between .ensures) ∙ not-false _ (c .if2 .left))
@@ -24,7 +26,9 @@ cast-result : tie.Need-cast-result
 cast-result c = omega (arith, c .before .before .shared-slice-known2 .given (c .before .before .before .before .before .args .at))
 
 returns-3 : tie.Need-returns-3
-returns-3 c = let a = c .before .before .before .before .before .args in digit-here (a .line .now) (a .at) (c .before .before .before .if1 .left) (sym (c .before .between .ensures) ∙ not-false _ (c .if2 .left))
+returns-3 c =
+    let a = c .before .before .before .before .before .args in
+    digit-here (a .line .now) (a .at) (c .before .before .before .if1 .left) (sym (c .before .between .ensures) ∙ not-false _ (c .if2 .left))
 
 pub digit-at-spec : {M : Type 1} → statement M
 digit-at-spec = tie.close (tie.spec returns shared-slice-read-b asks-nothing returns-2 sub-result cast-result returns-3)
