@@ -19,7 +19,8 @@ use Rattle.lists.specs.Lists.{weightFor, limitFor, wordCount, entryWord,
 use Rattle.entries.proofs.Seen.{said-stuck-there, said-went-on, said-stays-on, said-same, said-few}
 use Rattle.entries.proofs.Tallied.{Tallied, tallied-none, tallied-more}
 use Rattle.entries.proofs.Gathered.{Progress, begun, list-stuck, list-ends, list-goes-on, ended-with, stuck-with}
-use Rattle.lists.proofs.Listed.{length-over, entry-small, Filled, filled-none, filled-more, entry-within, not-read, as-read, count-most, weight-most, limit-most}
+use Rattle.lists.proofs.Listed.{Filled, filled-none, filled-more, length-over, not-read, as-read}
+use Rattle.lists.proofs.Listed.{entry-small, entry-within, count-most, weight-most, limit-most}
 use Rattle.lists.proofs.read_list.Statement.{statement}
 use Rattle.lists.proofs.read_list.Tie as tie
 
@@ -64,7 +65,8 @@ returns c =
     let a = start .args in
     let s =
     list-stuck (loop .inv .1)
-    (said-stays-on (entryOf (map (nameOf 8) (a .names .now)) (a .kind)) (a .rest .now) (loop .from) (loop .inv .1 .within) (said-few (a .names .now) (start .pre) (read .read-entry .ensures))
+    (said-stays-on (entryOf (map (nameOf 8) (a .names .now)) (a .kind)) (a .rest .now) (loop .from) (loop .inv .1 .within)
+    (said-few (a .names .now) (start .pre) (read .read-entry .ensures))
     (said-stuck-there (c .before .enum-told .given .1) (c .said-stuck-at .ensures))) in
     record { read = record { stands = stuck-with (listEntry (a .kind)) s }; stored = λ es p h. absurd (not-read (s .says) h) }
 
@@ -84,7 +86,8 @@ went c =
     let loop = read .before .before .loop in
     let start = read .before .before .before .before .before .before .before in
     let a = start .args in
-    said-went-on (entryOf (map (nameOf 8) (a .names .now)) (a .kind)) (a .rest .now) (loop .from) (loop .inv .1 .within) (said-few (a .names .now) (start .pre) (read .read-entry .ensures))
+    said-went-on (entryOf (map (nameOf 8) (a .names .now)) (a .kind)) (a .rest .now) (loop .from) (loop .inv .1 .within)
+    (said-few (a .names .now) (start .pre) (read .read-entry .ensures))
     (c .before .entry .given .1)
 
 add-next : tie.Need-add-next Inv-loop μ-loop
