@@ -24,13 +24,12 @@ following by item more false a r = past (a ∷ []) r
 
 module _ {A : Type 0} (by : ℕ) (item : Text → Past A) (more : ℕ) where
   follows : (t : Bool) (a : A) (r : Text)
-      → (elim t as (λ _. Past (List A)) [ true ↦ onward (byte by r) (λ _ q. onward (separatedOn by item more q) (λ xs p. past (a ∷ xs) p)) | false ↦ past (a ∷ []) r ])
-      ≡ following by item more t a r
+      → (elim t as (λ _. Past (List A)) [ true ↦ following by item more true a r | false ↦ past (a ∷ []) r ]) ≡ following by item more t a r
   follows true a r = refl
   follows false a r = refl
 
   stepped : (x : Past A)
-      → onward x (λ a r. elim (starts by r) as (λ _. Past (List A)) [ true ↦ onward (byte by r) (λ _ q. onward (separatedOn by item more q) (λ xs p. past (a ∷ xs) p)) | false ↦ past (a ∷ []) r ])
+      → onward x (λ a r. elim (starts by r) as (λ _. Past (List A)) [ true ↦ following by item more true a r | false ↦ past (a ∷ []) r ])
       ≡ onward x (λ a r. following by item more (starts by r) a r)
   stepped (past a r) = follows (starts by r) a r
   stepped (stuck r) = refl
@@ -50,7 +49,8 @@ module _ {A : Type 0} (say : A → Said) (by : ℕ) (item : Text → Past A) whe
 
   module _ (more : ℕ) (ih : (q : Text) → separatedOn by (seen say item) more q ≡ onward (separatedOn by item more q) each) where
     tail-too : (a : A) (x : Past (Unit {0}))
-        → onward x (λ _ q. with-first (say a) (separatedOn by (seen say item) more q)) ≡ onward (onward x (λ _ q. with-first a (separatedOn by item more q))) each
+        → onward x (λ _ q. with-first (say a) (separatedOn by (seen say item) more q))
+        ≡ onward (onward x (λ _ q. with-first a (separatedOn by item more q))) each
     tail-too a (past u q) = rw (ih q) (first-too a (separatedOn by item more q))
     tail-too a (stuck q) = refl
 
@@ -72,7 +72,8 @@ module _ {A : Type 0} (say : A → Said) (by : ℕ) (item : Text → Past A) whe
   all-too zero s = none-too s
   all-too (suc more) s = rw (one-more by (seen say item) more s, one-more by item more s) (item-too more (all-too more) (item s))
 
-  totalled : (total : List Said → Said) (whole : List A → Said) → ((xs : List A) → whole xs ≡ total (map say xs)) → (x : Past (List A))
+  totalled : (total : List Said → Said) (whole : List A → Said) → ((xs : List A) → whole xs ≡ total (map say xs))
+      → (x : Past (List A))
       → onward (onward x each) (λ es r. past (total es) r) ≡ onward x (λ xs r. past (whole xs) r)
   totalled total whole h (past xs r) = rw (h xs)
   totalled total whole h (stuck r) = refl
@@ -83,7 +84,8 @@ module _ {A : Type 0} (say : A → Said) (by : ℕ) (item : Text → Past A) whe
   gathered total whole h s = rw (all-too (suc (length s)) s) (totalled total whole h (separated by item s))
 
 -- A sign that stands there.
-pub sign-passed : (by : ℕ) (line : Text) (next : ℕ) → starts by (drop next line) ≡ true → (next < length line) × (past tt (drop (next + 1) line) ≡ byte by (drop next line))
+pub sign-passed : (by : ℕ) (line : Text) (next : ℕ) → starts by (drop next line) ≡ true
+    → (next < length line) × (past tt (drop (next + 1) line) ≡ byte by (drop next line))
 unfolding literal
 sign-passed by line next e = (sign-within by line next e, literal-more by [] line next e)
 
@@ -98,7 +100,8 @@ same-on : (x : Past (List Said)) → onward x (λ ds r. past ([] ++ ds) r) ≡ x
 same-on (past ds r) = refl
 same-on (stuck r) = refl
 
-snoc-on : (es : List Said) (e : Said) (x : Past (List Said)) → onward x (λ ds r. past ((es ++ (e ∷ [])) ++ ds) r) ≡ onward (with-first e x) (λ ds r. past (es ++ ds) r)
+snoc-on : (es : List Said) (e : Said) (x : Past (List Said))
+    → onward x (λ ds r. past ((es ++ (e ∷ [])) ++ ds) r) ≡ onward (with-first e x) (λ ds r. past (es ++ ds) r)
 snoc-on es e (past ds r) = ap (λ l. past l r) (append-snoc es e ds)
 snoc-on es e (stuck r) = refl
 
@@ -111,7 +114,8 @@ module _ {by : ℕ} {item : Text → Past Said} {line : Text} {at : ℕ} {es : L
   onto ds r = past (es ++ ds) r
 
   -- what the next entry decides
-  decides : {x : Past Said} → x ≡ item (drop at line) → onward (onward x (λ e r. following by item (p .more) (starts by r) e r)) onto ≡ separated by item line
+  decides : {x : Past Said} → x ≡ item (drop at line)
+      → onward (onward x (λ e r. following by item (p .more) (starts by r) e r)) onto ≡ separated by item line
   decides h =
       ap (λ y. onward (onward y (λ e r. following by item (p .more) (starts by r) e r)) onto) h
       ∙ ap (λ y. onward y onto) (sym (one-more by item (p .more) (drop at line)))
@@ -155,6 +159,7 @@ pub stuck-with : {A : Type 0} {line : Text} {q : ℕ} {t : Text} {due : Past (Li
     → Stands line q (stuck t) (onward due (λ es r. past (total es) r))
 stuck-with total s = record { says = ap (λ d. onward d (λ es r. past (total es) r)) (s .says); within = s .within }
 
-pub ended-with : {A : Type 0} {line : Text} {q : ℕ} {t : Text} {es : List Said} {due : Past (List Said)} (total : List Said → A) → Stands line q (past es t) due
+pub ended-with : {A : Type 0} {line : Text} {q : ℕ} {t : Text} {es : List Said} {due : Past (List Said)} (total : List Said → A)
+    → Stands line q (past es t) due
     → Stands line q (past (total es) t) (onward due (λ es r. past (total es) r))
 ended-with total s = record { says = ap (λ d. onward d (λ es r. past (total es) r)) (s .says); within = s .within }

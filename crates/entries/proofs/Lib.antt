@@ -1,7 +1,7 @@
 -- The laws that the readers' proofs cite; each file after those that it cites.
 -- Tallied, tallied-none, tallied-more: a tally, entry by entry, against the faults of the whole list
 pub mod Tallied
--- said-went, said-stays, said-went-on, said-stays-on, part-seen, pair-seen, rule-seen, none-with-many: entries as what they say
+-- said-went, said-stays, said-went-on, said-stays-on, part-seen, pair-seen, rule-seen, few-said, many-said: entries as what they say
 pub mod Seen
 -- Progress, begun, list-stuck, list-ends, list-goes-on: the loop over the entries of a list
 pub mod Gathered

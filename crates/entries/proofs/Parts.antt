@@ -18,7 +18,8 @@ use Rattle.meaning.proofs.Tests.{and-right}
 use Rattle.meaning.proofs.Bags.{number-plus}
 use Rattle.grammar.specs.Text.{Past, past, stuck, onward, sameText, byte, isDigit, secondDigit, number, word, separated}
 use Rattle.grammar.specs.Forms.{Part, Parts, part, label, colon, dot}
-use Rattle.grammar.specs.Faults.{Found, fine, fault, worse, smaller, unless, worst, rising, nameNumber, nameFault, labelSaid, actions, partFault, labelFault, numberSaid}
+use Rattle.grammar.specs.Faults.{Found, fine, fault, worse, smaller, unless, worst, rising}
+use Rattle.grammar.specs.Faults.{nameNumber, nameFault, labelSaid, actions, partFault, labelFault, numberSaid}
 use Rattle.entries.specs.Tallies.{Said, weightOf, allFaults}
 use Rattle.entries.specs.Entries.{seen, partSaid, unlessFaulty, labelEntry, Room}
 use Rattle.entries.proofs.Tallied.{all-snoc}
@@ -78,12 +79,14 @@ pub unless-none : (b : Bool) (f : Fault) → unless b f ≡ fine → b ≡ true
 unless-none true f e = refl
 unless-none false f e = absurd (faulty-not f e)
 
-pub weight-within : (weight : Said → ℕ) (limit : ℕ) (es : List Said) → allFaults weight limit es ≡ fine → (worst (λ e. e .found) es ≡ fine) × (weightOf weight es ≤ limit)
+pub weight-within : (weight : Said → ℕ) (limit : ℕ) (es : List Said) → allFaults weight limit es ≡ fine
+    → (worst (λ e. e .found) es ≡ fine) × (weightOf weight es ≤ limit)
 unfolding allFaults
 weight-within weight limit es e =
-    let p = worse-none (worst (λ e. e .found) es) (worse (unless (rising (map (λ e. e .first) es)) amount) (unless (leb (weightOf weight es) limit) amount)) e in
-    let q = worse-none (unless (rising (map (λ e. e .first) es)) amount) (unless (leb (weightOf weight es) limit) amount) (p .1) in
-    (p .0, leb-true (weightOf weight es) limit (unless-none (leb (weightOf weight es) limit) amount (q .1)))
+    let light = leb (weightOf weight es) limit in
+    let p = worse-none (worst (λ e. e .found) es) (worse (unless (rising (map (λ e. e .first) es)) amount) (unless light amount)) e in
+    let q = worse-none (unless (rising (map (λ e. e .first) es)) amount) (unless light amount) (p .1) in
+    (p .0, leb-true (weightOf weight es) limit (unless-none light amount (q .1)))
 
 pub each-fine : (es : List Said) → worst (λ e. e .found) es ≡ fine → Each (λ e. e .found ≡ fine) es
 unfolding worst
@@ -153,11 +156,15 @@ module _ (es : List Said) (e : Said) (ks : Each Known es) (k : Known e) (number 
   pub room-for : {x : Found} → x ≡ allFaults sizes 31 (es ++ (e ∷ [])) → Room x number (e .first) (e .second)
   room-for {x} f = room-of x f
 
-  sum-of : (x : Found) → x ≡ allFaults sizes 31 (es ++ (e ∷ [])) → unlessFaulty x (number + e .second * 32 ^ e .first) ≡ unlessFaulty x (numberOf (es ++ (e ∷ [])))
+  sum-of : (x : Found) → x ≡ allFaults sizes 31 (es ++ (e ∷ []))
+      → unlessFaulty x (number + e .second * 32 ^ e .first) ≡ unlessFaulty x (numberOf (es ++ (e ∷ [])))
   sum-of fine f = let b = before (sym f) in omega (arith, number-snoc es e, b .0)
   sum-of (fault x) f = refl
 
-  pub sum-more : {x : Found} {r : ℕ} → x ≡ allFaults sizes 31 (es ++ (e ∷ [])) → r ≡ unlessFaulty x (number + e .second * 32 ^ e .first) → r ≡ partsNumber (es ++ (e ∷ []))
+  pub sum-more : {x : Found} {r : ℕ}
+      → x ≡ allFaults sizes 31 (es ++ (e ∷ []))
+      → r ≡ unlessFaulty x (number + e .second * 32 ^ e .first)
+      → r ≡ partsNumber (es ++ (e ∷ []))
   sum-more {x} {r} f g = g ∙ sum-of x f ∙ ap (λ y. unlessFaulty y (numberOf (es ++ (e ∷ [])))) f
 
 -- A number as it is read has two digits at most.
@@ -218,16 +225,22 @@ module _ (words : List Text) (few : length words ≤ 12) where
         few = h;
       }
 
-  known-last : (w : Text) (z : Past ℕ) → SmallPast z → KnownPast (onward (onward z (λ n p. past (record { name = w; times = n }) p)) (λ p r. past (partSaid words p) r))
+  -- a name with the number after it, and such a part as it is said
+  abbrev timed : Text → ℕ → Text → Past Part
+  timed w n p = past (record { name = w; times = n }) p
+
+  abbrev saying : Part → Text → Past Said
+  saying p r = past (partSaid words p) r
+
+  known-last : (w : Text) (z : Past ℕ) → SmallPast z → KnownPast (onward (onward z (timed w)) saying)
   known-last w (past n r) h = known-part (record { name = w; times = n }) h
   known-last w (stuck r) h = tt
 
-  known-sign : (w : Text) (y : Past (Unit {0})) → KnownPast (onward (onward y (λ _ q. onward (number q) (λ n p. past (record { name = w; times = n }) p))) (λ p r. past (partSaid words p) r))
+  known-sign : (w : Text) (y : Past (Unit {0})) → KnownPast (onward (onward y (λ _ q. onward (number q) (timed w))) saying)
   known-sign w (past u q) = known-last w (number q) (two-digits q)
   known-sign w (stuck q) = tt
 
-  known-word : (x : Past Text)
-      → KnownPast (onward (onward x (λ w r. onward (byte colon r) (λ _ q. onward (number q) (λ n p. past (record { name = w; times = n }) p)))) (λ p r. past (partSaid words p) r))
+  known-word : (x : Past Text) → KnownPast (onward (onward x (λ w r. onward (byte colon r) (λ _ q. onward (number q) (timed w)))) saying)
   known-word (past w r) = known-sign w (byte colon r)
   known-word (stuck r) = tt
 
@@ -268,7 +281,8 @@ module _ (words : List Text) where
   unfolding labelFault
   parts-fine ps e = worse-none (worst (partFault words) ps) _ e .0
 
-  same-number : (ps : Parts) (f : Found) → f ≡ labelFault words ps → unlessFaulty f (numberSaid words ps) ≡ unlessFaulty f (numberOf (map (partSaid words) ps))
+  same-number : (ps : Parts) (f : Found) → f ≡ labelFault words ps
+      → unlessFaulty f (numberSaid words ps) ≡ unlessFaulty f (numberOf (map (partSaid words) ps))
   same-number ps fine e = label-number ps (parts-fine ps (sym e))
   same-number ps (fault x) e = refl
 
@@ -278,7 +292,8 @@ module _ (words : List Text) where
       (same-number ps (labelFault words ps) refl ∙ ap (λ f. unlessFaulty f (numberOf (map (partSaid words) ps))) (label-faults ps))
       (ap (min 32) (sym (weight-actions ps)))
 
-  pub label-seen : (s : Text) → onward (separated dot (seen (partSaid words) part) s) (λ es r. past (partsEntry es) r) ≡ seen (labelEntry words) label s
+  pub label-seen : (s : Text)
+      → onward (separated dot (seen (partSaid words) part) s) (λ es r. past (partsEntry es) r) ≡ seen (labelEntry words) label s
   label-seen s = gathered (partSaid words) dot part partsEntry (labelEntry words) label-total s
 
 -- No entry's number is too large to have another after it.
@@ -289,8 +304,10 @@ unless-small (fault x) n m h z = z
 module _ (words : List Text) (few : length words ≤ 12) where
   parts-below : (ps : Parts) → Each Below (map (partSaid words) ps)
   parts-below [] = tt
-  parts-below (p ∷ ps) =
-      (λ e. let k = name-known words (p .name) (worse-none (nameFault words (p .name)) (unless (leb 1 (p .times)) amount) e .0) in omega arith, parts-below ps)
+  parts-below (p ∷ ps) = (
+    λ e. let k = name-known words (p .name) (worse-none (nameFault words (p .name)) (unless (leb 1 (p .times)) amount) e .0) in omega arith,
+    parts-below ps,
+  )
 
   pub label-small : (ps : Parts) → unlessFaulty (labelFault words ps) (numberSaid words ps) < 2 ^ 63
   label-small ps =

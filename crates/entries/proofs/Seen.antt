@@ -39,7 +39,8 @@ module _ {line : Text} {r : SaidStep} {due : Past Said} (s : Says line r due) wh
   pub said-halted : {p : ℕ} (k : Said → Text → Past Said) → r ≡ S.Stuck p → Says line r (onward due k)
   said-halted k h = record { stands = rw h (stops k (said-stays h)) }
 
-module _ (form : Text → Past Said) (line : Text) (at : ℕ) {r : SaidStep} (h : at ≤ length line) (s : Says (restAt line at) r (form (restAt line at))) where
+module _ (form : Text → Past Said) (line : Text) (at : ℕ) {r : SaidStep} (h : at ≤ length line)
+    (s : Says (restAt line at) r (form (restAt line at))) where
   there : Says (drop at line) r (form (drop at line))
   there = rw (rest-drop line at h) at s
 
@@ -71,7 +72,8 @@ module _ {A C D E : Type 0} (make : A → C → D) (say : D → E) (f : A → C 
   in-two (past a r) y z = middle a (y r) z
   in-two (stuck r) y z = refl
 
-pub carried : {A B C : Type 0} (say : A → B) (k : B → Text → Past C) (x : Past A) → onward (onward x (λ a r. past (say a) r)) k ≡ onward x (λ a r. k (say a) r)
+pub carried : {A B C : Type 0} (say : A → B) (k : B → Text → Past C) (x : Past A)
+    → onward (onward x (λ a r. past (say a) r)) k ≡ onward x (λ a r. k (say a) r)
 carried say k (past a r) = refl
 carried say k (stuck r) = refl
 
@@ -79,29 +81,36 @@ carried say k (stuck r) = refl
 abbrev partOf : Said → ℕ → Said
 partOf e n = record { found = worse (e .found) (unless (leb 1 n) amount); first = e .first; second = n }
 
-pub part-seen : (words : List Text) (s : Text)
-    → onward (seen (nameEntry words) word s) (λ e r. onward (onward (byte colon r) (λ _ q. number q)) (λ n p. past (partOf e n) p)) ≡ seen (partSaid words) part s
+abbrev counting : Said → Text → Past Said
+counting e r = onward (onward (byte colon r) (λ _ q. number q)) (λ n p. past (partOf e n) p)
+
+pub part-seen : (words : List Text) (s : Text) → onward (seen (nameEntry words) word s) counting ≡ seen (partSaid words) part s
 unfolding part
 part-seen words s =
-    carried (nameEntry words) (λ e r. onward (onward (byte colon r) (λ _ q. number q)) (λ n p. past (partOf e n) p)) (word s)
-    ∙ in-two (λ w n. record { name = w; times = n }) (partSaid words) (λ w n. partOf (nameEntry words w) n) (λ w n. refl) (word s) (literal (colon ∷ [])) number
+    carried (nameEntry words) counting (word s)
+    ∙ in-two (λ w n. record { name = w; times = n }) (partSaid words) (λ w n. partOf (nameEntry words w) n) (λ w n. refl)
+    (word s) (literal (colon ∷ [])) number
 
 -- the right side, as what its name says
+abbrev beside : Said → Said → Text → Past Said
+beside l e p = past (record { found = worse (l .found) (e .found); first = l .first; second = e .first }) p
+
 pub right-seen : (words : List Text) (l : Said) (s : Text)
-    → onward (byte greater s) (λ _ q. onward (seen (nameEntry words) word q) (λ e p. past (record { found = worse (l .found) (e .found); first = l .first; second = e .first }) p)) ≡ rightSide words l s
+    → onward (byte greater s) (λ _ q. onward (seen (nameEntry words) word q) (beside l)) ≡ rightSide words l s
 right-seen words l s = go (byte greater s)
   where
     go : (x : Past (Unit {0}))
-        → onward x (λ _ q. onward (seen (nameEntry words) word q) (λ e p. past (record { found = worse (l .found) (e .found); first = l .first; second = e .first }) p))
-        ≡ onward (onward x (λ _ q. word q)) (λ w p. past (withRight words l w) p)
-    go (past u q) = carried (nameEntry words) (λ e p. past (record { found = worse (l .found) (e .found); first = l .first; second = e .first }) p) (word q)
+        → onward x (λ _ q. onward (seen (nameEntry words) word q) (beside l)) ≡ onward (onward x (λ _ q. word q)) (λ w p. past (withRight words l w) p)
+    go (past u q) = carried (nameEntry words) (beside l) (word q)
     go (stuck q) = refl
 
 pub said-same : {f g : Found} {a b c d : ℕ} → f ≡ g → a ≡ b → c ≡ d
     → _≡_ {A = Said} (record { found = f; first = a; second = c }) (record { found = g; first = b; second = d })
 said-same p q r = rw (p, q, r)
 
-pub name-faulted : {f : Found} {n : ℕ} (names : List ℕ) (w : Text) → f ≡ unless (ltb n (length names)) name → n ≡ nameNumber (map (nameOf 8) names) w
+pub name-faulted : {f : Found} {n : ℕ} (names : List ℕ) (w : Text)
+    → f ≡ unless (ltb n (length names)) name
+    → n ≡ nameNumber (map (nameOf 8) names) w
     → f ≡ nameFault (map (nameOf 8) names) w
 unfolding nameFault
 name-faulted names w e h = rw (length-map names (nameOf 8), ← h) e
@@ -113,7 +122,8 @@ at-least-two n = cases (leb 2 n) refl
     cases true e = let h = leb-true 2 n e in le-leb 2 (min 32 n) (omega arith)
     cases false e = let h = leb-false 2 n e in lt-leb 2 (min 32 n) (omega arith)
 
-rule-same : (words : List Text) (a : Parts) (w : Text) → withRight words (twoOrMore (labelEntry words a)) w ≡ ruleEntry words (record { left = a; right = w })
+rule-same : (words : List Text) (a : Parts) (w : Text)
+    → withRight words (twoOrMore (labelEntry words a)) w ≡ ruleEntry words (record { left = a; right = w })
 rule-same words a w = rw (at-least-two (actions a))
 
 -- Entries of two sides: the right one after a left one that was read.
@@ -121,7 +131,8 @@ pub pair-seen : (words : List Text) (s : Text) → onward (seen (nameEntry words
 unfolding pair
 pair-seen words s =
     carried (nameEntry words) (rightSide words) (word s)
-    ∙ in-two (λ v w. record { left = v; right = w }) (pairEntry words) (λ v w. withRight words (nameEntry words v) w) (λ v w. refl) (word s) (literal (greater ∷ [])) word
+    ∙ in-two (λ v w. record { left = v; right = w }) (pairEntry words) (λ v w. withRight words (nameEntry words v) w) (λ v w. refl)
+    (word s) (literal (greater ∷ [])) word
 
 pub rule-seen : (words : List Text) (s : Text)
     → onward (onward (seen (labelEntry words) label s) (λ l p. past (twoOrMore l) p)) (rightSide words) ≡ seen (ruleEntry words) rule s
@@ -129,7 +140,8 @@ unfolding rule
 rule-seen words s =
     carried twoOrMore (rightSide words) (seen (labelEntry words) label s)
     ∙ carried (labelEntry words) (λ l r. rightSide words (twoOrMore l) r) (label s)
-    ∙ in-two (λ a w. record { left = a; right = w }) (ruleEntry words) (λ a w. withRight words (twoOrMore (labelEntry words a)) w) (rule-same words) (label s) (literal (greater ∷ [])) word
+    ∙ in-two (λ a w. record { left = a; right = w }) (ruleEntry words) (λ a w. withRight words (twoOrMore (labelEntry words a)) w) (rule-same words)
+    (label s) (literal (greater ∷ [])) word
 
 pub both-sides : {words : List Text} {line : Text} {left r : SaidStep} {due other : Past Said} → Says line left due → Sided words line left r
     → onward due (rightSide words) ≡ other → Says line r other
@@ -151,11 +163,13 @@ enough-said {line} s t =
     }
 
 -- With few enough names an entry is read; with more nothing is.
-pub few-said : (names : List ℕ) {line : Text} {r : SaidStep} {due : Past Said} → length names ≤ 12 → Says line r due → Says line r (withFew names due line)
+pub few-said : (names : List ℕ) {line : Text} {r : SaidStep} {due : Past Said} → length names ≤ 12 → Says line r due
+    → Says line r (withFew names due line)
 few-said names h s = rw (le-leb (length names) 12 h) s
 
 pub many-said : (names : List ℕ) {line : Text} (due : Past Said) → 12 < length names → Says line (S.Stuck 0) (withFew names due line)
 many-said names due h = rw (lt-leb (length names) 12 h) (record { stands = record { says = refl; within = omega arith } })
 
-pub said-few : (names : List ℕ) {line : Text} {r : SaidStep} {due : Past Said} → length names ≤ 12 → Says line r (withFew names due line) → Says line r due
+pub said-few : (names : List ℕ) {line : Text} {r : SaidStep} {due : Past Said} → length names ≤ 12 → Says line r (withFew names due line)
+    → Says line r due
 said-few names h s = rw (le-leb (length names) 12 h) at s

@@ -8,19 +8,7 @@ use Rattle.meaning.specs.Bytes.{Text}
 use Rattle.meaning.specs.Rounds.{pick}
 use Rattle.grammar.specs.Text.{Past, past, stuck, onward, word}
 use Rattle.grammar.specs.Forms.{Part, Parts, WordPair, WordRule, label, pair, rule}
-use Rattle.grammar.specs.Faults.{
-  Found,
-  fine,
-  fault,
-  nameNumber,
-  nameFault,
-  partFault,
-  pairFault,
-  ruleFault,
-  actions,
-  labelFault,
-  numberSaid,
-}
+use Rattle.grammar.specs.Faults.{Found, fine, fault, nameNumber, nameFault, partFault, pairFault, ruleFault, actions, labelFault, numberSaid}
 use Rattle.faults.specs.CodedFaults.{foundOf}
 use Rattle.words.specs.Steps.{Stands}
 use Rattle.entries.specs.Tallies.{Said}

@@ -41,6 +41,7 @@ fn with_right(left: SaidStep, rest: &[u8], names: &[u64]) -> SaidStep
     SaidStep::To(said, behind + bytes)
 }
 
+// A name on each side.
 pub fn read_pair(rest: &[u8], names: &[u64]) -> SaidStep
     ensures { λ r. ⌜ Says (now (rest .entry)) r (seen (pairEntry (map (nameOf 8) (now (names .entry)))) pair (now (rest .entry))) ⌝ }
 {
@@ -63,6 +64,7 @@ fn two_or_more(label: SaidStep) -> SaidStep
     SaidStep::To(said, next)
 }
 
+// A label on the left side.
 pub fn read_rule(rest: &[u8], names: &[u64]) -> SaidStep
     requires { ⌜ length (now names) ≤ 12 ⌝ }
     ensures { λ r. ⌜ Says (now (rest .entry)) r (seen (ruleEntry (map (nameOf 8) (now (names .entry)))) rule (now (rest .entry))) ⌝ }

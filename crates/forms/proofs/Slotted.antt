@@ -33,7 +33,8 @@ use Rattle.tails.specs.declared.TermStep.the-variants as T
 use Rattle.entries.proofs.Parts.{worse-none}
 
 -- A term in its slot has the kind and the operands of the term that it stands for.
-pub kept : (f : D.Term → Bool) → ((o q : D.Operator) (t : ℕ) → f (D.wrap o t) ≡ f (D.wrap q t)) → (n : ℕ) (t : D.Term) → f (bareTerm (termFor n t)) ≡ f t
+pub kept : (f : D.Term → Bool) → ((o q : D.Operator) (t : ℕ) → f (D.wrap o t) ≡ f (D.wrap q t)) → (n : ℕ) (t : D.Term)
+    → f (bareTerm (termFor n t)) ≡ f t
 kept f h n (D.act a) = refl
 kept f h n D.tau = refl
 kept f h n D.delta = refl
@@ -49,7 +50,8 @@ kept f h n (D.sync t u) = refl
 kept f h n (D.wrap o t) = h _ o t
 
 -- and so it has in its word, though a number may be cut there
-of-kind : (k t u entries : ℕ) → k < 32 → isMultiAction (bareSlot (packed k t u entries)) ≡ isMultiAction (bareTerm (kindTerm k (t % 65536) (u % 65536) (entries % 65536)))
+of-kind : (k t u entries : ℕ) → k < 32
+    → isMultiAction (bareSlot (packed k t u entries)) ≡ isMultiAction (bareTerm (kindTerm k (t % 65536) (u % 65536) (entries % 65536)))
 of-kind k t u entries h = ap (λ (x : Term). isMultiAction (bareTerm x)) (taken-out k t u entries h)
 
 multi-word : (x : Term) → isMultiAction (bareSlot (termWord x)) ≡ isMultiAction (bareTerm x)
@@ -86,7 +88,8 @@ multi-slots zero k (x ∷ terms) t h = absurd (not-suc-le-zero h)
 multi-slots (suc m) k (x ∷ terms) zero h = multi-word (termFor k x) ∙ kept isMultiAction (λ o q t. refl) k x
 multi-slots (suc m) k (x ∷ terms) (suc t) h = multi-slots m (suc k) terms t (le-of-suc-le-suc h)
 
-fit-slots : (terms : List D.Term) (x : D.Term) → length terms ≤ 96 → operandsFit (map bareSlot (filled 96 0 (slotsFrom 0 terms))) x ≡ operandsFit terms x
+fit-slots : (terms : List D.Term) (x : D.Term) → length terms ≤ 96
+    → operandsFit (map bareSlot (filled 96 0 (slotsFrom 0 terms))) x ≡ operandsFit terms x
 fit-slots terms (D.act a) h = refl
 fit-slots terms D.tau h = refl
 fit-slots terms D.delta h = refl
@@ -104,8 +107,14 @@ fit-slots terms (D.wrap o t) h = refl
 -- All faults of a line.
 module _ (words : List Text) (equations : ℕ) (terms : List D.Term) (slots : List ℕ) (few : length terms ≤ 96)
     (filling : slots ≡ filled 96 0 (slotsFrom 0 terms)) where
-  faults-joined : (n : ℕ) → n ≡ length terms → (line : Line) (x : Term) (a f : Found) → x ≡ termFor (length terms) (termSaid words line) → a ≡ wordsOfFault words line
-      → f ≡ worse a (worse (unless (inRange equations n (bareTerm x)) range) (unless (operandsFit (map bareSlot slots) (bareTerm x)) operand))
+  -- the faults of a term after the terms in the slots
+  abbrev placed : ℕ → Term → Found
+  placed n x = worse (unless (inRange equations n (bareTerm x)) range) (unless (operandsFit (map bareSlot slots) (bareTerm x)) operand)
+
+  faults-joined : (n : ℕ) → n ≡ length terms → (line : Line) (x : Term) (a f : Found)
+      → x ≡ termFor (length terms) (termSaid words line)
+      → a ≡ wordsOfFault words line
+      → f ≡ worse a (placed n x)
       → f ≡ termFault words equations terms line
   unfolding termFault
   faults-joined n here line x a f e w h =
@@ -126,11 +135,14 @@ module _ (words : List Text) (equations : ℕ) (terms : List D.Term) (slots : Li
   words-fine line e = worse-none (wordsOfFault words line) _ e .0
 
   module _ (n : ℕ) (here : n ≡ length terms) (line : Text) (before after : List ℕ) (long : length after ≡ length before) where
-    pub term-stays : (said : TermStep) {p : ℕ} → said ≡ T.Stuck p → LineRead words n line (termLine line) before after said → TermRead words equations terms line before after said
+    pub term-stays : (said : TermStep) {p : ℕ} → said ≡ T.Stuck p
+        → LineRead words n line (termLine line) before after said
+        → TermRead words equations terms line before after said
     term-stays said e h = let s = rw e at h in rw e (s .says, long)
 
-    pub term-taken : {said : TermStep} {x : Term} {f g : G.Found} → said ≡ T.To x f → LineRead words n line (termLine line) before after said
-        → foundOf g ≡ worse (foundOf f) (worse (unless (inRange equations n (bareTerm x)) range) (unless (operandsFit (map bareSlot slots) (bareTerm x)) operand))
+    pub term-taken : {said : TermStep} {x : Term} {f g : G.Found} → said ≡ T.To x f
+        → LineRead words n line (termLine line) before after said
+        → foundOf g ≡ worse (foundOf f) (placed n x)
         → TermTaken words equations terms (termLine line) before after x g
     term-taken {x = x} {f} {g} e h k =
         let l : LineTerm words n (termLine line) before after x f = rw e at h in

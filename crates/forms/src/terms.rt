@@ -32,6 +32,7 @@ fn farthest(x: TermStep, at: usize, far: usize) -> TermStep
     TermStep::Stuck(most(far, at + p))
 }
 
+// The key, the kind's word and what follows it, with the faults of the names and the list.
 fn read_line(line: &[u8], names: &[u64], n: usize, store: &mut [u64]) -> TermStep
     requires { ⌜ (length (now names) ≤ 12) × (n < 96) ⌝ }
     ensures { λ r. ⌜ LineRead (map (nameOf 8) (now (names .entry))) n (now (line .entry))

@@ -12,7 +12,9 @@ use Rattle.meaning.specs.Labels as L
 use Rattle.meaning.specs.Answers.{name, amount}
 use Rattle.table.specs.Encoded.{pairWord, ruleWords}
 use Rattle.grammar.specs.Forms.{Parts, WordPair, WordRule}
-use Rattle.grammar.specs.Faults.{Found, fine, fault, worse, unless, worst, rising, nameNumber, nameFault, partFault, labelFault, ruleFault, wordsFault, pairsFault, rulesFault, labelsFault, actions, numberSaid, labelSaid, pairSaid, ruleSaid}
+use Rattle.grammar.specs.Faults.{Found, fine, fault, worse, unless, worst, rising}
+use Rattle.grammar.specs.Faults.{nameFault, partFault, labelFault, ruleFault, wordsFault, pairsFault, rulesFault, labelsFault}
+use Rattle.grammar.specs.Faults.{nameNumber, actions, numberSaid, labelSaid, pairSaid, ruleSaid}
 use Rattle.entries.specs.Tallies.{Said, weightOf, allFaults}
 use Rattle.entries.specs.Entries.{nameEntry, pairEntry, ruleEntry, labelEntry, unlessFaulty}
 use Rattle.lists.specs.Lists.{listFaults, listWords}
@@ -21,7 +23,8 @@ use Rattle.faults.proofs.Ranks.{by-rank, rank-worse, worse-fine}
 use Rattle.entries.proofs.Parts.{worst-map, map-twice, worse-none}
 
 -- The weight of a list whose entries all weigh the same.
-weighed : {A : Type 0} (weight : ℕ) (say : A → Said) (xs : List A) → (weight ≡ 0 → weightOf (λ e. weight) (map say xs) ≡ 0) × (weight ≡ 1 → weightOf (λ e. weight) (map say xs) ≡ length xs)
+weighed : {A : Type 0} (weight : ℕ) (say : A → Said) (xs : List A)
+    → (weight ≡ 0 → weightOf (λ e. weight) (map say xs) ≡ 0) × (weight ≡ 1 → weightOf (λ e. weight) (map say xs) ≡ length xs)
 unfolding weightOf
 weighed weight say [] = (λ z. refl, λ z. refl)
 weighed weight say (x ∷ xs) =
@@ -80,7 +83,8 @@ either-amount g =
     (omega (arith, rank-worse (fault amount) g, rank-worse (fault amount) (worse (fault amount) g)))
 
 -- so two orders count alike where they agree on lists without a fault
-ordered : {f : Found} (b c : Bool) (g : Found) → Mild f → (f ≡ fine → b ≡ c) → worse f (worse (unless b amount) g) ≡ worse f (worse (unless c amount) g)
+ordered : {f : Found} (b c : Bool) (g : Found) → Mild f → (f ≡ fine → b ≡ c)
+    → worse f (worse (unless b amount) g) ≡ worse f (worse (unless c amount) g)
 ordered b c g none-found h = rw (h refl)
 ordered true true g name-found h = refl
 ordered true false g name-found h = either-name g
@@ -93,7 +97,8 @@ ordered false false g amount-found h = refl
 
 -- The faults of a list from what its entries say.
 module _ {A : Type 0} (say : A → Said) where
-  unweighed : (xs : List A) → worse (worst (λ x. say x .found) xs) (unless (rising (map (λ x. say x .first) xs)) amount) ≡ allFaults (λ e. 0) 0 (map say xs)
+  unweighed : (xs : List A)
+      → worse (worst (λ x. say x .found) xs) (unless (rising (map (λ x. say x .first) xs)) amount) ≡ allFaults (λ e. 0) 0 (map say xs)
   unfolding allFaults
   unweighed xs =
       rw (worst-map (λ e. e .found) say xs, map-twice (λ e. e .first) say xs, weighed 0 say xs .0 refl)
@@ -106,7 +111,8 @@ module _ {A : Type 0} (say : A → Said) where
   counting limit xs = rw (worst-map (λ e. e .found) say xs, map-twice (λ e. e .first) say xs, weighed 1 say xs .1 refl)
 
   -- keys that agree on entries without a fault
-  same-keys : (key : A → ℕ) → ((x : A) → say x .found ≡ fine → key x ≡ say x .first) → (xs : List A) → worst (λ x. say x .found) xs ≡ fine
+  same-keys : (key : A → ℕ) → ((x : A) → say x .found ≡ fine → key x ≡ say x .first) → (xs : List A)
+      → worst (λ x. say x .found) xs ≡ fine
       → map key xs ≡ map (λ x. say x .first) xs
   unfolding worst
   same-keys key h [] e = refl
@@ -114,7 +120,10 @@ module _ {A : Type 0} (say : A → Said) where
       let p = worse-none (say x .found) (worst (λ x. say x .found) xs) e in
       ap₂ {C = List ℕ} _∷_ (h x (p .0)) (same-keys key h xs (p .1))
 
-  counted-by : (key : A → ℕ) (limit : ℕ) → ((x : A) → Mild (say x .found)) → ((x : A) → say x .found ≡ fine → key x ≡ say x .first) → (xs : List A)
+  counted-by : (key : A → ℕ) (limit : ℕ)
+      → ((x : A) → Mild (say x .found))
+      → ((x : A) → say x .found ≡ fine → key x ≡ say x .first)
+      → (xs : List A)
       → worse (worst (λ x. say x .found) xs) (worse (unless (rising (map key xs)) amount) (unless (leb (length xs) limit) amount))
       ≡ allFaults (λ e. 1) limit (map say xs)
   counted-by key limit m h xs =
@@ -158,14 +167,17 @@ module _ (words : List Text) where
   pairs-words [] = refl
   pairs-words (p ∷ ps) = ap (λ l. (nameNumber words (p .left) + 32 * nameNumber words (p .right)) ∷ l) (pairs-words ps)
 
-  pub rules-words : (rs : List WordRule) → worst (ruleFault words) rs ≡ fine → listWords Rules (map (ruleEntry words) rs) ≡ ruleWords (map (ruleSaid words) rs)
+  pub rules-words : (rs : List WordRule) → worst (ruleFault words) rs ≡ fine
+      → listWords Rules (map (ruleEntry words) rs) ≡ ruleWords (map (ruleSaid words) rs)
   unfolding listWords ruleWords worst
   rules-words [] e = refl
   rules-words (r ∷ rs) e =
       let p = worse-none (ruleFault words r) (worst (ruleFault words) rs) e in
-      ap₂ {C = List ℕ} (λ n l. n ∷ nameNumber words (r .right) ∷ l) (sym (label-key (r .left) (left-fine r (p .0)))) (rules-words rs (p .1))
+      ap₂ {C = List ℕ} (λ n l. n ∷ nameNumber words (r .right) ∷ l)
+      (sym (label-key (r .left) (left-fine r (p .0)))) (rules-words rs (p .1))
 
-  pub labels-words : (ls : List Parts) → worst (labelFault words) ls ≡ fine → listWords Labels (map (labelEntry words) ls) ≡ map L.number (map (labelSaid words) ls)
+  pub labels-words : (ls : List Parts) → worst (labelFault words) ls ≡ fine
+      → listWords Labels (map (labelEntry words) ls) ≡ map L.number (map (labelSaid words) ls)
   unfolding listWords worst
   labels-words [] e = refl
   labels-words (ps ∷ ls) e =

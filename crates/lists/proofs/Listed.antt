@@ -78,7 +78,8 @@ abbrev SmallPast : ListKind → Past Said → Type 0
 SmallPast kind (past e r) = Small kind e
 SmallPast kind (stuck r) = Unit {0}
 
-small-seen : {A : Type 0} (kind : ListKind) (say : A → Said) → ((a : A) → Small kind (say a)) → (x : Past A) → SmallPast kind (onward x (λ a r. past (say a) r))
+small-seen : {A : Type 0} (kind : ListKind) (say : A → Said) → ((a : A) → Small kind (say a)) → (x : Past A)
+    → SmallPast kind (onward x (λ a r. past (say a) r))
 small-seen kind say h (past a r) = h a
 small-seen kind say h (stuck r) = tt
 
@@ -102,7 +103,8 @@ entry-none words Pairs = refl
 entry-none words Rules = refl
 entry-none words Labels = refl
 
-pub entry-within : (words : List Text) (kind : ListKind) (line : Text) (from : ℕ) {e : Said} {r : Text} → past e r ≡ entryOf words kind (drop from line)
+pub entry-within : (words : List Text) (kind : ListKind) (line : Text) (from : ℕ) {e : Said} {r : Text}
+    → past e r ≡ entryOf words kind (drop from line)
     → from < length line
 entry-within words kind line from {e} {r} h = cases (ltb from (length line)) refl
   where
@@ -124,8 +126,11 @@ module _ (kind : ListKind) (before : List ℕ) where
   unfolding over listWords
   filled-none = record { entries-are = refl; index-is = refl; index-most = omega arith; store-is = refl }
 
-  pub filled-more : {es : List Said} {entries index size : ℕ} {store after : List ℕ} (e : Said) → Filled kind before es entries index store → size ≡ wordCount kind
-      → after ≡ entryStored size store index (entryWord kind (e .first) (e .second)) (e .second) → Filled kind before (es ++ (e ∷ [])) (entries + 1) (index + size) after
+  pub filled-more : {es : List Said} {entries index size : ℕ} {store after : List ℕ} (e : Said)
+      → Filled kind before es entries index store
+      → size ≡ wordCount kind
+      → after ≡ entryStored size store index (entryWord kind (e .first) (e .second)) (e .second)
+      → Filled kind before (es ++ (e ∷ [])) (entries + 1) (index + size) after
   filled-more {es} {entries} {index} {size} {store} {after} e f s a =
       let w = words-snoc kind es e in
       let m = count-most kind in
@@ -194,7 +199,9 @@ many-read kind line before after =
     record { read = record { stands = record { says = refl; within = omega arith } }; stored = λ es p h. absurd (not-read refl h) }
 
 -- A list at a place of the line, with few enough names.
-pub list-there : (names : List ℕ) (kind : ListKind) (line : Text) (at : ℕ) {before after : List ℕ} {r : SaidStep} → length names ≤ 12 → at ≤ length line
+pub list-there : (names : List ℕ) (kind : ListKind) (line : Text) (at : ℕ) {before after : List ℕ} {r : SaidStep}
+    → length names ≤ 12
+    → at ≤ length line
     → ListRead kind (restAt line at) (withFew names (wholeList (map (nameOf 8) names) kind (restAt line at)) (restAt line at)) before after r
     → ListRead kind (drop at line) (wholeList (map (nameOf 8) names) kind (drop at line)) before after r
 list-there names kind line at few h l = rw (le-leb (length names) 12 few, rest-drop line at h) at l

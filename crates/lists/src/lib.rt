@@ -68,6 +68,7 @@ fn read_list(kind: ListKind, rest: &[u8], names: &[u64], store: &mut [u64]) -> S
     }
 }
 
+// Whether the whole rest is `none`, for a list that may have no entry.
 fn is_none(kind: ListKind, rest: &[u8]) -> bool
     ensures { λ r. ⌜ r ≡ (takesNone kind && sameText (now (rest .entry)) (ascii "none")) ⌝ }
 {

@@ -17,21 +17,8 @@ use Rattle.meaning.specs.Rounds.{pick}
 use Rattle.table.specs.Packed.{operatorAt}
 use Rattle.grammar.specs.Text.{Past, past, stuck, onward, sameText, ended, starts, literal, word}
 use Rattle.grammar.specs.Forms.{Line, wraps, Parts, comma, space, pair, rule, label, labelList, ofList}
-use Rattle.grammar.specs.Faults.{
-  fine,
-  wordsOfFault,
-  worst,
-  labelFault,
-  ruleFault,
-  rulesFault,
-  labelsFault,
-  listFault,
-  operatorSaid,
-  nameNumber,
-  pairSaid,
-  ruleSaid,
-  labelSaid,
-}
+use Rattle.grammar.specs.Faults.{fine, worst, wordsOfFault, labelFault, ruleFault, rulesFault, labelsFault, listFault}
+use Rattle.grammar.specs.Faults.{operatorSaid, nameNumber, pairSaid, ruleSaid, labelSaid}
 use Rattle.entries.specs.Tallies.{Said}
 use Rattle.words.specs.Steps.{Stands}
 use Rattle.entries.specs.Entries.{saidPlace, saidOf, nameEntry, pairEntry, ruleEntry, labelEntry}

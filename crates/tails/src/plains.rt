@@ -56,6 +56,7 @@ fn read_last(k: usize, t: usize, line: &[u8], at: usize) -> TermStep
     finish(line, next, plain(k, t, u as usize))
 }
 
+// Two numbers.
 fn read_two(k: usize, rest: &[u8]) -> TermStep
     ensures { λ r. ⌜ PlainRead (now (rest .entry)) (ofTwo (madeOf k) (now (rest .entry))) r ⌝ }
 {
@@ -66,6 +67,7 @@ fn read_two(k: usize, rest: &[u8]) -> TermStep
     read_last(k, t as usize, rest, after)
 }
 
+// A name, whose number is the term's.
 fn read_act(rest: &[u8], names: &[u64]) -> TermStep
     ensures { λ r. ⌜ Storeless (map (nameOf 8) (now (names .entry))) (now (rest .entry)) (ofName (now (rest .entry))) r ⌝ }
 {

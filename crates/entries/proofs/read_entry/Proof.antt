@@ -10,7 +10,9 @@ use Rattle.entries.proofs.read_entry.Statement.{statement}
 use Rattle.entries.proofs.read_entry.Tie as tie
 
 returns : tie.Need-returns
-returns c = let a = c .before .before .before .args in many-said (a .names .now) (entryOf (map (nameOf 8) (a .names .now)) (a .kind) (a .rest .now)) (c .if1 .taken)
+returns c =
+    let a = c .before .before .before .args in
+    many-said (a .names .now) (entryOf (map (nameOf 8) (a .names .now)) (a .kind) (a .rest .now)) (c .if1 .taken)
 
 enum-told : tie.Need-enum-told
 enum-told c = c .match .keys1

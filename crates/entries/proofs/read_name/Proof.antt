@@ -15,7 +15,8 @@ enum-told c = c .match .keys2
 
 returns : tie.Need-returns
 returns c =
-    record { stands = stops _ (stays (c .before .before .before .read-word .ensures) (stuck-there (c .before .enum-told .given .1) (c .stuck-at .ensures))) }
+    let read = c .before .before .before in
+    record { stands = stops _ (stays (read .read-word .ensures) (stuck-there (c .before .enum-told .given .1) (c .stuck-at .ensures))) }
 
 returns-2 : tie.Need-returns-2
 returns-2 c =

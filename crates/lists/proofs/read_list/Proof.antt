@@ -19,7 +19,8 @@ use Rattle.lists.specs.Lists.{weightFor, limitFor, wordCount, entryWord,
 use Rattle.entries.proofs.Seen.{said-stuck-there, said-went-on, said-stays-on, said-same, said-few}
 use Rattle.entries.proofs.Tallied.{Tallied, tallied-none, tallied-more}
 use Rattle.entries.proofs.Gathered.{Progress, begun, list-stuck, list-ends, list-goes-on, ended-with, stuck-with}
-use Rattle.lists.proofs.Listed.{length-over, entry-small, Filled, filled-none, filled-more, entry-within, not-read, as-read, count-most, weight-most, limit-most}
+use Rattle.lists.proofs.Listed.{Filled, filled-none, filled-more, length-over, not-read, as-read}
+use Rattle.lists.proofs.Listed.{entry-small, entry-within, count-most, weight-most, limit-most}
 use Rattle.lists.proofs.read_list.Statement.{statement}
 use Rattle.lists.proofs.read_list.Tie as tie
 
@@ -32,6 +33,13 @@ Inv-loop kind rest names store₀ shape tally₀ entries₀ index₀ from₀ sto
 
 abbrev μ-loop : tie.MeasureT-loop
 μ-loop kind rest names store₀ shape tally₀ entries₀ index₀ from₀ store tally entries index from = length rest - from
+
+-- the turn in which an entry was read, and the start of the function
+abbrev turn : tie.After-known-told Inv-loop μ-loop → tie.At-loop Inv-loop μ-loop
+turn c = c .before .before .before .before .before
+
+abbrev entry : tie.At-loop Inv-loop μ-loop → tie.Start Inv-loop μ-loop
+entry l = l .before .before .before .before .before
 
 loop-holds : tie.Need-loop-holds Inv-loop μ-loop
 loop-holds c =
@@ -60,11 +68,12 @@ returns : tie.Need-returns Inv-loop μ-loop
 returns c =
     let read = c .before .before .before in
     let loop = read .before .before .loop in
-    let start = read .before .before .before .before .before .before .before in
+    let start = entry (read .before .before) in
     let a = start .args in
     let s =
     list-stuck (loop .inv .1)
-    (said-stays-on (entryOf (map (nameOf 8) (a .names .now)) (a .kind)) (a .rest .now) (loop .from) (loop .inv .1 .within) (said-few (a .names .now) (start .pre) (read .read-entry .ensures))
+    (said-stays-on (entryOf (map (nameOf 8) (a .names .now)) (a .kind)) (a .rest .now) (loop .from) (loop .inv .1 .within)
+    (said-few (a .names .now) (start .pre) (read .read-entry .ensures))
     (said-stuck-there (c .before .enum-told .given .1) (c .said-stuck-at .ensures))) in
     record { read = record { stands = stuck-with (listEntry (a .kind)) s }; stored = λ es p h. absurd (not-read (s .says) h) }
 
@@ -75,16 +84,17 @@ add-t24 c = let s = returns c .read .stands .within in omega arith
 went : (c : tie.After-known-told Inv-loop μ-loop)
     → let read = c .before .before .before in
     let from = read .before .before .loop .from in
-    let a = read .before .before .before .before .before .before .before .args in
+    let a = entry (read .before .before) .args in
     let next = from + c .before .entry .given .0 .1 .0 in
     Stands (a .rest .now) next (past (saidOf (c .before .entry .given .0 .0)) (drop next (a .rest .now)))
     (entryOf (map (nameOf 8) (a .names .now)) (a .kind) (drop from (a .rest .now)))
 went c =
     let read = c .before .before .before in
     let loop = read .before .before .loop in
-    let start = read .before .before .before .before .before .before .before in
+    let start = entry (read .before .before) in
     let a = start .args in
-    said-went-on (entryOf (map (nameOf 8) (a .names .now)) (a .kind)) (a .rest .now) (loop .from) (loop .inv .1 .within) (said-few (a .names .now) (start .pre) (read .read-entry .ensures))
+    said-went-on (entryOf (map (nameOf 8) (a .names .now)) (a .kind)) (a .rest .now) (loop .from) (loop .inv .1 .within)
+    (said-few (a .names .now) (start .pre) (read .read-entry .ensures))
     (c .before .entry .given .1)
 
 add-next : tie.Need-add-next Inv-loop μ-loop
@@ -92,18 +102,18 @@ add-next c = let s = went c .within in omega arith
 
 entered : (c : tie.After-known-told Inv-loop μ-loop)
     → let e = c .before .entry .given .0 .0 in
-    let a = c .before .before .before .before .before .before .before .before .before .before .args in
+    let a = entry (turn c) .args in
     (e .first < 2 ^ 63) × (entryWord (a .kind) (e .first) (e .second) < 2 ^ 64)
 entered c =
-    let start = c .before .before .before .before .before .before .before .before .before .before in
+    let start = entry (turn c) in
     entry-small _ (rw length-map (start .pre)) (start .args .kind) _ (went c .says)
 
 entry-word-requires : tie.Need-entry-word-requires Inv-loop μ-loop
 entry-word-requires c κs = entered (c .before) .1
 
 tallied : (c : tie.After-counted Inv-loop μ-loop)
-    → let l = c .before .before .before .before .before .before in
-    let kind = l .before .before .before .before .before .args .kind in
+    → let l = turn (c .before) in
+    let kind = entry l .args .kind in
     Tallied (λ e. weightFor kind) (limitFor kind) (l .loop .inv .0 ++ (saidOf (c .before .before .entry .given .0 .0) ∷ [])) (c .counted .result)
 tallied c =
     let l = c .before .before .before .before .before .before in
@@ -117,11 +127,11 @@ tallied c =
 
 -- There are fewer entries before this one than bytes, so that twice as many words can be counted.
 counts : (c : tie.After-known-told Inv-loop μ-loop)
-    → let l = c .before .before .before .before .before .loop in
+    → let l = turn c .loop in
     (l .index + 4 ≤ 2 ^ 64) × (l .entries + 1 < 2 ^ 64)
 counts c =
-    let l = c .before .before .before .before .before in
-    let start = l .before .before .before .before .before in
+    let l = turn c in
+    let start = entry l in
     let i = l .loop .inv in
     let w = entry-within (map (nameOf 8) (start .args .names .now)) (start .args .kind) (start .args .rest .now) (l .loop .from) (went c .says) in
     let g = start .good .1 .0 in
@@ -131,13 +141,13 @@ put-entry-requires : tie.Need-put-entry-requires Inv-loop μ-loop
 put-entry-requires c κs = let n = counts (c .before .before .before) in omega arith
 
 filled : (c : tie.After-put-entry Inv-loop μ-loop)
-    → let l = c .before .before .before .before .before .before .before .before .before in
-    let a = l .before .before .before .before .before .args in
+    → let l = turn (c .before .before .before .before) in
+    let a = entry l .args in
     Filled (a .kind) (a .store .now) (l .loop .inv .0 ++ (saidOf (c .before .before .before .before .before .entry .given .0 .0) ∷ [])) (l .loop .entries + 1)
     (l .loop .index + l .before .shape-of .result .size) (c .put-entry .last .0)
 filled c =
-    let l = c .before .before .before .before .before .before .before .before .before in
-    let a = l .before .before .before .before .before .args in
+    let l = turn (c .before .before .before .before) in
+    let a = entry l .args in
     let e = c .before .before .before .before .before .entry .given .0 .0 in
     filled-more (a .kind) (a .store .now) (saidOf e) (l .loop .inv .3) (l .loop .inv .5)
     (c .put-entry .ensures
@@ -146,8 +156,8 @@ filled c =
 add-index : tie.Need-add-index Inv-loop μ-loop
 add-index c =
     let known = c .before .before .before .before .before .before .before in
-    let l = known .before .before .before .before .before in
-    let m = count-most (l .before .before .before .before .before .args .kind) in
+    let l = turn known in
+    let m = count-most (entry l .args .kind) in
     let n = counts known in
     omega (arith, l .loop .inv .5)
 
@@ -161,8 +171,8 @@ returns-2 : tie.Need-returns-2 Inv-loop μ-loop
 returns-2 c =
     let put = c .before .before .before .before .before in
     let known = put .before .before .before .before in
-    let l = known .before .before .before .before .before in
-    let a = l .before .before .before .before .before .args in
+    let l = turn known in
+    let a = entry l .args in
     let s = list-ends (l .loop .inv .1) (went known) (sym (c .before .sign-at .ensures) ∙ not-true _ (c .if1 .taken)) in
     let f = filled put in
     record {
@@ -176,7 +186,7 @@ loop-again : tie.Need-loop-again Inv-loop μ-loop
 loop-again c =
     let put = c .before .before .before .before .before in
     let known = put .before .before .before .before in
-    let i = known .before .before .before .before .before .loop .inv in
+    let i = turn known .loop .inv in
     let p = list-goes-on (i .1) (went known) (omega arith) (sym (c .before .sign-at .ensures) ∙ not-false _ (c .if1 .left)) in (
       i .0 ++ (saidOf (known .before .entry .given .0 .0) ∷ []),
       p,
@@ -191,7 +201,7 @@ loop-again c =
 add-from : tie.Need-add-from Inv-loop μ-loop
 add-from c =
     let known = c .before .before .before .before .before .before .before .before .before in
-    let start = known .before .before .before .before .before .before .before .before .before .before in
+    let start = entry (turn known) in
     let p = loop-again c .1 .within in
     omega (arith, start .good .1 .0)
 

@@ -15,7 +15,7 @@ enum-told-2 c = c .match .keys2
 returns : tie.Need-returns
 returns c = rw (c .enum-told2 .given .1)
 
-room : (c : tie.After-enum-told) → (c .before .before .args .name < 12) × (c .before .before .args .number + c .before .before .args .times * 32 ^ c .before .before .args .name < 2 ^ 64)
+room : (c : tie.After-enum-told) → let a = c .before .before .args in (a .name < 12) × (a .number + a .times * 32 ^ a .name < 2 ^ 64)
 room c = rw (c .enum-told .given .1) at (c .before .before .pre)
 
 mul-result : tie.Need-mul-result
@@ -25,10 +25,16 @@ shl-result : tie.Need-shl-result
 shl-result c = omega (arith, room c .0)
 
 add-result : tie.Need-add-result
-add-result c = let r = room c in rw (moved-up 5 (c .before .before .args .times) (c .before .before .args .name) (omega arith)) (omega arith)
+add-result c =
+    let a = c .before .before .args in
+    let r = room c in
+    rw (moved-up 5 (a .times) (a .name) (omega arith)) (omega arith)
 
 returns-2 : tie.Need-returns-2
-returns-2 c = let r = room c in rw (moved-up 5 (c .before .before .args .times) (c .before .before .args .name) (omega arith), c .enum-told .given .1)
+returns-2 c =
+    let a = c .before .before .args in
+    let r = room c in
+    rw (moved-up 5 (a .times) (a .name) (omega arith), c .enum-told .given .1)
 
 pub added-spec : {M : Type 1} → statement M
 added-spec = tie.close (tie.spec enum-told enum-told-2 returns mul-result shl-result add-result returns-2)

@@ -21,11 +21,9 @@ returns c = rw (c .enum-told .given .1) (record { places = refl; says = λ line.
 
 returns-2 : tie.Need-returns-2
 returns-2 c =
-    rw (c .before .before .before .before .label .given .1)
-    (record {
-      places = refl;
-      says = λ line. ap (λ s. past s (drop (c .before .before .before .before .label .given .0 .1 .0) line)) (said-same (c .worse-of .ensures ∙ ap (worse (foundOf (c .before .before .before .before .label .given .0 .0 .fault))) (c .before .amount-unless .ensures)) refl refl);
-    })
+    let l = c .before .before .before .before .label .given in
+    let faults = c .worse-of .ensures ∙ ap (worse (foundOf (l .0 .0 .fault))) (c .before .amount-unless .ensures) in
+    rw (l .1) (record { places = refl; says = λ line. ap (λ s. past s (drop (l .0 .1 .0) line)) (said-same faults refl refl) })
 
 pub two-or-more-spec : {M : Type 1} → statement M
 two-or-more-spec = tie.close (tie.spec enum-known-label enum-told returns asks-nothing asks-nothing returns-2)

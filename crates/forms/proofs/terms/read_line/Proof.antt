@@ -40,9 +40,12 @@ find-kind-requires c κs =
     let s = went (read .read-literal .ensures .steps) (c .before .key .given .1) in
     (omega (arith, key-passed (ascii "term=") (read .before .before .before .before .before .args .line .now) _ (s .within) (s .says)), s .within)
 
+abbrev entry : tie.After-find-kind → tie.Start
+entry c = c .before .before .before .before .before .before .before .before .before
+
 -- the rest of the line, after its key
 passed : (c : tie.After-find-kind)
-    → let line = c .before .before .before .before .before .before .before .before .before .args .line .now in
+    → let line = entry c .args .line .now in
     ofKind kinds (drop (c .before .before .key .given .0 .1 .0) line) ≡ termLine line
 unfolding termLine
 passed c =
@@ -56,10 +59,10 @@ enum-told-2 : tie.Need-enum-told-2
 enum-told-2 c = c .match2 .keys2
 
 found : (c : tie.After-known-told2)
-    → let told = c .before .before .before .before .before in
-    let line = told .before .before .before .before .before .before .before .args .line .now in
+    → let search = c .before .before .before in
+    let line = entry search .args .line .now in
     let kind = c .before .kind .given .0 in
-    KindFound line (ofKind kinds (drop (told .key .given .0 .1 .0) line)) (kind .0) (kind .1 .0) (kind .1 .1 .0)
+    KindFound line (ofKind kinds (drop (search .before .before .key .given .0 .1 .0) line)) (kind .0) (kind .1 .0) (kind .1 .1 .0)
 found c = let find = c .before .before .before .find-kind in kind-to (find .result) (find .ensures) (c .before .kind .given .1)
 
 returns-2 : tie.Need-returns-2
@@ -80,13 +83,13 @@ part-read-tail-end c = search needs
 -- what follows the kind's word, in the line
 tailed : (c : tie.After-read-tail)
     → let known = c .before .before .before in
-    let a = known .before .before .before .before .before .before .before .before .before .before .before .before .args in
+    let a = entry (known .before .before .before) .args in
     let kind = known .before .kind .given .0 in
     LineRead (map (nameOf 8) (a .names .now)) (a .n) (drop (kind .1 .0) (a .line .now)) (restOf (kind .0) (drop (kind .1 .0) (a .line .now)))
     (a .store .now) (c .read-tail .last .1 .1 .1 .1 .0) (c .read-tail .result)
 tailed c =
     let known = c .before .before .before in
-    let start = known .before .before .before .before .before .before .before .before .before .before .before .before in
+    let start = entry (known .before .before .before) in
     let a = start .args in
     let kind = known .before .kind .given .0 in
     let f = found known in
@@ -97,7 +100,7 @@ farthest-requires : tie.Need-farthest-requires
 farthest-requires c κs =
     let read = c .before .before in
     let known = read .before .before .before in
-    let start = known .before .before .before .before .before .before .before .before .before .before .before .before in
+    let start = entry (known .before .before .before) in
     let a = start .args in
     let kind = known .before .kind .given .0 in
     let f = found known in
@@ -113,7 +116,7 @@ returns-3 : tie.Need-returns-3
 returns-3 c =
     let read = c .before .before .before in
     let known = read .before .before .before in
-    let a = known .before .before .before .before .before .before .before .before .before .before .before .before .args in
+    let a = entry (known .before .before .before) .args in
     let kind = known .before .kind .given .0 in
     let f = found known in
     let words = map (nameOf 8) (a .names .now) in

@@ -21,13 +21,20 @@ same-length : tie.Need-same-length
 same-length c = search needs
 
 returns : tie.Need-returns
-returns c = rw (eq-eqb (c .before .before .before .before .before .before .before .before .before .before .args .size) 2 (c .before .before .before .before .if1 .taken)) (c .before .before .put2 .ensures ∙ ap (λ l. set l (c .before .before .before .before .before .before .before .before .before .before .args .at + 1) (c .before .before .before .before .before .before .before .before .before .before .args .second)) (c .before .before .before .before .before .before .before .put .ensures))
+returns c =
+    let again = c .before .before in
+    let two = again .before .before in
+    let once = two .before .before .before in
+    let a = once .before .before .before .args in
+    rw (eq-eqb (a .size) 2 (two .if1 .taken)) (again .put2 .ensures ∙ ap (λ l. set l (a .at + 1) (a .second)) (once .put .ensures))
 
 same-length-2 : tie.Need-same-length-2
 same-length-2 c = search needs
 
 returns-2 : tie.Need-returns-2
-returns-2 c = rw (ne-eqb (c .before .before .before .before .before .before .args .size) 2 (c .if1 .left)) (c .before .before .before .put .ensures)
+returns-2 c =
+    let once = c .before .before .before in
+    rw (ne-eqb (once .before .before .before .args .size) 2 (c .if1 .left)) (once .put .ensures)
 
 pub put-entry-spec : {M : Type 1} → statement M
 put-entry-spec = tie.close (tie.spec put-requires add-put put-requires-2 same-length returns same-length-2 returns-2)

@@ -27,6 +27,13 @@ enum-known-operand c = c .match .keys1
 enum-told : tie.Need-enum-told
 enum-told c = c .match .keys2
 
+-- where the operand was read, and the start of the function
+abbrev operand-read : tie.After-read-whole → tie.After-operand
+operand-read c = c .before .before .before .before .before .before .before
+
+abbrev entry : tie.After-operand → tie.Start
+entry c = c .before .before .before .before .before .before
+
 returns : tie.Need-returns
 returns c =
     let number = c .before .before .before in
@@ -44,11 +51,11 @@ returns-2 c =
 
 -- a space that stands there lies in the line
 passed : (c : tie.Else1)
-    → let told = c .before .before .before in told .operand .given .0 .1 .0 + 1 ≤ length (told .before .before .before .before .before .before .args .rest .now)
+    → let told = c .before .before .before in told .operand .given .0 .1 .0 + 1 ≤ length (entry told .args .rest .now)
 passed c =
     let told = c .before .before .before in
     let w =
-    sign-within space (told .before .before .before .before .before .before .args .rest .now) (told .operand .given .0 .1 .0)
+    sign-within space (entry told .args .rest .now) (told .operand .given .0 .1 .0)
     (sym (c .before .sign-at .ensures) ∙ not-false _ (c .if1 .left)) in
     omega arith
 
@@ -68,7 +75,7 @@ part-read-whole-end c = search needs
 listed : (c : tie.After-read-whole)
     → let kind = c .before .before .before in
     let told = kind .before .before .before .before in
-    let a = told .before .before .before .before .before .before .args in
+    let a = entry told .args in
     let from = told .operand .given .0 .1 .0 + 1 in
     ListRead (kind .list-kind .result) (drop from (a .rest .now))
     (wholeList (map (nameOf 8) (a .names .now)) (kind .list-kind .result) (drop from (a .rest .now)))
@@ -76,7 +83,7 @@ listed : (c : tie.After-read-whole)
 listed c =
     let kind = c .before .before .before in
     let told = kind .before .before .before .before in
-    let start = told .before .before .before .before .before .before in
+    let start = entry told in
     let a = start .args in
     list-there (a .names .now) (kind .list-kind .result) (a .rest .now) (told .operand .given .0 .1 .0 + 1) (start .pre .0) (passed (kind .before))
     (c .read-whole .ensures)
@@ -93,8 +100,8 @@ same-length c = search needs
 add-t25 : tie.Need-add-t25
 add-t25 c =
     let read = c .before .before .before .before .before in
-    let told = read .before .before .before .before .before .before .before in
-    let start = told .before .before .before .before .before .before in
+    let told = operand-read read in
+    let start = entry told in
     let s =
     said-within (start .args .rest .now) (told .operand .given .0 .1 .0 + 1) (passed (read .before .before .before .before)) (listed read .read)
     (c .said-stuck-at .ensures) in
@@ -114,8 +121,8 @@ returns-3 c =
 add-next : tie.Need-add-next
 add-next c =
     let read = c .before .before .before .before .before in
-    let told = read .before .before .before .before .before .before .before in
-    let start = told .before .before .before .before .before .before in
+    let told = operand-read read in
+    let start = entry told in
     let s =
     said-within (start .args .rest .now) (told .operand .given .0 .1 .0 + 1) (passed (read .before .before .before .before)) (listed read .read)
     (sym (ap saidPlace (c .before .list .given .1))) in
@@ -138,7 +145,7 @@ returns-4 c =
 wrapped-requires : tie.Need-wrapped-requires
 wrapped-requires c κs =
     let read = c .before .before .before .before .before .before in
-    read .before .before .before .before .before .before .before .before .before .before .before .before .before .pre .1
+    entry (operand-read read) .pre .1
 
 same-length-3 : tie.Need-same-length-3
 same-length-3 c = search needs
