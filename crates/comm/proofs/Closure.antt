@@ -99,7 +99,7 @@ module _ {at len most depth w : ℕ} {rules before now : List ℕ} {count i : �
     pub following-long : o ≡ TooLong → Followed now TooLarge
     following-long e = let p = going-stop going-offered (λ s. rw e) in record { answer = p .0; words = p .1 }
 
-    module _ (a : Label) (e : o ≡ Next a) {after : List ℕ} {r : Built}
+    module _ {a : Label} (e : o ≡ Next a) {after : List ℕ} {r : Built}
         (g : Grown (closed (roomAt at most (length now)) (exchangesIn rules) depth (code a)) at count now after r) where
       abbrev step : ℕ → List ℕ → Building
       step room = closed room (exchangesIn rules) depth (code a)
@@ -110,8 +110,8 @@ module _ {at len most depth w : ℕ} {rules before now : List ℕ} {count i : �
       going-step : Going at before now count (λ s. next (step room s) (rest (i + 2))) (rest 0 (setAt at len before))
       going-step = going-as _ going-offered (λ s. rw e)
 
-      pub following-next : (n : ℕ) → r ≡ Holds n → Following at len most depth w rules before after n (i + 2)
-      following-next n f = record { within = omega arith; going = going-holds most step (rest (i + 2)) steady-step going-step g n f }
+      pub following-next : {n : ℕ} → r ≡ Holds n → Following at len most depth w rules before after n (i + 2)
+      following-next {n} f = record { within = omega arith; going = going-holds most step (rest (i + 2)) steady-step going-step g n f }
 
       pub following-large : r ≡ TooLarge → Followed after TooLarge
       following-large f = let p = going-large most step (rest (i + 2)) steady-step going-step g f in record { answer = p .0; words = p .1 }
@@ -139,14 +139,14 @@ module _ {at len most w : ℕ} {ls after : List ℕ} {o : Inserted} (x : Entered
   pub closed-stops : o ≡ Full → Grown (closed space rs depth w) at len ls after TooLarge
   closed-stops e = grown-as (closed-followers space rs depth w) (followed-stops x (followers space rs depth w) e)
 
-  module _ (count : ℕ) (reached : count ≡ reachOf at len (length ls)) where
+  module _ {count : ℕ} (reached : count ≡ reachOf at len (length ls)) where
     pub closed-stays : o ≡ Present → Grown (closed space rs depth w) at len ls after (Holds count)
     closed-stays e = grown-as (closed-followers space rs depth w) (followed-stays x count reached (followers space rs depth w) e)
 
     pub closed-ends : o ≡ Added → depth ≡ 0 → Grown (closed space rs depth w) at len ls after (Holds (count + 1))
     closed-ends e z = grown-as (closed-alone space rs depth w z) (followed-ends x count reached e)
 
-    -- the room and the length that the rules are followed with
+    -- the set that the rules go on from lies in the list
     pub closed-within : o ≡ Added → count + 1 ≤ length after - at
     closed-within e = going-length (followed-going x count reached done e) .1
 

@@ -31,7 +31,7 @@ use Rattle.sets.specs.Inserting.{present, putIn, pickInserted, inserted, insert
 use Rattle.sets.specs.Building.{Building, done, goesOn, next, each, followed, taken}
 use Rattle.sets.proofs.Sorting.{insert-present, insert-absent}
 use Rattle.sets.proofs.Steps.{length-putIn}
-use Rattle.sets.proofs.Refinement.{AllPack, insert-number, numbers-rising, ascending-same, TooMuch, too-much-more, Outcome, each-outcome}
+use Rattle.sets.proofs.Refinement.{AllPack, packs-cons, insert-ascending, numbers-rising, ascending-same, TooMuch, too-much-more, Outcome, each-outcome}
 use Rattle.comm.specs.Following.{eachRule, mostApplications, closed}
 use Rattle.comm.specs.Rules.{Exchange, exchangesIn, pickOffer, exchangeOf}
 
@@ -252,13 +252,8 @@ module _ (names : ℕ) (few : names ≤ 12) (rs : List Rule) (legal : Each (Lega
       (sym (number-injective a (x .source) (packs-small p) (packs-small (q (x .source) k)) (p .wide ∙ sym (q (x .source) k .wide)) (x .becomes))) k
 
   module _ (a : Label) (M : List Label) (p : Packs names a) (q : AllPack names M) where
-    both : AllPack names (a ∷ M)
-    both c (inl e) = subst (Packs names) (sym e) p
-    both c (inr m) = q c m
-
     in-order : insertNumber (number a) (numbers M) ≡ numbers (a ∷ M)
-    unfolding ascending
-    in-order = insert-number names a (ascending M) p (λ c m. q c (in-ascending M c .0 m))
+    in-order = insert-ascending names a M p q
 
     finds-there : present (numbers M) (number a) ≡ true → a ∈ M
     finds-there e =
@@ -269,10 +264,10 @@ module _ (names : ℕ) (few : names ≤ 12) (rs : List Rule) (legal : Each (Lega
     finds-new : present (numbers M) (number a) ≡ false → putIn (numbers M) (number a) ≡ numbers (a ∷ M)
     finds-new e = sym (insert-absent (numbers M) (number a) (numbers-rising names M q) e) ∙ in-order
 
-    finds : (t u : Bool) → present (numbers M) (number a) ≡ t → ltb (length (numbers M)) room ≡ u → Finds a M (pickInserted t u)
-    finds true u e f = there refl (finds-there e)
-    finds false true e f = added refl (finds-new e)
-    finds false false e f =
+    finds-pick : (t u : Bool) → present (numbers M) (number a) ≡ t → ltb (length (numbers M)) room ≡ u → Finds a M (pickInserted t u)
+    finds-pick true u e f = there refl (finds-there e)
+    finds-pick false true e f = added refl (finds-new e)
+    finds-pick false false e f =
         let k = ltb-false (length (numbers M)) room f in
         let l = ap length (finds-new e) in
         let n = length-putIn (numbers M) (number a) in
@@ -280,7 +275,7 @@ module _ (names : ℕ) (few : names ≤ 12) (rs : List Rule) (legal : Each (Lega
 
     finds-inserted : Finds a M (inserted room (number a) (numbers M))
     unfolding inserted
-    finds-inserted = finds (present (numbers M) (number a)) (ltb (length (numbers M)) room) refl refl
+    finds-inserted = finds-pick (present (numbers M) (number a)) (ltb (length (numbers M)) room) refl refl
 
     -- a label put in, and followed by the rules
     only-label : {x : Label} → (x ∈ (a ∷ M)) ⊎ From a x → (x ∈ M) ⊎ From a x
@@ -320,12 +315,12 @@ module _ (names : ℕ) (few : names ≤ 12) (rs : List Rule) (legal : Each (Lega
   unfolding closed
   closed-walk zero a M p q h =
       after-inserted a M p q (inserted room (number a) (numbers M)) (finds-inserted a M p q) done
-      (walk-stays (a ∷ M) (From a) (AllOf rs a) (both a M p q)
+      (walk-stays (a ∷ M) (From a) (AllOf rs a) (packs-cons names a M p q)
       (λ r m t. absurd (let l = fewer-left names r a (rule-legal names rs legal r m .1) t in omega arith)))
   closed-walk (suc depth) a M p q h =
       after-inserted a M p q (inserted room (number a) (numbers M)) (finds-inserted a M p q)
       (eachRule (closing depth) (map (exchange names) rs) (number a))
-      (rules-walk (closing depth) depth (closed-walk depth) a p h rs (λ r m. m) (a ∷ M) (both a M p q))
+      (rules-walk (closing depth) depth (closed-walk depth) a p h rs (λ r m. m) (a ∷ M) (packs-cons names a M p q))
 
   -- The closure of a label beside a closed list.
   pub closed-moves : (M N : List Label) → Within M N → Within N M → Closed M → Closed N

@@ -15,7 +15,8 @@ pub mod Walking
 -- compare-lt, compare-gt, compare-eq; insert-present, insert-absent, rising-enter: insertion in an ascending list is the insertion
 -- in order; rising-insert, insert-longer
 pub mod Sorting
--- insert-number, numbers-rising, each-outcome, enter-outcome: what is built of numbers is what `meaning` makes of the labels
+-- insert-number, insert-ascending, numbers-rising, each-outcome, enter-outcome: what is built of numbers is what `meaning` makes of
+-- the labels; ascending-same, too-much-more: lists with the same members
 pub mod Refinement
 -- taken-outcome: the same of a label that is offered
 pub mod Outcomes

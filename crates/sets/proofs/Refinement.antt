@@ -50,14 +50,23 @@ module _ (names : ℕ) where
   insert-number a (b ∷ s) p q =
       rw (compare-number a b p (q b (inl refl)), insert-number a s p (λ c m. q c (inr m))) (placed-number (order a b) a b s (insert a s))
 
-  ascending-packs : (M : List Label) → AllPack M → AllPack (ascending M)
-  ascending-packs M p a m = p a (in-ascending M a .0 m)
+  pub packs-cons : (a : Label) (M : List Label) → Packs names a → AllPack M → AllPack (a ∷ M)
+  packs-cons a M p q c (inl e) = subst (Packs names) (sym e) p
+  packs-cons a M p q c (inr m) = q c m
+
+  packs-ascending : (M : List Label) → AllPack M → AllPack (ascending M)
+  packs-ascending M p a m = p a (in-ascending M a .0 m)
+
+  pub insert-ascending : (a : Label) (M : List Label) → Packs names a → AllPack M
+      → insertNumber (number a) (map number (ascending M)) ≡ map number (ascending (a ∷ M))
+  unfolding ascending
+  insert-ascending a M p q = insert-number a (ascending M) p (packs-ascending M q)
 
   pub numbers-rising : (M : List Label) → AllPack M → Rising (map number (ascending M))
   unfolding ascending
   numbers-rising [] p = tt
   numbers-rising (a ∷ M) p =
-      rw (sym (insert-number a (ascending M) (p a (inl refl)) (ascending-packs M (λ c m. p c (inr m)))))
+      rw (sym (insert-number a (ascending M) (p a (inl refl)) (packs-ascending M (λ c m. p c (inr m)))))
       (rising-insert (number a) (map number (ascending M)) (numbers-rising M (λ c m. p c (inr m))))
 
 -- Lists with the same members.
@@ -145,16 +154,12 @@ module _ (names room : ℕ) (I : List Label → Type 0) (moves : (M N : List Lab
   -- one label more
   pub enter-outcome : (a : Label) (M : List Label) → Packs names a → AllPack names M → I (a ∷ M)
       → Outcome (a ∷ M) (enter room (number a) (map number (ascending M)))
-  unfolding ascending Entering
+  unfolding Entering
   enter-outcome a M p q i = entered (rising-enter room (number a) (map number (ascending M)) (numbers-rising names M q))
     where
-      in-order : insertNumber (number a) (map number (ascending M)) ≡ map number (insert a (ascending M))
-      in-order = insert-number names a (ascending M) p (ascending-packs names M q)
+      in-order : insertNumber (number a) (map number (ascending M)) ≡ map number (ascending (a ∷ M))
+      in-order = insert-ascending names a M p q
 
       entered : Entering room (number a) (map number (ascending M)) → Outcome (a ∷ M) (enter room (number a) (map number (ascending M)))
-      entered (inl e) = inl (record {
-        built = e ∙ ap done in-order;
-        packs = λ c. elim [ inl k ↦ subst (Packs names) (sym k) p | inr m ↦ q c m ];
-        kept = i;
-      })
-      entered (inr e) = inr (ap (λ (b : Building). b .whole) (e .0), inl (rw (← length-map (insert a (ascending M)) number, ← in-order) (e .1)))
+      entered (inl e) = inl (record { built = e ∙ ap done in-order; packs = packs-cons names a M p q; kept = i })
+      entered (inr e) = inr (ap (λ (b : Building). b .whole) (e .0), inl (rw (← length-map (ascending (a ∷ M)) number, ← in-order) (e .1)))

@@ -82,7 +82,7 @@ module _ (t : ℕ) where
       let f = reached .before .before .before .before in
       let a = f .args in (
         omega (arith, f .pre .0, c .before .if1 .left),
-        closed-within (put .insert .ensures) (exchangesIn (a .rules .now)) (a .depth) (reached .reach .result) (reached .reach .ensures)
+        closed-within (put .insert .ensures) (exchangesIn (a .rules .now)) (a .depth) (reached .reach .ensures)
             (added .enum-told3 .given .1),
       )
 
@@ -104,7 +104,7 @@ module _ (t : ℕ) where
       let put = c .before .before .before .before in
       let reached = put .before .before in
       let a = reached .before .before .before .before .args in
-      closed-stays (put .insert .ensures) (exchangesIn (a .rules .now)) (a .depth) (reached .reach .result) (reached .reach .ensures)
+      closed-stays (put .insert .ensures) (exchangesIn (a .rules .now)) (a .depth) (reached .reach .ensures)
       (c .enum-told2 .given .1)
 
   close-same-length-3 : close-lts.Need-same-length-3 (close-calls t) (close-at t) close′.Post
@@ -115,7 +115,7 @@ module _ (t : ℕ) where
       let put = c .before .before .before .before .before in
       let reached = put .before .before in
       let a = reached .before .before .before .before .args in
-      closed-ends (put .insert .ensures) (exchangesIn (a .rules .now)) (a .depth) (reached .reach .result) (reached .reach .ensures)
+      closed-ends (put .insert .ensures) (exchangesIn (a .rules .now)) (a .depth) (reached .reach .ensures)
       (c .before .enum-told3 .given .1) (c .if1 .taken)
 
   close-same-length-4 : close-lts.Need-same-length-4 (close-calls t) (close-at t) close′.Post
@@ -132,7 +132,7 @@ module _ (t : ℕ) where
       let put = added .before .before .before .before in
       let reached = put .before .before in
       let a = reached .before .before .before .before .args in
-      closed-goes (put .insert .ensures) (exchangesIn (a .rules .now)) (a .depth) (reached .reach .result) (reached .reach .ensures)
+      closed-goes (put .insert .ensures) (exchangesIn (a .rules .now)) (a .depth) (reached .reach .ensures)
       (added .enum-told3 .given .1) (deeper .if1 .left) (followed .follow .ensures)
 
   close-meets : {M : Type 1} → close-lts.Closed (close-calls t) (close-at t) close′.Post M
@@ -233,9 +233,8 @@ module _ (t : ℕ) where
       let told = closed .before .before .before in
       let offered = told .before .before in
       let tested = offered .before in
-      let next = told .made .given in
       following-large (tested .before .before .loop .inv) (rw (tested .before .labels-in .ensures) at (tested .if1 .taken))
-      (offered .offer .ensures) (next .0 .0) (next .1) (closed .close .ensures) (c .enum-told3 .given .1)
+      (offered .offer .ensures) (told .made .given .1) (closed .close .ensures) (c .enum-told3 .given .1)
 
   follow-loop-less-2 : follow-lts.Need-loop-less-2 (follow-calls t) (follow-at t) follow.Post follow-Inv-loop follow-μ-loop
   follow-loop-less-2 c =
@@ -249,9 +248,8 @@ module _ (t : ℕ) where
       let told = closed .before .before .before in
       let offered = told .before .before in
       let tested = offered .before in
-      let next = told .made .given in
       following-next (tested .before .before .loop .inv) (rw (tested .before .labels-in .ensures) at (tested .if1 .taken))
-      (offered .offer .ensures) (next .0 .0) (next .1) (closed .close .ensures) (c .before .step .given .0 .0) (c .before .step .given .1)
+      (offered .offer .ensures) (told .made .given .1) (closed .close .ensures) (c .before .step .given .1)
 
   follow-same-length-3 : follow-lts.Need-same-length-3 (follow-calls t) (follow-at t) follow.Post follow-Inv-loop follow-μ-loop
   follow-same-length-3 c = going-length (c .before .before .loop .inv .going) .0

@@ -13,13 +13,13 @@ use Rattle.ways.proofs.imaging.map_for.Statement.{statement}
 use Rattle.ways.proofs.imaging.map_for.Tie as tie
 
 -- every way but rename goes without
-others : (way : Way) (list map : List ℕ) → OneOf (0 ∷ 1 ∷ 2 ∷ 4 ∷ 5 ∷ []) (tagOf the-type way) → MapFor way list map
-others Copy list map h = tt
-others Block list map h = tt
-others Hide list map h = tt
-others Rename list map h = absurd (miss (0 ∷ 1 ∷ 2 ∷ 4 ∷ 5 ∷ []) 3 tt h)
-others Comm list map h = tt
-others Allow list map h = tt
+MapFor-others : (way : Way) (list map : List ℕ) → OneOf (0 ∷ 1 ∷ 2 ∷ 4 ∷ 5 ∷ []) (tagOf the-type way) → MapFor way list map
+MapFor-others Copy list map h = tt
+MapFor-others Block list map h = tt
+MapFor-others Hide list map h = tt
+MapFor-others Rename list map h = absurd (miss (0 ∷ 1 ∷ 2 ∷ 4 ∷ 5 ∷ []) 3 tt h)
+MapFor-others Comm list map h = tt
+MapFor-others Allow list map h = tt
 
 enum-told : tie.Need-enum-told
 enum-told c = search needs
@@ -31,7 +31,7 @@ returns : tie.Need-returns
 returns c = rw (c .before .enum-told .given .1) (c .renaming .ensures)
 
 returns-2 : tie.Need-returns-2
-returns-2 c = others (c .before .before .args .way) (c .before .before .args .list .now) (replicate 12 0) (c .match .keys2)
+returns-2 c = MapFor-others (c .before .before .args .way) (c .before .before .args .list .now) (replicate 12 0) (c .match .keys2)
 
 pub map-for-spec : {M : Type 1} → statement M
 map-for-spec = tie.close (tie.spec enum-told renaming-requires returns returns-2)
