@@ -1,7 +1,7 @@
--- Laws of a round that goes on to the next, of equation sets that stay, and of the root's set in the answer.
-pub mod Turning
-pub mod Staying
+-- Laws of the order's cut, in words as in labels, and of the call.
+-- cut-number: the cut of words that are labels' numbers
 pub mod Answering
-pub mod Progress
-pub mod Rounding
+-- cuts-to: the outcome under an order is the outcome under `all`, cut
+pub mod Orders
+-- answered-short, -large, -listed: the promise of `rounds::alphabet`; answered-unique: it settles all; answered-rounds: its round count
 pub mod Listings

@@ -3,28 +3,23 @@
 -- Assumes nothing.
 use mathlib.Core.Path.{_≡_}
 use mathlib.Core.Logic.{_⊎_}
-use mathlib.Core.List.{List, _++_, map}
+use mathlib.Core.Bool.{Bool, true, false}
+use mathlib.Core.List.{List, [], _++_, map}
 use Prim.Native.Nat.{ℕ, _≤_, _<_}
-use lib.Dec.{T}
-use lib.ListN.{length, drop, replicate}
+use lib.ListN.{length, take, drop, replicate}
 use Rattle.meaning.specs.Labels.{number}
-use Rattle.meaning.specs.Sets.{at}
 use Rattle.meaning.specs.Descriptions as D
 use Rattle.meaning.specs.Legal.{Legal}
-use Rattle.meaning.specs.Rounds.{roundSets}
-use Rattle.meaning.specs.Limits.{over}
-use Rattle.meaning.specs.Answers.{Outcome, tooLarge, listed, cut, answer}
+use Rattle.meaning.specs.Answers.{Outcome, tooLarge, listed, answer}
 use Rattle.table.specs.declared.Table.{Table}
 use Rattle.table.specs.declared.Order.{Order}
+use Rattle.table.specs.declared.Order.the-variants.{All, Only}
+use Rattle.table.specs.Decoded.{wordsAt}
 use Rattle.table.specs.Encoded.{storeOf, orderFor, tableOf}
-use Rattle.sets.specs.Parts.{part}
+use Rattle.places.specs.Cutting.{put, cutInto}
+use Rattle.places.specs.Starts.{whole}
 use Rattle.rounds.specs.declared.Answer.{Answer}
 use Rattle.rounds.specs.declared.Answer.the-variants as A
-use Rattle.rounds.specs.declared.turns.Found.{Found}
-use Rattle.rounds.specs.declared.turns.Found.the-variants as F
-use Rattle.places.specs.Cutting.{put}
-use Rattle.places.specs.Starts.{whole}
-use Rattle.terms.specs.Working.{Kept}
 
 -- An outcome as the code answers it, and the answer area after it.
 abbrev pub alphabetOf : Outcome → Answer
@@ -41,26 +36,21 @@ cleared work = replicate whole 0 ++ drop whole work
 -- The call.
 pub record Answered (table : Table) (store : List ℕ) (order : Order) (work area work′ area′ : List ℕ) (r : Answer) : Type 0 where
   pub short : (length work < whole) ⊎ (length area < 1024) → (r ≡ A.TooLarge) × (work′ ≡ work) × (area′ ≡ area)
-  pub right : (d : D.Description) (o : D.Order) → Legal d o → table ≡ tableOf d → store ≡ storeOf d o → order ≡ orderFor o → whole ≤ length work → 1024 ≤ length area
+  pub right : (d : D.Description) (o : D.Order) → Legal d o → table ≡ tableOf d → store ≡ storeOf d o → order ≡ orderFor o
+      → whole ≤ length work → 1024 ≤ length area
       → (r ≡ alphabetOf (answer d o)) × (area′ ≡ answerWords (answer d o) area) × (work′ ≡ cleared work)
 
--- The rounds: the outcome, with the root's set in the work area.
-pub record Stands (d : D.Description) (o : D.Order) (k from to : ℕ) (work : List ℕ) : Type 0 where
-  pub outcome : answer d o ≡ listed k (cut o (at (roundSets d k) (d .root)))
-  pub few : T (over (roundSets d k)) → ⊥
-  pub words : part from to work ≡ map number (at (roundSets d k) (d .root))
-  pub within : (from ≤ to) × (to ≤ length work)
+-- The order as the code takes it: whether it is `all`, and the words of its list.
+abbrev pub allIn : Order → Bool
+allIn All = true
+allIn (Only p) = false
 
-abbrev pub Ends : D.Description → D.Order → List ℕ → Found → Type 0
-Ends d o work F.TooLarge = answer d o ≡ tooLarge
-Ends d o work (F.At k from to) = Stands d o k from to work
+abbrev pub listIn : List ℕ → Order → List ℕ
+listIn store All = []
+listIn store (Only p) = wordsAt store p 1
 
-abbrev pub Reached : Table → (store work work′ : List ℕ) → Found → Type 0
-Reached table store work work′ r =
-    (d : D.Description) (o : D.Order) → Legal d o → table ≡ tableOf d → store ≡ storeOf d o → Ends d o work′ r × Kept work work′
-
--- The listing of what the rounds came to.
-abbrev pub Listing : Found → List ℕ → Order → (work area area′ : List ℕ) → Answer → Type 0
-Listing found store order work area area′ r =
-    (d : D.Description) (o : D.Order) → Legal d o → store ≡ storeOf d o → order ≡ orderFor o → 1024 ≤ length area → Ends d o work found
-    → (r ≡ alphabetOf (answer d o)) × (area′ ≡ answerWords (answer d o) area)
+-- The set at the start of the work area, cut to the order.
+abbrev pub Listing : (count : ℕ) (store : List ℕ) → Order → (work area area′ : List ℕ) (n : ℕ) → Type 0
+Listing count store order work area area′ n =
+    let words = cutInto (allIn order) (listIn store order) (take count work) area in
+    count ≤ length work → (area′ ≡ put words area) × (n ≡ length words)

@@ -1,3 +1,2 @@
--- What the code of the rounds says of its areas.
-pub mod Passes
+-- What the call of the rounds promises.
 pub mod Alphabets

@@ -1,21 +1,15 @@
-// The sets of all terms, worked out round by round in a lent work area, and the root's set cut to the order.
-mod passes;
-mod turns;
-
-use crate::turns::Found;
-use crate::turns::until_stable;
+// The alphabet of a table: the root's set, worked out round by round in a lent work area, cut to the order.
 use places::cutting::cut;
-use table::EQUATIONS;
 use table::Order;
-use table::TERMS;
 use table::Table;
 use table::areas::clear;
 use table::lists::words_of;
-ghost use Prim.Native.Nat.{_<_};
+use turns::Found;
+use turns::until_stable;
 ghost use Rattle.rounds.specs.Alphabets.{Answered, Listing};
 
 // The words that are used of the work area, and the words that the answer may take.
-pub const WORK_WORDS: usize = 4096;
+pub const WORK_WORDS: usize = turns::WORK_WORDS;
 
 pub const ANSWER_WORDS: usize = 1024;
 
@@ -25,30 +19,23 @@ pub enum Answer {
     Listed(usize, usize),
 }
 
-// The set that was found, cut to the order.
-fn listing(found: Found, store: &[u64], order: Order, work: &[u64], answer: &mut [u64]) -> Answer
-    ensures { λ r. ⌜ Listing found (now (store .entry)) order (now (work .entry)) (now (answer .entry)) (now (answer .exit)) r ⌝ }
+// The set at the start of the work area, cut to the order.
+fn listing(count: usize, store: &[u64], order: Order, work: &[u64], answer: &mut [u64]) -> usize
+    ensures { λ r. ⌜ Listing count (now (store .entry)) order (now (work .entry)) (now (answer .entry)) (now (answer .exit)) r ⌝ }
 {
-    let Found::At(rounds, from, to) = found else {
-        return Answer::TooLarge;
-    };
-    if to < from {
-        return Answer::TooLarge;
+    if work.len() < count {
+        return 0;
     }
-    if work.len() < to {
-        return Answer::TooLarge;
-    }
-    let set = &work[from..to];
+    let set = &work[..count];
     match order {
-        Order::All => Answer::Listed(rounds, cut(true, &store[..0], set, answer)),
-        Order::Only(place) => {
-            Answer::Listed(rounds, cut(false, words_of(store, place), set, answer))
-        }
+        Order::All => cut(true, &store[..0], set, answer),
+        Order::Only(place) => cut(false, words_of(store, place), set, answer),
     }
 }
 
 // The alphabet of the description that a table and its list store stand for, cut to an order. A table that stands for no legal
-// description gets some answer: of it no more is promised than that there is one.
+// description gets some answer: of it no more is promised than that there is one. The rounds leave the root's set alone in the work
+// area, so that clearing the set clears the area.
 pub fn alphabet(
     table: Table,
     store: &[u64],
@@ -56,22 +43,17 @@ pub fn alphabet(
     work: &mut [u64],
     answer: &mut [u64],
 ) -> Answer
-    ensures { λ r. ⌜ Answered table (now (store .entry)) order (now (work .entry)) (now (answer .entry)) (now (work .exit)) (now (answer .exit)) r ⌝ }
+    ensures { λ r. ⌜ Answered
+        table (now (store .entry)) order (now (work .entry)) (now (answer .entry)) (now (work .exit)) (now (answer .exit)) r ⌝ }
 {
-    if work.len() < WORK_WORDS {
-        return Answer::TooLarge;
-    }
     if answer.len() < ANSWER_WORDS {
         return Answer::TooLarge;
     }
-    if TERMS < table.terms {
-        return Answer::TooLarge;
-    }
-    if EQUATIONS < table.equations {
-        return Answer::TooLarge;
-    }
     let found = until_stable(table, store, work);
-    let result = listing(found, store, order, work, answer);
-    clear(work, WORK_WORDS);
-    result
+    let Found::At(rounds, count) = found else {
+        return Answer::TooLarge;
+    };
+    let labels = listing(count, store, order, work, answer);
+    clear(work, count);
+    Answer::Listed(rounds, labels)
 }

@@ -1,11 +1,11 @@
--- `rounds::turns::one_round` meets its contract: a round, the comparison, and its sets copied down.
+-- `turns::stages::one_round` meets its contract: a round, the comparison, and its sets copied down.
 -- Assumes nothing.
 use mathlib.Core.Path.{sym, _∙_}
 use borrow.Author.Tests.{not-true, not-false}
 use lib.Seq.{length-take-le}
 use borrow.Author.Needs.{needs}
-use Rattle.rounds.proofs.turns.one_round.Statement.{statement}
-use Rattle.rounds.proofs.turns.one_round.Tie as tie
+use Rattle.turns.proofs.stages.one_round.Statement.{statement}
+use Rattle.turns.proofs.stages.one_round.Tie as tie
 
 pass-requires : tie.Need-pass-requires
 pass-requires c κs = search needs
@@ -22,7 +22,7 @@ returns c = let round = c .before .before .before .before .before .pass in rw (n
 slice-aggregate-all-stay : tie.Need-slice-aggregate-all-stay
 slice-aggregate-all-stay c =
     let start = c .before .before .before .before .before .before .before .before .before .before .before .before .before .before .before .before .before in
-    sym (length-take-le (start .args .equations) (start .args .bodies .now) (start .pre .5))
+    sym (length-take-le (start .args .counts .equations) (start .args .bodies .now) (start .pre .1))
 
 all-stay-requires : tie.Need-all-stay-requires
 all-stay-requires c κs = tt

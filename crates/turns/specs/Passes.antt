@@ -3,22 +3,39 @@
 use mathlib.Core.Path.{_≡_}
 use mathlib.Core.Bool.{Bool, true, false}
 use mathlib.Core.List.{List}
-use Prim.Native.Nat.{ℕ, suc, pred, _≤_, _<_}
+use Prim.Native.Nat.{ℕ, suc, pred, _+_, _-_, _≤_, _<_}
 use lib.Dec.{T}
-use lib.ListN.{length, take}
+use lib.ListN.{length, set}
 use Rattle.meaning.specs.Descriptions as D
 use Rattle.meaning.specs.Descriptions.{Description, termCount, all}
 use Rattle.meaning.specs.Legal.{Legal}
 use Rattle.meaning.specs.Rounds.{equationSets, roundSets}
 use Rattle.meaning.specs.Limits.{over}
 use Rattle.table.specs.Encoded.{storeOf, tableOf}
+use Rattle.sets.specs.declared.Built.{Built}
+use Rattle.sets.specs.declared.Built.the-variants.{TooLarge, Holds}
 use Rattle.places.specs.Starts.{half, whole, startIn}
-use Rattle.places.specs.Sameness.{allStay}
-use Rattle.places.specs.Moving.{loweredIn}
 use Rattle.terms.specs.Laid.{Begins, Laid}
 use Rattle.terms.specs.Working.{Kept}
-use Rattle.rounds.specs.declared.turns.Turn.{Turn}
-use Rattle.rounds.specs.declared.turns.Turn.the-variants.{TooLarge, Stable, Goes}
+
+-- Where the set of a term ends, with room for it; or that there is none.
+pub record Added (this : List ℕ) (n : ℕ) (built : Built) (this′ : List ℕ) : Type 0 where
+  pub count : ℕ
+  pub holds : built ≡ Holds count
+  pub fits : count ≤ half - startIn this n
+  pub starts : this′ ≡ set this (n + 1) (startIn this n + count)
+
+abbrev pub NoRoom : ℕ → Built → Type 0
+NoRoom left TooLarge = Unit {0}
+NoRoom left (Holds count) = left < count
+
+pub record NotAdded (this : List ℕ) (n : ℕ) (built : Built) (this′ : List ℕ) : Type 0 where
+  pub large : NoRoom (half - startIn this n) built
+  pub starts : this′ ≡ this
+
+abbrev pub Entered : (this : List ℕ) (n : ℕ) (built : Built) (this′ : List ℕ) → Bool → Type 0
+Entered this n built this′ true = Added this n built this′
+Entered this n built this′ false = NotAdded this n built this′
 
 -- A round worked out: its sets in the upper half; or a limit passed.
 pub record RoundDone (d : Description) (k : ℕ) (before this work work′ : List ℕ) : Type 0 where
@@ -48,24 +65,18 @@ RoundEnds false d k before starts work work′ = RoundOver d k work work′
 abbrev pub Read : D.Description → (slots bodies : List ℕ) → ℕ → Type 0
 Read d slots bodies terms = (slots ≡ tableOf d .slots) × (bodies ≡ tableOf d .bodies) × (terms ≡ D.termCount d)
 
+-- what a round needs of its areas, whatever they hold
+pub record Passable (slots : List ℕ) (terms : ℕ) (this work : List ℕ) : Type 0 where
+  pub slotted : length slots ≡ 96
+  pub few : terms ≤ 96
+  pub size : length this ≡ 97
+  pub first : startIn this 0 ≡ 0
+  pub room : whole ≤ length work
+
 pub record Passed (slots bodies : List ℕ) (terms : ℕ) (store older before work this′ work′ : List ℕ) (fits : Bool) : Type 0 where
   pub first : startIn this′ 0 ≡ 0
-  pub right : (d : D.Description) (o : D.Order) (k : ℕ) → Read d slots bodies terms → store ≡ storeOf d o → Between d k older before work
+  pub right : (d : D.Description) (o : D.Order) (k : ℕ)
+      → Read d slots bodies terms
+      → store ≡ storeOf d o
+      → Between d k older before work
       → RoundEnds fits d k before this′ work work′
-
--- A round and what follows it: the equations' sets stayed; or they did not, and the sets of the round are copied down.
-pub record AtRest (slots bodies : List ℕ) (equations terms : ℕ) (store older before work this′ work′ : List ℕ) : Type 0 where
-  pub passed : Passed slots bodies terms store older before work this′ work′ true
-  pub same : allStay before this′ (take equations bodies) ≡ true
-
-pub record WentOn (slots bodies : List ℕ) (equations terms : ℕ) (store older before work this′ work′ : List ℕ) : Type 0 where
-  pub worked : List ℕ
-  pub passed : Passed slots bodies terms store older before work this′ worked true
-  pub changed : allStay before this′ (take equations bodies) ≡ false
-  pub long : length worked ≡ length work
-  pub words : work′ ≡ loweredIn (startIn this′ terms) worked
-
-abbrev pub TurnMade : (slots bodies : List ℕ) (equations terms : ℕ) (store older before work this′ work′ : List ℕ) → Turn → Type 0
-TurnMade slots bodies equations terms store older before work this′ work′ TooLarge = Passed slots bodies terms store older before work this′ work′ false
-TurnMade slots bodies equations terms store older before work this′ work′ Stable = AtRest slots bodies equations terms store older before work this′ work′
-TurnMade slots bodies equations terms store older before work this′ work′ Goes = WentOn slots bodies equations terms store older before work this′ work′

@@ -4,11 +4,24 @@ use places::starts::start_of;
 use sets::Built;
 use table::packing::unpack;
 use terms::next_term;
-ghost use mathlib.Core.Path.{_≡_};
-ghost use Prim.Native.Nat.{_≤_};
+ghost use Prim.Native.Nat.{_+_, _<_};
 ghost use lib.ListN.{length};
-ghost use Rattle.places.specs.Starts.{startIn};
-ghost use Rattle.rounds.specs.Passes.{Passed};
+ghost use Rattle.turns.specs.Passes.{Entered, Passable, Passed};
+
+// Where the set of a term ends is entered, if there is room for it.
+fn enter(this: &mut [usize], n: usize, built: Built) -> bool
+    requires { ⌜ n + 1 < length (now this) ⌝ }
+    ensures { λ r. ⌜ Entered (now (this .entry)) n built (now (this .exit)) r ⌝ }
+{
+    let Built::Holds(count) = built else {
+        return false;
+    };
+    if left_of(this, n) < count {
+        return false;
+    }
+    this[n + 1] = start_of(this, n) + count;
+    true
+}
 
 // A round after the one whose sets begin at `before`. Where its own sets begin is written into `this`, over what an earlier
 // round left there; whether they pass no limit is returned.
@@ -22,8 +35,7 @@ pub fn pass(
     this: &mut [usize],
     work: &mut [u64],
 ) -> bool
-    requires { ⌜ (startIn (now this) 0 ≡ 0) × (length (now this) ≡ 97) × (length (now slots) ≡ 96) × (terms ≤ 96)
-        × (4096 ≤ length (now work)) ⌝ }
+    requires { ⌜ Passable (now slots) terms (now this) (now work) ⌝ }
     ensures { λ r. ⌜ Passed
         (now (slots .entry)) (now (bodies .entry)) terms (now (store .entry)) (now (older .entry)) (now (before .entry))
         (now (work .entry)) (now (this .exit)) (now (work .exit)) r ⌝ }
@@ -32,13 +44,9 @@ pub fn pass(
     while n < terms {
         let term = unpack(slots[n]);
         let built = next_term(term, store, bodies, n, older, before, this, work);
-        let Built::Holds(count) = built else {
-            return false;
-        };
-        if left_of(this, n) < count {
+        if !enter(this, n, built) {
             return false;
         }
-        this[n + 1] = start_of(this, n) + count;
         n += 1;
     }
     true

@@ -1,0 +1,42 @@
+-- `turns::settling::conclude` meets its contract: 0 alone, or the root's set.
+-- Assumes nothing.
+use mathlib.Core.Path.{refl, ap}
+use borrow.Author.Needs.{needs}
+use Rattle.turns.specs.declared.Found.the-variants.{At}
+use Rattle.turns.proofs.settling.conclude.Statement.{statement}
+use Rattle.turns.proofs.settling.conclude.Tie as tie
+
+enum-known-last : tie.Need-enum-known-last
+enum-known-last c = search needs
+
+enum-told : tie.Need-enum-told
+enum-told c = search needs
+
+mul-clear : tie.Need-mul-clear
+mul-clear c = search needs
+
+clear-requires : tie.Need-clear-requires
+clear-requires c κs = search needs
+
+same-length : tie.Need-same-length
+same-length c = search needs
+
+returns : tie.Need-returns
+returns c = rw (c .before .before .before .before .enum-told .given .1) (refl, c .before .before .clear .ensures)
+
+settle-requires : tie.Need-settle-requires
+settle-requires c κs = search needs
+
+same-length-2 : tie.Need-same-length-2
+same-length-2 c = search needs
+
+returns-2 : tie.Need-returns-2
+returns-2 c =
+    let stable = c .before .before .before .before .before .last .given in
+    let settled = c .before .before .settle .ensures in
+    rw (stable .1) (ap (At (stable .0 .0)) (settled .count), settled .words)
+
+pub conclude-spec : {M : Type 1} → statement M
+conclude-spec =
+    tie.close
+    (tie.spec enum-known-last enum-told mul-clear clear-requires same-length returns settle-requires same-length-2 returns-2)

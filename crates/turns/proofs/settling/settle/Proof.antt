@@ -1,0 +1,65 @@
+-- `turns::settling::settle` meets its contract: nothing, or the set brought and the words behind it cleared.
+-- Assumes nothing.
+use mathlib.Core.Path.{refl}
+use Prim.Native.Nat.{_-_}
+use lib.ListN.{length}
+use native.Mathlib.Omega.{arith}
+use borrow.Author.Needs.{needs}
+use Rattle.turns.proofs.Bringing.{settled-none, settled-set}
+use Rattle.turns.proofs.settling.settle.Statement.{statement}
+use Rattle.turns.proofs.settling.settle.Tie as tie
+
+mul-clear : tie.Need-mul-clear
+mul-clear c = search needs
+
+clear-requires : tie.Need-clear-requires
+clear-requires c κs = search needs
+
+same-length : tie.Need-same-length
+same-length c = search needs
+
+returns : tie.Need-returns
+returns c = settled-none (c .before .before .before .before .before .before .pre) (omega arith) (c .before .before .clear .ensures)
+
+sub-count : tie.Need-sub-count
+sub-count c = search needs
+
+bring-requires : tie.Need-bring-requires
+bring-requires c κs = search needs
+
+mul-clear-2 : tie.Need-mul-clear-2
+mul-clear-2 c = search needs
+
+sub-clear : tie.Need-sub-clear
+sub-clear c = search needs
+
+part-clear-start : tie.Need-part-clear-start
+part-clear-start c = search needs
+
+part-clear-end : tie.Need-part-clear-end
+part-clear-end c = search needs
+
+mul-clear-3 : tie.Need-mul-clear-3
+mul-clear-3 c = search needs
+
+sub-clear-2 : tie.Need-sub-clear-2
+sub-clear-2 c = search needs
+
+clear-requires-2 : tie.Need-clear-requires-2
+clear-requires-2 c κs = search needs
+
+same-length-2 : tie.Need-same-length-2
+same-length-2 c = search needs
+
+returns-2 : tie.Need-returns-2
+returns-2 c =
+    let a = c .before .before .before .before .before .before .before .before .before .before .args in
+    let brought = c .before .before .before .before .before .before .bring in
+    let left = length (brought .last .0) - (a .set .to - a .set .from) in
+    settled-set (c .before .before .before .before .before .before .before .before .before .before .pre) refl (omega arith) (brought .ensures) left (c .before .before .clear2 .ensures) refl (omega (arith, brought .kept .0))
+
+pub settle-spec : {M : Type 1} → statement M
+settle-spec =
+    tie.close
+    (tie.spec mul-clear clear-requires same-length returns sub-count bring-requires mul-clear-2 sub-clear part-clear-start part-clear-end
+    mul-clear-3 sub-clear-2 clear-requires-2 same-length-2 returns-2)

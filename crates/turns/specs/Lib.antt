@@ -1,0 +1,9 @@
+-- What round after round says of its areas.
+-- a term added, a round passed
+pub mod Passes
+-- a round and what follows it, the last round
+pub mod Stages
+-- a set alone in the work area
+pub mod Settling
+-- what the rounds of a description come to
+pub mod Endings

@@ -1,0 +1,80 @@
+-- What round after round comes to, for the table of a legal description. Only private functions cite this.
+-- Assumes nothing.
+use mathlib.Core.Path.{_≡_}
+use mathlib.Core.Bool.{true, false}
+use mathlib.Core.List.{List}
+use Prim.Native.Nat.{ℕ, _≤_}
+use lib.Dec.{T}
+use lib.ListN.{length, take, replicate}
+use Rattle.meaning.specs.Sets.{at}
+use Rattle.meaning.specs.Descriptions.{Description, Order, all, termCount}
+use Rattle.meaning.specs.Legal.{Legal}
+use Rattle.meaning.specs.Rounds.{roundSets}
+use Rattle.meaning.specs.Limits.{over}
+use Rattle.meaning.specs.Answers.{tooLarge, listed, answer}
+use Rattle.table.specs.Encoded.{storeOf, tableOf}
+use Rattle.places.specs.Starts.{half, whole, startIn}
+use Rattle.places.specs.Sameness.{allStay}
+use Rattle.places.specs.Moving.{loweredIn}
+use Rattle.terms.specs.Laid.{Laid}
+use Rattle.terms.specs.Working.{Kept}
+use Rattle.turns.specs.declared.stages.Counts.{Counts}
+use Rattle.turns.specs.declared.stages.Turn.{Turn}
+use Rattle.turns.specs.declared.stages.Turn.the-variants as T
+use Rattle.turns.specs.declared.stages.Last.{Last}
+use Rattle.turns.specs.declared.stages.Last.the-variants as L
+use Rattle.turns.specs.Passes.{Read, Passed}
+
+-- A round and what follows it: the equations' sets stayed; or they did not, and the sets of the round are copied down.
+pub record AtRest (slots bodies : List ℕ) (counts : Counts) (store older before work this′ work′ : List ℕ) : Type 0 where
+  pub passed : Passed slots bodies (counts .terms) store older before work this′ work′ true
+  pub same : allStay before this′ (take (counts .equations) bodies) ≡ true
+
+pub record WentOn (slots bodies : List ℕ) (counts : Counts) (store older before work this′ work′ : List ℕ) : Type 0 where
+  pub worked : List ℕ
+  pub passed : Passed slots bodies (counts .terms) store older before work this′ worked true
+  pub changed : allStay before this′ (take (counts .equations) bodies) ≡ false
+  pub long : length worked ≡ length work
+  pub words : work′ ≡ loweredIn (startIn this′ (counts .terms)) worked
+
+abbrev pub TurnMade : (slots bodies : List ℕ) (counts : Counts) (store older before work this′ work′ : List ℕ) → Turn → Type 0
+TurnMade slots bodies counts store older before work this′ work′ T.TooLarge =
+    Passed slots bodies (counts .terms) store older before work this′ work′ false
+TurnMade slots bodies counts store older before work this′ work′ T.Stable = AtRest slots bodies counts store older before work this′ work′
+TurnMade slots bodies counts store older before work this′ work′ T.Goes = WentOn slots bodies counts store older before work this′ work′
+
+-- What the rounds need before the first: no set begins anywhere but at 0.
+pub record Startable (slots bodies : List ℕ) (counts : Counts) (before this work : List ℕ) : Type 0 where
+  pub slotted : length slots ≡ 96
+  pub few : counts .terms ≤ 96
+  pub equations : counts .equations ≤ length bodies
+  pub room : whole ≤ length work
+  pub nothing : before ≡ replicate 97 0
+  pub none : this ≡ replicate 97 0
+
+-- The rounds of a description: a limit passed; or the sets of the stable round in the upper half.
+pub record LastOver (d : Description) (work work′ : List ℕ) : Type 0 where
+  pub outcome : answer d all ≡ tooLarge
+  pub kept : Kept work work′
+
+pub record LastStable (d : Description) (k : ℕ) (this work work′ : List ℕ) : Type 0 where
+  pub outcome : answer d all ≡ listed k (at (roundSets d k) (d .root))
+  pub upper : Laid half (termCount d) (roundSets d k) this work′
+  pub few : T (over (roundSets d k)) → ⊥
+  pub kept : Kept work work′
+
+abbrev pub LastEnds : Description → (this work work′ : List ℕ) → Last → Type 0
+LastEnds d this work work′ L.TooLarge = LastOver d work work′
+LastEnds d this work work′ (L.Stable k) = LastStable d k this work work′
+
+-- what the rounds read of the table of a legal description and of its list store
+pub record Describes (d : Description) (o : Order) (slots bodies : List ℕ) (counts : Counts) (store : List ℕ) : Type 0 where
+  pub legal : Legal d o
+  pub read : Read d slots bodies (counts .terms)
+  pub equations : counts .equations ≡ tableOf d .equations
+  pub stored : store ≡ storeOf d o
+
+pub record LastMade (slots bodies : List ℕ) (counts : Counts) (store work before′ this′ work′ : List ℕ) (r : Last) : Type 0 where
+  pub sizeBefore : length before′ ≡ 97
+  pub sizeThis : length this′ ≡ 97
+  pub right : (d : Description) (o : Order) → Describes d o slots bodies counts store → LastEnds d this′ work work′ r
