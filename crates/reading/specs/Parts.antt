@@ -14,11 +14,12 @@ use Rattle.table.specs.Decoded.{nameOf}
 use Rattle.table.specs.Encoded.{filled, slotsFrom, termsWords, tableOf, orderFor, storeOf}
 use Rattle.faults.specs.CodedFaults.{faultOf}
 use Rattle.faults.specs.declared.Fault as F
-use Rattle.grammar.specs.Reading.{Reading, read, badLine}
+use Rattle.grammar.specs.Reading.{takeTerm, lines, Reading, read, badLine}
 use Rattle.sections.specs.declared.Progress.{Progress}
 use Rattle.sections.specs.declared.Progress.the-variants.{To, Bad}
 use Rattle.frames.specs.declared.heads.Head.{Head}
-use Rattle.frames.specs.Heads.{Named}
+use Rattle.frames.specs.Heads.{Named, headingOf}
+use Rattle.termlines.specs.Terms.{TermsWalk}
 
 -- The lines before the terms are within the limits.
 pub record Headed (h : Head) : Type 0 where
@@ -32,6 +33,12 @@ pub record Sized (text : Text) (line named : ℕ) (store : List ℕ) : Type 0 wh
   pub low : line ≤ 8192
   pub few : named ≤ 12
   pub long : length store ≡ 3104
+
+-- The lines of terms, with the lists before the order's words, which are still 0.
+pub record TermsPart (text : Text) (h : Head) (store slots : List ℕ) (r : Progress) : Type 0 where
+  pub lists : List ℕ
+  pub kept : store ≡ lists ++ filled 32 0 []
+  pub walks : TermsWalk text (lines (takeTerm (headingOf h .words) (h .equations)) (h .terms) [] 0 text) (h .terms) lists slots r
 
 -- Slots and a store that hold so many terms.
 pub record HeldTerms (terms : List Term) (count : ℕ) (slots store : List ℕ) : Type 0 where

@@ -10,7 +10,7 @@ ghost use Rattle.table.specs.Encoded.{filled};
 ghost use Rattle.grammar.specs.Reading.{fromOrder, fromBodies, fromTerms, wholeText, described};
 ghost use Rattle.frames.specs.Heads.{headingOf};
 ghost use Rattle.reading.specs.Stored.{refusing, Ended, Completed};
-ghost use Rattle.reading.specs.Parts.{EndWalks, Headed, Sized, HeldTerms, Held};
+ghost use Rattle.reading.specs.Parts.{EndWalks, Headed, Sized, TermsPart, HeldTerms, Held};
 use crate::Answer;
 use crate::Read;
 use faults::Fault;
@@ -25,6 +25,7 @@ use table::areas::clear;
 use table::empty;
 use termlines::orders::Ordered;
 use termlines::orders::take_order;
+use termlines::terms::Terms;
 use termlines::terms::take_terms;
 
 // What is returned of a text that is refused: the answer, with a table of nothing.
@@ -121,23 +122,30 @@ fn read_foot(text: &[u8], head: Head, slots: [u64; 96], store: &mut [u64]) -> Re
     read_order(&text[at..], line, table, store)
 }
 
+// The lines of terms, whose lists go to the first 3,072 words of the store.
+fn read_part(text: &[u8], head: Head, store: &mut [u64]) -> Terms
+    requires { ⌜ (length (now text) ≤ 8192) × Headed head × (now store ≡ filled 3104 0 []) ⌝ }
+    ensures { λ r. ⌜ TermsPart (now (text .entry)) head (now (store .exit)) (r .slots) (r .progress) ⌝ }
+{
+    let names = head.names;
+    let named = head.named;
+    let equations = head.equations;
+    let terms = head.terms;
+    take_terms(text, &names[..named], equations, terms, &mut store[..3072])
+}
+
 // The lines from the terms' on.
 fn read_terms(text: &[u8], head: Head, store: &mut [u64]) -> Read
     requires { ⌜ (length (now text) ≤ 8192) × Headed head × (now store ≡ filled 3104 0 []) ⌝ }
     ensures { λ r. ⌜ Ended (described (fromTerms (headingOf head .words) (head .equations) (head .terms) (4 + head .named) (now (text .entry))))
         (now (store .exit)) r ⌝ }
 {
-    let names = head.names;
-    let named = head.named;
-    let equations = head.equations;
-    let count = head.terms;
-    let part = &mut store[..3072];
-    let terms = take_terms(text, &names[..named], equations, count, part);
-    let progress = terms.progress;
+    let part = read_part(text, head, store);
+    let progress = part.progress;
     let Progress::To(_, at) = progress else {
-        return bad(progress, 4 + named);
+        return bad(progress, 4 + head.named);
     };
-    let slots = terms.slots;
+    let slots = part.slots;
     read_foot(&text[at..], head, slots, store)
 }
 
