@@ -16,13 +16,14 @@ use Rattle.meaning.proofs.Alike.{alike}
 use Rattle.table.specs.Encoded.{filled}
 use Rattle.table.proofs.Filled.{filled-replicate}
 use Rattle.grammar.specs.Reading.{Reading, read, overlong, badLine, described, wholeText, readText}
-use Rattle.reading.specs.Stored.{refusing, readFor, storeFor, withRoom, readWith, Stored, Ended}
+use Rattle.reading.specs.Stored.{refusing, readFor, storeFor, withRoom, readWith, Stored, Ended, Completed}
 use Rattle.reading.specs.declared.Answer.{Answer}
 use Rattle.reading.specs.declared.Answer.the-variants.{Fine, TooLong, Bad}
 use Rattle.reading.specs.declared.Read.{Read}
 
 -- Any two results that meet the contract are equal, and so are the stores.
-pub stored-once : {text : Text} {before after after′ : List ℕ} {r r′ : Read} → Stored text before after r → Stored text before after′ r′ → (r ≡ r′) × (after ≡ after′)
+pub stored-once : {text : Text} {before after after′ : List ℕ} {r r′ : Read} → Stored text before after r → Stored text before after′ r′
+    → (r ≡ r′) × (after ≡ after′)
 stored-once s t = (alike (s .result) (t .result), alike (s .store) (t .store))
 
 -- Refusal 1 comes first.
@@ -57,26 +58,28 @@ module _ (text : Text) (before : List ℕ) {r : Read} where
   refused-first e h = record { result = h ∙ ap readFor (sym e); store = ap (λ x. storeFor x before) (sym e) }
 
 -- By the answer the store is kept or cleared.
-module _ (before : List ℕ) {front : List ℕ} {r : Read} where
-  kept : (due : Reading) → Ended due front r → r .answer ≡ Fine → front ++ drop 3104 before ≡ storeFor due before
-  kept (read d o) e h = ap (λ l. l ++ drop 3104 before) (e .left)
-  kept overlong e h = absurd (e .left)
-  kept (badLine f line) e h = let k = sym (ap (λ x. x .answer) (e .result)) ∙ h in let z : _≡_ {A = ℕ} 0 1 = cc in absurd (omega arith)
+module _ {due : Reading} {front : List ℕ} {r : Read} (e : Ended due front r) where
+  pub kept-completed : r .answer ≡ Fine → Completed due front r
+  kept-completed h = record { result = e .result; store = λ before. by-reading before due e }
+    where
+      by-reading : (before : List ℕ) (x : Reading) → Ended x front r → front ++ drop 3104 before ≡ storeFor x before
+      by-reading before (read d o) e = ap (λ l. l ++ drop 3104 before) (e .left)
+      by-reading before overlong e = absurd (e .left)
+      by-reading before (badLine f line) e =
+          let k = sym (ap (λ x. x .answer) (e .result)) ∙ h in let z : _≡_ {A = ℕ} 0 1 = cc in absurd (omega arith)
 
-  cleared : {zeros : List ℕ} (due : Reading) → Ended due front r → (r .answer ≡ Fine → ⊥) → zeros ≡ filled 3104 0 [] → zeros ++ drop 3104 before ≡ storeFor due before
-  cleared (read d o) e h z = absurd (h (ap (λ x. x .answer) (e .result)))
-  cleared overlong e h z = absurd (e .left)
-  cleared (badLine f line) e h z = ap (λ l. l ++ drop 3104 before) (z ∙ sym (filled-replicate 0 3104))
+  pub cleared-completed : {zeros : List ℕ} → (r .answer ≡ Fine → ⊥) → zeros ≡ filled 3104 0 [] → Completed due zeros r
+  cleared-completed {zeros} h z = record { result = e .result; store = λ before. by-reading before due e }
+    where
+      by-reading : (before : List ℕ) (x : Reading) → Ended x front r → zeros ++ drop 3104 before ≡ storeFor x before
+      by-reading before (read d o) e = absurd (h (ap (λ x. x .answer) (e .result)))
+      by-reading before overlong e = absurd (e .left)
+      by-reading before (badLine f line) e = ap (λ l. l ++ drop 3104 before) (z ∙ sym (filled-replicate 0 3104))
 
-  module _ (text : Text) (fits : readWith text (length before) ≡ described (wholeText text)) (e : Ended (described (wholeText text)) front r) where
-    same : r ≡ readFor (readWith text (length before))
-    same = e .result ∙ ap readFor (sym fits)
-
-    pub fine-stored : {after : List ℕ} → r .answer ≡ Fine → after ≡ front ++ drop 3104 before → Stored text before after r
-    fine-stored h q = record { result = same; store = q ∙ kept (described (wholeText text)) e h ∙ ap (λ x. storeFor x before) (sym fits) }
-
-    pub bad-stored : {zeros after : List ℕ} → (r .answer ≡ Fine → ⊥) → zeros ≡ filled 3104 0 [] → after ≡ zeros ++ drop 3104 before → Stored text before after r
-    bad-stored h z q = record { result = same; store = q ∙ cleared (described (wholeText text)) e h z ∙ ap (λ x. storeFor x before) (sym fits) }
+pub completed-stored : (text : Text) (before : List ℕ) {front : List ℕ} {r : Read} → readWith text (length before) ≡ described (wholeText text)
+    → Completed (described (wholeText text)) front r → Stored text before (front ++ drop 3104 before) r
+completed-stored text before fits k =
+    record { result = k .result ∙ ap readFor (sym fits); store = k .store before ∙ ap (λ x. storeFor x before) (sym fits) }
 
 -- one of the other answers
 pub not-fine : (a : Answer) → OneOf (1 ∷ 2 ∷ []) (tagOf the-type a) → a ≡ Fine → ⊥

@@ -2,24 +2,20 @@
 -- Assumes nothing.
 use mathlib.Core.Path.{_≡_}
 use mathlib.Core.Bool.{Bool, true, false}
-use mathlib.Core.List.{List, [], _++_, map}
-use Prim.Native.Nat.{ℕ, _+_, _^_, _≤_, _<_}
+use mathlib.Core.List.{List, _++_}
+use Prim.Native.Nat.{ℕ}
 use lib.Dec.{leb}
-use lib.ListN.{length, getD, take, drop, replicate}
+use lib.ListN.{length, drop, replicate}
 use Rattle.meaning.specs.Bytes.{Text}
 use Rattle.meaning.specs.Answers.{Fault, form, name, range, amount, operand}
 use Rattle.table.specs.declared.Order.the-variants.{All}
-use Rattle.table.specs.declared.Table.{Table}
-use Rattle.table.specs.Decoded.{nameOf}
-use Rattle.table.specs.Encoded.{filled, slotsFrom, termsWords, tableOf, blank, orderFor, storeOf}
+use Rattle.table.specs.Encoded.{tableOf, blank, orderFor, storeOf}
 use Rattle.faults.specs.declared.Fault as F
 use Rattle.faults.specs.declared.Fault.the-variants.{Form, Name, Range, Amount, Operand}
 use Rattle.grammar.specs.Reading.{Reading, read, overlong, badLine, readText}
 use Rattle.reading.specs.declared.Answer.{Answer}
 use Rattle.reading.specs.declared.Answer.the-variants.{Fine, TooLong, Bad}
 use Rattle.reading.specs.declared.Read.{Read}
-use Rattle.sections.specs.Walks.{Padded}
-use Rattle.meaning.specs.Descriptions.{Term, Description}
 
 abbrev pub faultFor : Fault → F.Fault
 faultFor form = Form
@@ -65,29 +61,7 @@ pub record Ended (due : Reading) (after : List ℕ) (r : Read) : Type 0 where
   pub result : r ≡ readFor due
   pub left : Left due after
 
--- (Only private functions cite what follows: no public contract rests on it.)
-
--- Names in an array with 0 after them.
-pub record Named (names : List ℕ) (named : ℕ) : Type 0 where
-  pub few : named ≤ 12
-  pub laid : Padded 12 named names
-  pub fits : (i : ℕ) → getD names i 0 < 2 ^ 64
-
--- The text and the number of its first line are small, the names few, and the store has its length.
-pub record Sized (text : Text) (line named : ℕ) (store : List ℕ) : Type 0 where
-  pub short : length text ≤ 8192
-  pub low : line ≤ 8192
-  pub few : named ≤ 12
-  pub long : length store ≡ 3104
-
--- Slots and a store that hold so many terms.
-pub record HeldTerms (terms : List Term) (count : ℕ) (slots store : List ℕ) : Type 0 where
-  pub counted : length terms ≡ count
-  pub kept : slots ≡ filled 96 0 (slotsFrom 0 terms)
-  pub stored : store ≡ filled 3072 0 (termsWords terms) ++ filled 32 0 []
-
--- A table and a store that hold a description but for its order, or for its root and its order.
-pub record Held (d : Description) (table : Table) (store : List ℕ) : Type 0 where
-  pub named : map (nameOf 8) (take (table .named) (table .names)) ≡ d .words
-  pub tabled : table ≡ tableOf d
-  pub stored : store ≡ filled 3072 0 (termsWords (d .terms)) ++ filled 32 0 []
+-- The same once the refusal of a line has cleared the store, whatever words follow it.
+pub record Completed (due : Reading) (after : List ℕ) (r : Read) : Type 0 where
+  pub result : r ≡ readFor due
+  pub store : (before : List ℕ) → after ++ drop 3104 before ≡ storeFor due before

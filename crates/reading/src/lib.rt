@@ -2,13 +2,12 @@
 mod whole;
 
 ghost use Rattle.reading.specs.Stored.{Stored};
-use crate::whole::read_lines;
+use crate::whole::read_cleared;
 use crate::whole::refused;
 use faults::Fault;
 use table::Order;
 use table::STORE_WORDS;
 use table::Table;
-use table::areas::clear;
 
 // The most bytes of a description.
 const TEXT_BYTES: usize = 8192;
@@ -37,12 +36,5 @@ pub fn read_description(text: &[u8], store: &mut [u64]) -> Read
     if store.len() < STORE_WORDS {
         return refused(Answer::TooLong);
     }
-    clear(&mut store[..STORE_WORDS], STORE_WORDS);
-    let read = read_lines(text, &mut store[..STORE_WORDS]);
-    let answer = read.answer;
-    let Answer::Fine = answer else {
-        clear(&mut store[..STORE_WORDS], STORE_WORDS);
-        return read;
-    };
-    read
+    read_cleared(text, &mut store[..STORE_WORDS])
 }

@@ -1,24 +1,31 @@
-// The lines of the whole text, section after section: each function is lent the text from its section's first line on.
+// The lines of the whole text: those before the terms, the terms, those after them. Each function is lent the text from its first
+// line on.
 ghost use mathlib.Core.Path.{_≡_};
 ghost use mathlib.Core.List.{List, [], map};
 ghost use Prim.Native.Nat.{ℕ, _+_, _^_, _≤_, _<_};
-ghost use lib.ListN.{length, take};
+ghost use lib.ListN.{length};
 ghost use Rattle.meaning.specs.Descriptions as D;
 ghost use Rattle.table.specs.Decoded.{nameOf};
 ghost use Rattle.table.specs.Encoded.{filled};
-ghost use Rattle.grammar.specs.Reading.{fromOrder, fromRoot, fromBodies, fromTerms, fromCounts, fromNames, wholeText, described};
-ghost use Rattle.reading.specs.Stored.{refusing, Ended, Named, Sized, HeldTerms, Held};
+ghost use Rattle.grammar.specs.Reading.{fromOrder, fromBodies, fromTerms, wholeText, described};
+ghost use Rattle.frames.specs.Heads.{headingOf};
+ghost use Rattle.reading.specs.Stored.{refusing, Ended, Completed};
+ghost use Rattle.reading.specs.Parts.{EndWalks, Headed, Sized, TermsPart, HeldTerms, Held};
 use crate::Answer;
 use crate::Read;
 use faults::Fault;
+use frames::feet::take_foot;
+use frames::heads::Head;
+use frames::heads::take_head;
 use sections::Progress;
-use sections::bodies::take_bodies;
-use sections::lines::take_number;
-use sections::names::take_names;
 use table::Order;
+use table::STORE_WORDS;
 use table::Table;
+use table::areas::clear;
 use table::empty;
+use termlines::orders::Ordered;
 use termlines::orders::take_order;
+use termlines::terms::Terms;
 use termlines::terms::take_terms;
 
 // What is returned of a text that is refused: the answer, with a table of nothing.
@@ -43,7 +50,27 @@ fn bad(p: Progress, before: usize) -> Read
     }
 }
 
-// The order's line, after a table that is whole.
+// The order's line, which is the text's last: bytes after it are a fault of the line that they begin.
+fn read_end(text: &[u8], line: usize, names: &[u64], store: &mut [u64]) -> Ordered
+    requires { ⌜ Sized (now text) line (length (now names)) (now store) ⌝ }
+    ensures { λ r. ⌜ ((d : D.Description) → map (nameOf 8) (now (names .entry)) ≡ d .words
+        → EndWalks d line (described (fromOrder d line (now (text .entry)))) (now (store .entry)) (now (store .exit)) (r .order) (r .progress)) ⌝ }
+{
+    let last = take_order(text, line, names, &mut store[3072..]);
+    let progress = last.progress;
+    let Progress::To(_, end) = progress else {
+        return last;
+    };
+    if end < text.len() {
+        return Ordered {
+            progress: Progress::Bad(Fault::Form, line + 1),
+            order: Order::All,
+        };
+    }
+    last
+}
+
+// The order, after a table that is whole.
 fn read_order(text: &[u8], line: usize, table: Table, store: &mut [u64]) -> Read
     requires { ⌜ Sized (now text) line (table .named) (now store) ⌝ }
     ensures { λ r. ⌜ ((d : D.Description) → Held d table (now (store .entry))
@@ -51,15 +78,12 @@ fn read_order(text: &[u8], line: usize, table: Table, store: &mut [u64]) -> Read
 {
     let names = table.names;
     let named = table.named;
-    let last = take_order(text, line, &names[..named], &mut store[3072..]);
+    let last = read_end(text, line, &names[..named], store);
     let progress = last.progress;
-    let Progress::To(_, end) = progress else {
+    let order = last.order;
+    let Progress::To(_, _) = progress else {
         return bad(progress, 0);
     };
-    if end < text.len() {
-        return refused(Answer::Bad(Fault::Form, line + 1));
-    }
-    let order = last.order;
     Read {
         answer: Answer::Fine,
         table,
@@ -67,127 +91,88 @@ fn read_order(text: &[u8], line: usize, table: Table, store: &mut [u64]) -> Read
     }
 }
 
-// The lines from the root's on, after a table that lacks its root.
-fn read_root(text: &[u8], line: usize, table: Table, store: &mut [u64]) -> Read
-    requires { ⌜ Sized (now text) (line + 1) (table .named) (now store) ⌝ }
-    ensures { λ r. ⌜ ((d : D.Description) → Held d table (now (store .entry))
-        → Ended (described (fromRoot (d .words) (d .terms) (d .bodies) (table .terms) line (now (text .entry)))) (now (store .exit)) r) ⌝ }
+// The lines from the bodies' on.
+fn read_foot(text: &[u8], head: Head, slots: [u64; 96], store: &mut [u64]) -> Read
+    requires { ⌜ (length (now text) ≤ 8192) × Headed head × (length (now store) ≡ 3104) ⌝ }
+    ensures { λ r. ⌜ ((terms : List D.Term) → HeldTerms terms (head .terms) slots (now (store .entry))
+        → Ended (described (fromBodies (headingOf head .words) terms (head .equations) (head .terms)
+        (4 + head .named + head .terms) (now (text .entry)))) (now (store .exit)) r) ⌝ }
 {
-    let terms = table.terms as u64;
-    let given = take_number(text, line, b"root=", 0, terms, Fault::Range);
-    let Progress::To(root, at) = given else {
-        return bad(given, 0);
-    };
-    let mut whole = table;
-    whole.root = root as usize;
-    let next = line + 1;
-    read_order(&text[at..], next, whole, store)
-}
-
-// The lines from the bodies' on; those before them make up the first part of a table.
-fn read_bodies(
-    text: &[u8],
-    names: [u64; 12],
-    named: usize,
-    equations: usize,
-    slots: [u64; 96],
-    count: usize,
-    store: &mut [u64],
-) -> Read
-    requires { ⌜ Sized (now text) count named (now store) × Named names named × (equations ≤ 16) × (count ≤ 96) ⌝ }
-    ensures { λ r. ⌜ ((terms : List D.Term) → HeldTerms terms count slots (now (store .entry))
-        → Ended (described (fromBodies (map (nameOf 8) (take named names)) terms equations count (4 + named + count) (now (text .entry))))
-        (now (store .exit)) r) ⌝ }
-{
-    let before = 4 + named + count;
-    let given = take_bodies(text, equations, count as u64);
-    let progress = given.progress;
-    let Progress::To(_, at) = progress else {
+    let equations = head.equations;
+    let terms = head.terms;
+    let named = head.named;
+    let before = 4 + named + terms;
+    let foot = take_foot(text, equations, terms as u64);
+    let progress = foot.progress;
+    let Progress::To(root, at) = progress else {
         return bad(progress, before);
     };
-    let bodies = given.bodies;
+    let names = head.names;
+    let bodies = foot.bodies;
     let table = Table {
         names,
         named,
         bodies,
         equations,
         slots,
-        terms: count,
-        root: 0,
+        terms,
+        root: root as usize,
     };
-    let line = before + equations;
-    read_root(&text[at..], line, table, store)
+    let line = before + equations + 1;
+    read_order(&text[at..], line, table, store)
+}
+
+// The lines of terms, whose lists go to the first 3,072 words of the store.
+fn read_part(text: &[u8], head: Head, store: &mut [u64]) -> Terms
+    requires { ⌜ (length (now text) ≤ 8192) × Headed head × (now store ≡ filled 3104 0 []) ⌝ }
+    ensures { λ r. ⌜ TermsPart (now (text .entry)) head (now (store .exit)) (r .slots) (r .progress) ⌝ }
+{
+    let names = head.names;
+    let named = head.named;
+    let equations = head.equations;
+    let terms = head.terms;
+    take_terms(text, &names[..named], equations, terms, &mut store[..3072])
 }
 
 // The lines from the terms' on.
-fn read_terms(
-    text: &[u8],
-    names: [u64; 12],
-    named: usize,
-    equations: usize,
-    count: usize,
-    store: &mut [u64],
-) -> Read
-    requires { ⌜ (length (now text) ≤ 8192) × Named names named × (equations ≤ 16) × (count ≤ 96) × (now store ≡ filled 3104 0 []) ⌝ }
-    ensures { λ r. ⌜ Ended (described (fromTerms (map (nameOf 8) (take named names)) equations count (4 + named) (now (text .entry))))
+fn read_terms(text: &[u8], head: Head, store: &mut [u64]) -> Read
+    requires { ⌜ (length (now text) ≤ 8192) × Headed head × (now store ≡ filled 3104 0 []) ⌝ }
+    ensures { λ r. ⌜ Ended (described (fromTerms (headingOf head .words) (head .equations) (head .terms) (4 + head .named) (now (text .entry))))
         (now (store .exit)) r ⌝ }
 {
-    let part = &mut store[..3072];
-    let terms = take_terms(text, &names[..named], equations, count, part);
-    let progress = terms.progress;
+    let part = read_part(text, head, store);
+    let progress = part.progress;
     let Progress::To(_, at) = progress else {
-        return bad(progress, 4 + named);
+        return bad(progress, 4 + head.named);
     };
-    let slots = terms.slots;
-    read_bodies(&text[at..], names, named, equations, slots, count, store)
-}
-
-// The counts of equations and terms, and the lines after them.
-fn read_counts(text: &[u8], names: [u64; 12], named: usize, store: &mut [u64]) -> Read
-    requires { ⌜ (length (now text) ≤ 8192) × Named names named × (now store ≡ filled 3104 0 []) ⌝ }
-    ensures { λ r. ⌜ Ended (described (fromCounts (map (nameOf 8) (take named names)) (2 + named) (now (text .entry)))) (now (store .exit)) r ⌝ }
-{
-    let first = take_number(text, 2 + named, b"equations=", 0, 17, Fault::Form);
-    let Progress::To(equations, at) = first else {
-        return bad(first, 0);
-    };
-    let second = take_number(&text[at..], 3 + named, b"terms=", 1, 97, Fault::Form);
-    let Progress::To(count, took) = second else {
-        return bad(second, 0);
-    };
-    let next = at + took;
-    read_terms(
-        &text[next..],
-        names,
-        named,
-        equations as usize,
-        count as usize,
-        store,
-    )
-}
-
-// The lines of so many names, and those after them.
-fn read_names(text: &[u8], named: usize, store: &mut [u64]) -> Read
-    requires { ⌜ (length (now text) ≤ 8192) × (named ≤ 12) × (now store ≡ filled 3104 0 []) ⌝ }
-    ensures { λ r. ⌜ Ended (described (fromNames named 2 (now (text .entry)))) (now (store .exit)) r ⌝ }
-{
-    let words = take_names(text, named);
-    let progress = words.progress;
-    let Progress::To(_, at) = progress else {
-        return bad(progress, 2);
-    };
-    let names = words.names;
-    read_counts(&text[at..], names, named, store)
+    let slots = part.slots;
+    read_foot(&text[at..], head, slots, store)
 }
 
 // All lines of a text of at most 8,192 bytes, into a store that is 0.
-pub fn read_lines(text: &[u8], store: &mut [u64]) -> Read
+fn read_lines(text: &[u8], store: &mut [u64]) -> Read
     requires { ⌜ (length (now text) ≤ 8192) × (now store ≡ filled 3104 0 []) ⌝ }
     ensures { λ r. ⌜ Ended (described (wholeText (now (text .entry)))) (now (store .exit)) r ⌝ }
 {
-    let given = take_number(text, 1, b"names=", 1, 13, Fault::Form);
-    let Progress::To(named, at) = given else {
-        return bad(given, 0);
+    let head = take_head(text);
+    let progress = head.progress;
+    let Progress::To(_, at) = progress else {
+        return bad(progress, 0);
     };
-    read_names(&text[at..], named as usize, store)
+    read_terms(&text[at..], head, store)
+}
+
+// The same into a store of any words, which are 0 after a refusal.
+pub fn read_cleared(text: &[u8], store: &mut [u64]) -> Read
+    requires { ⌜ (length (now text) ≤ 8192) × (length (now store) ≡ 3104) ⌝ }
+    ensures { λ r. ⌜ Completed (described (wholeText (now (text .entry)))) (now (store .exit)) r ⌝ }
+{
+    clear(store, STORE_WORDS);
+    let read = read_lines(text, store);
+    let answer = read.answer;
+    let Answer::Fine = answer else {
+        clear(store, STORE_WORDS);
+        return read;
+    };
+    read
 }

@@ -1,0 +1,60 @@
+-- `reading::whole::read_part` meets its contract: the lists are before the order's words, which stay 0.
+-- Assumes nothing.
+use borrow.Author.Needs.{needs}
+use mathlib.Core.Path.{_≡_, refl, sym, ap, _∙_}
+use mathlib.Core.List.{[], _++_}
+use native.Mathlib.Omega.{arith}
+use lib.ListN.{length, length-take}
+use lib.Seq.{length-take-le}
+use Rattle.table.proofs.Filled.{filled-length}
+use Rattle.grammar.specs.Reading.{takeTerm, lines}
+use Rattle.faults.proofs.Calls.{asks-nothing}
+use Rattle.sections.proofs.Walking.{padded-length, room-there}
+use Rattle.frames.specs.Heads.{headingOf}
+use Rattle.reading.proofs.Wholes.{front-free, rest-free}
+use Rattle.reading.proofs.whole.read_part.Statement.{statement}
+use Rattle.reading.proofs.whole.read_part.Tie as tie
+
+long : (c : tie.Start) → length (c .args .store .now) ≡ 3104
+long c = ap length (c .pre .2) ∙ filled-length 0 3104 []
+
+array-share-prefix-names : tie.Need-array-share-prefix-names
+array-share-prefix-names c = let held = c .before .before .before .pre .1 .held in let e = padded-length (held .laid) in omega (arith, held .few)
+
+slice-aggregate-take-terms : tie.Need-slice-aggregate-take-terms
+slice-aggregate-take-terms c =
+    let held = c .before .before .before .before .pre .1 .held in
+    let e = padded-length (held .laid) in
+    sym (length-take-le _ _ (omega (arith, held .few)))
+
+slice-relend-prefix-take-terms : tie.Need-slice-relend-prefix-take-terms
+slice-relend-prefix-take-terms c = omega (arith, long (c .before .before .before .before))
+
+slice-aggregate-take-terms-2 : tie.Need-slice-aggregate-take-terms-2
+slice-aggregate-take-terms-2 c = let start = c .before .before .before .before .before in sym (length-take-le 3072 (start .args .store .now) (omega (arith, long start)))
+
+same-length : tie.Need-same-length
+same-length c = search needs
+
+returns : tie.Need-returns
+returns c =
+    let start = c .before .before .before .before .before .before .before .before in
+    let head = start .args .head in
+    let text = start .args .text .now in
+    let t = c .before .before .take-terms .ensures (record {
+      few = rw length-take (omega (arith, start .pre .1 .held .few));
+      short = start .pre .0;
+      free = front-free 3104 3072 32 (start .pre .2) refl;
+    }) in
+    let due = lines (takeTerm (headingOf head .words) (head .equations)) (head .terms) [] 0 text in
+    record {
+      lists = c .before .before .take-terms .last .1 .1 .1 .1 .0;
+      kept = ap (λ r. c .before .before .take-terms .last .1 .1 .1 .1 .0 ++ r) (rest-free 3104 3072 32 (start .pre .2) refl);
+      walks = rw (room-there due (start .pre .1 .counted)) at t;
+    }
+
+pub read-part-spec : {M : Type 1} → statement M
+read-part-spec =
+    tie.close
+    (tie.spec array-share-prefix-names slice-aggregate-take-terms slice-relend-prefix-take-terms slice-aggregate-take-terms-2 asks-nothing
+    same-length returns)
