@@ -12,7 +12,7 @@ use Rattle.meaning.specs.Answers.{Fault, range}
 use Rattle.grammar.specs.Text.{Past, past, stuck}
 use Rattle.grammar.specs.Forms.{countLine}
 use Rattle.grammar.specs.Reading.{takenIf, formed, takeNumber, takeBody, Cut, cut, noLine, firstLine}
-use Rattle.grammar.specs.Reading.{Walk, reached, halted, walk, afterLine, lineWalk, oneLine}
+use Rattle.grammar.specs.Reading.{reached, halted, walk, afterLine, lineWalk, oneLine}
 use Rattle.textlines.specs.Lines.{between}
 use Rattle.textlines.specs.Walks.{Walks}
 use Rattle.textlines.specs.declared.Progress.{Progress}

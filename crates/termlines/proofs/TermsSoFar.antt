@@ -2,9 +2,9 @@
 -- Assumes nothing.
 use mathlib.Core.Path.{_≡_, refl, sym, _∙_}
 use mathlib.Core.List.{List, [], _∷_, _++_, map}
-use Prim.Native.Nat.{ℕ, zero, suc, _+_, _*_, _-_, _≤_, _<_}
+use Prim.Native.Nat.{ℕ, _+_, _*_, _-_, _≤_, _<_}
 use native.Mathlib.Omega.{arith}
-use lib.ListN.{length, take, drop, set, replicate, length-set, length-replicate}
+use lib.ListN.{length, take, drop, set, replicate, length-set}
 use Rattle.meaning.specs.Bytes.{Text}
 use Rattle.meaning.specs.Descriptions as D
 use Rattle.table.specs.Decoded.{nameOf}
@@ -17,10 +17,10 @@ use Rattle.textlines.specs.declared.Progress.{Progress}
 use Rattle.textlines.specs.declared.Progress.the-variants.{To, Bad}
 use Rattle.textlines.proofs.Walks.{rest-length}
 use Rattle.textlines.proofs.Sequences.{Onto, lines-start, lines-step, lines-halt, lines-end, room-there, room-lacks}
-use Rattle.termlines.specs.Terms.{TermLine, TermWalks, Termed, TermAt, NextTerm, NextWalks, TermsAt, TermsAnswer}
+use Rattle.termlines.specs.Terms.{TermLine, TermWalks, Termed, NextTerm, NextWalks, TermsAt, TermsAnswer}
 use Rattle.termlines.proofs.Lines.{store-more, slot-more, one-more}
 
--- A term's own words of the store: `size n` from `32 * n` on, which is 32 as the code has it.
+-- A term's own words of the store: the 32 from `32 * n` on, as the code counts them.
 abbrev size : ℕ → ℕ
 size n = 32 * n + 32 - 32 * n
 

@@ -40,7 +40,7 @@ fn take_term(
     Progress::To(pack(term), took)
 }
 
-// The same with the whole store, where the term's list goes to its own 32 words; a store without them is never lent.
+// The same with the whole store, where the term's list goes to its own 32 words; where the store ends before them the line is refused.
 fn next_term(
     text: &[u8],
     names: &[u64],
@@ -68,6 +68,7 @@ pub struct Terms {
     pub slots: [u64; 96],
 }
 
+// What is left of a progress after which no term counts.
 fn no_terms(progress: Progress) -> Terms
     ensures { λ r. ⌜ (r .progress ≡ progress) × (r .slots ≡ filled 96 0 []) ⌝ }
 {
