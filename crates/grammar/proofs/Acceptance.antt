@@ -17,16 +17,18 @@ use Rattle.meaning.specs.Answers.{Fault, form, name, range, operand}
 use Rattle.meaning.proofs.Tests.{and-left, and-right, and-both}
 use Rattle.grammar.specs.Forms.{countLine, nameLine}
 use Rattle.grammar.specs.Faults.{worse, unless, inRange, operandsFit, termSaid, termFault}
-use Rattle.grammar.specs.Reading.{takeNumber, nameCount, equationCount, termCount, isFree, takeName, takeTerm, takeBody, takeOrder, Walk, reached, halted, Reading, read, overlong, badLine, allRead, Whole, wholeText, readText}
+use Rattle.grammar.specs.Reading.{takeNumber, nameCount, equationCount, termCount, isFree, takeName, takeTerm, takeBody, takeOrder, Walk}
+use Rattle.grammar.specs.Reading.{reached, halted, Reading, read, overlong, badLine, allRead, Whole, wholeText, readText}
 use Rattle.grammar.specs.Marks.{decimal}
 use Rattle.grammar.specs.Writing.{termText, orderText, written, LegalWords}
 use Rattle.grammar.proofs.Findings.{fine-tests}
-use Rattle.grammar.proofs.Onwards.{fails}
+use Rattle.grammar.proofs.Onwards.{T-not→false}
 use Rattle.grammar.proofs.Writes.{inline?}
 use Rattle.grammar.proofs.Atoms.{itself, faultless, Small, writes-number, writes-word}
 use Rattle.grammar.proofs.LineForms.{WritesLine, line-ended, line-after, line-narrow}
 use Rattle.grammar.proofs.TermLines.{writes-term, writes-order}
-use Rattle.grammar.proofs.Sections.{Takes, takes, takes-if, Reaches, walk←, one-line←, LegalAfter, lines←, Ends, ends-reached, ends-walk, ends-line, ends-section}
+use Rattle.grammar.proofs.Sections.{Takes, line→takes, takes-if, Reaches, walk←, one-line←, LegalAfter, lines←}
+use Rattle.grammar.proofs.Sections.{Ends, ends-reached, ends-walk, ends-line, ends-section}
 use Rattle.grammar.proofs.LegalLines.{NewWord, NewBody, NewTerm, legal-words, legal-bodies, legal-terms}
 
 -- The lines.
@@ -34,24 +36,27 @@ writes-count : (key : Text) → T (inline? key) → WritesLine (countLine key) i
 unfolding countLine
 writes-count key tested = line-after key tested (line-ended writes-number itself itself faultless itself (λ n. refl) (λ n. Iff·rfl))
 
-takes-number : (key : Text) → T (inline? key) → (test : ℕ → Bool) (f : Fault) → Takes (takeNumber key test f) itself (λ n. key ++ decimal n) (λ n. Small n × T (test n))
+takes-number : (key : Text) → T (inline? key) → (test : ℕ → Bool) (f : Fault)
+    → Takes (takeNumber key test f) itself (λ n. key ++ decimal n) (λ n. Small n × T (test n))
 unfolding takeNumber
 takes-number key tested test f = takes-if (writes-count key tested) test f itself
 
-takes-body : (terms : ℕ) (bodies : List ℕ) → Takes (takeBody terms bodies) (λ b. bodies ++ (b ∷ [])) (λ b. ascii "equation=" ++ decimal b) (NewBody terms bodies)
+takes-body : (terms : ℕ) (bodies : List ℕ)
+    → Takes (takeBody terms bodies) (λ b. bodies ++ (b ∷ [])) (λ b. ascii "equation=" ++ decimal b) (NewBody terms bodies)
 unfolding takeBody
 takes-body terms bodies = takes-if (writes-count (ascii "equation=") tt) (λ b. ltb b terms) range (λ b. bodies ++ (b ∷ []))
 
 takes-name : (words : List Text) → Takes (takeName words) (λ w. words ++ (w ∷ [])) (λ w. ascii "name=" ++ w) (NewWord words)
 unfolding takeName nameLine
 takes-name words =
-    takes-if (line-after (ascii "name=") tt (line-ended writes-word itself itself faultless itself (λ w. refl) (λ w. Iff·rfl))) (isFree words) name (λ w. words ++ (w ∷ []))
+    takes-if (line-after (ascii "name=") tt (line-ended writes-word itself itself faultless itself (λ w. refl) (λ w. Iff·rfl)))
+    (isFree words) name (λ w. words ++ (w ∷ []))
 
 takes-term : (words : List Text) → LegalWords words → (references : ℕ) (terms : List Term)
     → Takes (takeTerm words references terms) (λ t. terms ++ (t ∷ [])) (λ t. ascii "term=" ++ termText words t) (NewTerm (length words) references terms)
 unfolding takeTerm termFault
 takes-term words legal references terms =
-    takes (line-narrow (writes-term words legal)
+    line→takes (line-narrow (writes-term words legal)
     (λ l. worse (unless (inRange references (length terms) (termSaid words l)) range) (unless (operandsFit terms (termSaid words l)) operand))
     (λ t. T (inRange references (length terms) t) × T (operandsFit terms t))
     (λ l. fine-tests (inRange references (length terms) (termSaid words l)) (operandsFit terms (termSaid words l)) range operand))
@@ -59,7 +64,7 @@ takes-term words legal references terms =
 
 takes-order : (words : List Text) → LegalWords words → Takes (takeOrder words) itself (λ o. ascii "order=" ++ orderText words o) (LegalOrder (length words))
 unfolding takeOrder
-takes-order words legal = takes (writes-order words legal) itself (takeOrder words) (λ l. refl)
+takes-order words legal = line→takes (writes-order words legal) itself (takeOrder words) (λ l. refl)
 
 -- The whole.
 pub record Accepted (d : Description) (o : Order) (t : Text) : Type 0 where
@@ -111,13 +116,17 @@ whole← d o legal good =
     let equationNumber = legal .equationCount in
     let termNumber = legal .termsCount in
     let below = legal .root in
+    let e = equations d in
+    let t = D.termCount d in
+    let legalTerms = legal-terms d (omega arith) [] (d .terms) refl (omega arith) .1 (legal .terms) in
+    let legalBodies = legal-bodies t (omega arith) [] (d .bodies) .1 (legal .bodies) in
     walk← _ (one-line← (takes-number (ascii "names=") tt nameCount form) 1 (names d) _ (omega arith, within 1 12 (names d) .1 nameNumber)) (λ l₁.
     walk← _ (lines← takes-name (d .words) [] l₁ _ (legal-words (d .words) .1 good)) (λ l₂.
-    walk← _ (one-line← (takes-number (ascii "equations=") tt equationCount form) l₂ (equations d) _ (omega arith, le→leb (equations d) 16 equationNumber)) (λ l₃.
-    walk← _ (one-line← (takes-number (ascii "terms=") tt termCount form) l₃ (D.termCount d) _ (omega arith, within 1 96 (D.termCount d) .1 termNumber)) (λ l₄.
-    walk← _ (lines← (takes-term (d .words) good (equations d)) (d .terms) [] l₄ _ (legal-terms d (omega arith) [] (d .terms) refl (omega arith) .1 (legal .terms))) (λ l₅.
-    walk← _ (lines← (takes-body (D.termCount d)) (d .bodies) [] l₅ _ (legal-bodies (D.termCount d) (omega arith) [] (d .bodies) .1 (legal .bodies))) (λ l₆.
-    walk← _ (one-line← (takes-number (ascii "root=") tt (λ r. ltb r (D.termCount d)) range) l₆ (d .root) _ (omega arith, lt→ltb (d .root) (D.termCount d) below)) (λ l₇.
+    walk← _ (one-line← (takes-number (ascii "equations=") tt equationCount form) l₂ e _ (omega arith, le→leb e 16 equationNumber)) (λ l₃.
+    walk← _ (one-line← (takes-number (ascii "terms=") tt termCount form) l₃ t _ (omega arith, within 1 96 t .1 termNumber)) (λ l₄.
+    walk← _ (lines← (takes-term (d .words) good e) (d .terms) [] l₄ _ legalTerms) (λ l₅.
+    walk← _ (lines← (takes-body t) (d .bodies) [] l₅ _ legalBodies) (λ l₆.
+    walk← _ (one-line← (takes-number (ascii "root=") tt (λ r. ltb r t) range) l₆ (d .root) _ (omega arith, lt→ltb (d .root) t below)) (λ l₇.
     walk← _ (one-line← (takes-order (d .words) good) l₇ o [] (legal .order)) (λ l₈. record { number = l₈; there = refl }))))))))
 
 -- The text as it is read: not too long, and nothing behind its last line.
@@ -127,7 +136,10 @@ bad≢read e = let z : _≡_ {A = ℕ} 0 1 = cc in omega arith
 overlong≢read : {d : Description} {o : Order} → overlong ≡ read d o → ⊥
 overlong≢read e = let z : _≡_ {A = ℕ} 0 1 = cc in omega arith
 
-all-read→ : {d : Description} {o : Order} {t : Text} (m : Walk Whole) → Ends m (λ w r. r ≡ [] → Accepted (w .given) (w .order) t) → allRead (λ w. read (w .given) (w .order)) m ≡ read d o → Accepted d o t
+all-read→ : {d : Description} {o : Order} {t : Text} (m : Walk Whole)
+    → Ends m (λ w r. r ≡ [] → Accepted (w .given) (w .order) t)
+    → allRead (λ w. read (w .given) (w .order)) m ≡ read d o
+    → Accepted d o t
 all-read→ {t} (reached w n []) h e =
     let k = h .holds w [] (record { number = n; there = refl }) refl in
     subst₂ (λ d o. Accepted d o t) (cc) (cc) k
@@ -150,7 +162,7 @@ pub written→ : (d : Description) (o : Order) → Legal d o → LegalWords (d .
 unfolding readText
 written→ d o legal good short =
     let fits = not-T (ltb 8192 (length (written d o))) (λ h. let long = ltb→lt 8192 (length (written d o)) h in omega arith) in
-    rw (fails (ltb 8192 (length (written d o))) fits, readText) (ap (allRead (λ w. read (w .given) (w .order))) (whole← d o legal good .there))
+    rw (T-not→false (ltb 8192 (length (written d o))) fits, readText) (ap (allRead (λ w. read (w .given) (w .order))) (whole← d o legal good .there))
 
 -- Both in one.
 pub accepted : (t : Text) (d : Description) (o : Order)

@@ -21,8 +21,8 @@ use Rattle.grammar.specs.Marks.{digits, decimal}
 use Rattle.grammar.specs.Writing.{nameText, inName, NameForm, Distinct, LegalWords}
 use Rattle.grammar.proofs.Decimal.{decimal-digit, decimal-two}
 use Rattle.grammar.proofs.Findings.{IsFine, fine-unless}
-use Rattle.grammar.proofs.Onwards.{passes, fails, same→, same-refl, When, when-past, when-stuck, when-branch, onward→, onward←}
-use Rattle.grammar.proofs.Writes.{neither, Stops, Inline, Writes, writes-as}
+use Rattle.grammar.proofs.Onwards.{T→true, T-not→false, same→, same-refl, When, when-past, when-stuck, when-branch, onward→, onward←}
+use Rattle.grammar.proofs.Writes.{not-or→, Stops, Inline, Writes, writes-as}
 
 abbrev pub faultless : {A : Type 0} → A → Found
 faultless a = fine
@@ -86,13 +86,13 @@ first-digit : (n : ℕ) (s : Text) → 1 ≤ n → n < 10 → number (digitOf n 
 unfolding number
 first-digit n s h k =
     let e : digitOf n - 48 ≡ n = omega arith in
-    rw (passes (isDigit (digitOf n)) (digit← (digitOf n) (omega arith) (omega arith)), number)
-    (rw (fails (eqb (digitOf n) 48) (not-eqb (digitOf n) 48 (λ e. absurd (omega arith)))) (ap (λ m. secondDigit m s) e))
+    rw (T→true (isDigit (digitOf n)) (digit← (digitOf n) (omega arith) (omega arith)), number)
+    (rw (T-not→false (eqb (digitOf n) 48) (not-eqb (digitOf n) 48 (λ e. absurd (omega arith)))) (ap (λ m. secondDigit m s) e))
 
 no-second : (n : ℕ) (r : Text) → Stops inName r → secondDigit n r ≡ past n r
 unfolding secondDigit
 no-second n [] h = refl
-no-second n (b ∷ r) h = rw (fails (isDigit b) (neither (isLower b) (isDigit b) h .1), secondDigit)
+no-second n (b ∷ r) h = rw (T-not→false (isDigit b) (not-or→ (isLower b) (isDigit b) h .1), secondDigit)
 
 number-reads : (n : ℕ) → Small n → (r : Text) → Stops inName r → number (decimal n ++ r) ≡ past n r
 unfolding number digits isDigit secondDigit
@@ -106,9 +106,10 @@ number-reads (suc m) h r k =
           let last : digitOf (n % 10) - 48 ≡ n % 10 = omega arith in
           let digit = digit← (digitOf (n % 10)) (omega arith) (omega arith) in
           let second : secondDigit (n / 10) (digitOf (n % 10) ∷ r) ≡ past (10 * (n / 10) + n % 10) r =
-          rw (passes (isDigit (digitOf (n % 10))) digit, secondDigit) (ap (λ l. past (10 * (n / 10) + l) r) last) in
+          rw (T→true (isDigit (digitOf (n % 10))) digit, secondDigit) (ap (λ l. past (10 * (n / 10) + l) r) last) in
+          let first = first-digit (n / 10) (digitOf (n % 10) ∷ r) (omega arith) (omega arith) in
           subst (λ x. number (decimal x ++ r) ≡ past x r) (sym e)
-          (rw (decimal-two (n / 10) (n % 10) (omega arith) (omega arith) (omega arith)) (first-digit (n / 10) (digitOf (n % 10) ∷ r) (omega arith) (omega arith) ∙ second))
+          (rw (decimal-two (n / 10) (n % 10) (omega arith) (omega arith) (omega arith)) (first ∙ second))
     ]
 
 digit-inline : (n : ℕ) → T (not (eqb (digitOf n) lf))
@@ -156,14 +157,14 @@ unfolding wordOn
 wordOn-reads zero [] n h r k = refl
 wordOn-reads zero (c ∷ w) n h r k = absurd (omega arith)
 wordOn-reads (suc more) [] n h [] k = refl
-wordOn-reads (suc more) [] n h (b ∷ r) k = rw (fails (inName b) k, wordOn)
+wordOn-reads (suc more) [] n h (b ∷ r) k = rw (T-not→false (inName b) k, wordOn)
 wordOn-reads (suc more) (c ∷ w) n h r k =
-    rw (passes (inName c) (h .0), wordOn) (onward← (λ u q. past (c ∷ u) q) (wordOn-reads more w (omega arith) (h .1) r k))
+    rw (T→true (inName c) (h .0), wordOn) (onward← (λ u q. past (c ∷ u) q) (wordOn-reads more w (omega arith) (h .1) r k))
 
 word-reads : (w : Text) → NameForm w → (r : Text) → Stops inName r → word (w ++ r) ≡ past w r
 unfolding word
 word-reads [] h r k = absurd h
-word-reads (b ∷ w) h r k = rw (passes (isLower b) (h .0), word) (onward← (λ u q. past (b ∷ u) q) (wordOn-reads 7 w (h .1) (h .2) r k))
+word-reads (b ∷ w) h r k = rw (T→true (isLower b) (h .0), word) (onward← (λ u q. past (b ∷ u) q) (wordOn-reads 7 w (h .1) (h .2) r k))
 
 letter-inline : (b : ℕ) → T (inName b) → T (not (eqb b lf))
 letter-inline b h =
@@ -201,11 +202,11 @@ name-in (v ∷ words) (suc n) h = inr (name-in words n (omega arith))
 -- a word is the first or is looked for among the others
 number-first : (v : Text) (words : List Text) (w : Text) → v ≡ w → nameNumber (v ∷ words) w ≡ 0
 unfolding nameNumber
-number-first v words w e = rw (passes (sameText v w) (subst (λ u. T (sameText v u)) e (same-refl v)), nameNumber)
+number-first v words w e = rw (T→true (sameText v w) (subst (λ u. T (sameText v u)) e (same-refl v)), nameNumber)
 
 number-later : (v : Text) (words : List Text) (w : Text) → (v ≡ w → ⊥) → nameNumber (v ∷ words) w ≡ suc (nameNumber words w)
 unfolding nameNumber
-number-later v words w f = rw (fails (sameText v w) (not-T (sameText v w) (λ t. f (same→ v w t))), nameNumber)
+number-later v words w f = rw (T-not→false (sameText v w) (not-T (sameText v w) (λ t. f (same→ v w t))), nameNumber)
 
 same-or-not : (v w : Text) → (v ≡ w) ⊎ (v ≡ w → ⊥)
 same-or-not v w = elim (decided-by (sameText v w)) [ inl t ↦ inl (same→ v w t) | inr f ↦ inr (λ e. f (subst (λ u. T (sameText v u)) e (same-refl v))) ]

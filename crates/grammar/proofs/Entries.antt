@@ -1,6 +1,6 @@
 -- A label and its entries: ascending entries give a label that has just these entries, and a label's entries give it back.
 -- Assumes nothing.
-use mathlib.Core.Path.{_≡_, refl, sym, ap, ap₂, subst, _∙_}
+use mathlib.Core.Path.{_≡_, refl, sym, ap, ap₂, subst, _∙_, _≡⟨_⟩_, _∎}
 use mathlib.Core.Logic.{_⊎_, inl, inr}
 use mathlib.Core.Bool.{true, false}
 use mathlib.Core.List.{List, [], _∷_, map}
@@ -20,7 +20,7 @@ use Rattle.grammar.specs.Forms.{dot}
 use Rattle.grammar.specs.Marks.{joined, partText, partTexts, labelText}
 use Rattle.grammar.specs.Writing.{nameText}
 use Rattle.grammar.proofs.Marks.{partTexts-some}
-use Rattle.grammar.proofs.Onwards.{passes, fails}
+use Rattle.grammar.proofs.Onwards.{T→true, T-not→false}
 use Rattle.grammar.proofs.Writes.{each-weaken}
 
 -- A label's entries: the names that occur, from name n on, with their counts.
@@ -54,11 +54,11 @@ held (e ∷ es) i = occurs e i + held es i
 
 occurs-same : (e : Entry) (i : ℕ) → e .name ≡ i → occurs e i ≡ e .times
 unfolding occurs
-occurs-same e i p = rw (passes (eqb (e .name) i) (subst (λ k. T (eqb (e .name) k)) p (eqb-refl (e .name))), occurs)
+occurs-same e i p = rw (T→true (eqb (e .name) i) (subst (λ k. T (eqb (e .name) k)) p (eqb-refl (e .name))), occurs)
 
 occurs-other : (e : Entry) (i : ℕ) → (e .name ≡ i → ⊥) → occurs e i ≡ 0
 unfolding occurs
-occurs-other e i f = rw (fails (eqb (e .name) i) (not-T (eqb (e .name) i) (λ t. f (eqb→eq (e .name) i t))), occurs)
+occurs-other e i f = rw (T-not→false (eqb (e .name) i) (not-T (eqb (e .name) i) (λ t. f (eqb→eq (e .name) i t))), occurs)
 
 same-number : (m n : ℕ) → (m ≡ n) ⊎ (m ≡ n → ⊥)
 same-number m n = elim (decided-by (eqb m n)) [ inl t ↦ inl (eqb→eq m n t) | inr f ↦ inr (λ e. f (subst (λ k. T (eqb m k)) e (eqb-refl m))) ]
@@ -79,7 +79,8 @@ occurs-none n i = elim (eqb n i) as (λ t. _≡_ {A = ℕ} (elim t as (λ _. ℕ
 count-several : (names n times i : ℕ) → n < names → count (several names n times) i ≡ occurs (record { name = n; times = times }) i
 count-several zero n times i h = absurd (omega arith)
 count-several (suc names) zero times zero h = sym (occurs-same (record { name = 0; times = times }) 0 refl)
-count-several (suc names) zero times (suc i) h = count-empty names i ∙ sym (occurs-other (record { name = 0; times = times }) (suc i) (λ e. absurd (omega arith)))
+count-several (suc names) zero times (suc i) h =
+    count-empty names i ∙ sym (occurs-other (record { name = 0; times = times }) (suc i) (λ e. absurd (omega arith)))
 count-several (suc names) (suc n) times zero h = sym (occurs-other (record { name = suc n; times = times }) 0 (λ e. absurd (omega arith)))
 count-several (suc names) (suc n) times (suc i) h = count-several names n times i (omega arith) ∙ occurs-suc n times i
 
@@ -90,7 +91,8 @@ count-added : (names : ℕ) (es : List Entry) (i : ℕ) → Below names es → c
 unfolding added held
 count-added names [] i h = count-empty names i
 count-added names (e ∷ es) i h =
-    count-plus (several names (e .name) (e .times)) (added names es) i ∙ ap₂ _+_ (count-several names (e .name) (e .times) i (h .0)) (count-added names es i (h .1))
+    count-plus (several names (e .name) (e .times)) (added names es) i
+    ∙ ap₂ _+_ (count-several names (e .name) (e .times) i (h .0)) (count-added names es i (h .1))
 
 length-added : (names : ℕ) (es : List Entry) → length (added names es) ≡ names
 unfolding added
@@ -149,7 +151,10 @@ held-at (x ∷ a) n zero j h =
     held-entries n x a j ∙ omega arith
 held-at (x ∷ a) n (suc i) j h =
     let p = occurs-other (record { name = n; times = x }) j (λ e. absurd (omega arith)) in
-    held-entries n x a j ∙ ap₂ _+_ p (held-at a (suc n) i j (omega arith)) ∙ zero-add (count a i)
+    held (entriesFrom n (x ∷ a)) j
+    ≡⟨ held-entries n x a j ⟩ occurs (record { name = n; times = x }) j + held (entriesFrom (suc n) a) j
+    ≡⟨ ap₂ _+_ p (held-at a (suc n) i j (omega arith)) ⟩ 0 + count a i
+    ≡⟨ zero-add (count a i) ⟩ count a i ∎
 
 -- names from n on and below m, counts from 1 to k
 abbrev Between : ℕ → ℕ → ℕ → Entry → Type 0
@@ -159,12 +164,12 @@ between-entries : (a : Label) (n m k : ℕ) → n + length a ≤ m → size a �
 unfolding entriesFrom size
 between-entries [] n m k h l = tt
 between-entries (zero ∷ a) n m k h l =
-    each-weaken (Between (suc n) m k) (Between n m k) (entriesFrom (suc n) a) (λ e b. omega arith) (between-entries a (suc n) m k (omega arith) (omega arith))
+    let later = between-entries a (suc n) m k (omega arith) (omega arith) in
+    each-weaken (Between (suc n) m k) (Between n m k) (entriesFrom (suc n) a) (λ e b. omega arith) later
 between-entries (suc x ∷ a) n m k h l =
-    rw (entries-some n x a) (
-      omega arith,
-      each-weaken (Between (suc n) m k) (Between n m k) (entriesFrom (suc n) a) (λ e b. omega arith) (between-entries a (suc n) m k (omega arith) (omega arith)),
-    )
+    let later = between-entries a (suc n) m k (omega arith) (omega arith) in
+    rw (entries-some n x a)
+    (omega arith, each-weaken (Between (suc n) m k) (Between n m k) (entriesFrom (suc n) a) (λ e b. omega arith) later)
 
 total-entries : (a : Label) (n : ℕ) → total (entriesFrom n a) ≡ size a
 unfolding entriesFrom size total
@@ -207,7 +212,11 @@ onwards : (n m k : ℕ) (es : List Entry) → Each (Between n m k) es → Each (
 onwards n m k [] b h = tt
 onwards n m k (e ∷ es) b h = (omega (arith, b .0, h .0), onwards n m k es (b .1) (h .1))
 
-entries-unique : (a : Label) (n m k : ℕ) (es : List Entry) → m ≡ n + length a → ((i j : ℕ) → j ≡ n + i → count a i ≡ held es j) → Each (Between n m k) es → Ascends es
+entries-unique : (a : Label) (n m k : ℕ) (es : List Entry)
+    → m ≡ n + length a
+    → ((i j : ℕ) → j ≡ n + i → count a i ≡ held es j)
+    → Each (Between n m k) es
+    → Ascends es
     → entriesFrom n a ≡ es
 unfolding entriesFrom held
 entries-unique [] n m k [] l h b r = refl
@@ -258,9 +267,10 @@ added-legal names es h =
     let below : Below names es = each-weaken (LegalEntry names) (λ e. e .name < names) es (λ e k. k .0) (h .1) in
     let s = size-added names es below in
     let t = some-actions names es (h .0) (h .1) in
-    let between = each-weaken (LegalEntry names) (Between 0 names 99) es (λ e k. omega arith) (h .1) in (
+    let between = each-weaken (LegalEntry names) (Between 0 names 99) es (λ e k. omega arith) (h .1) in
+    let size : names ≡ 0 + length (added names es) = let l = length-added names es in omega arith in (
       (length-added names es, omega arith, omega (arith, h .3)),
-      entries-unique (added names es) 0 names 99 es (let l = length-added names es in omega arith) (λ i j q. count-added names es i below ∙ ap (held es) (omega arith)) between (h .2),
+      entries-unique (added names es) 0 names 99 es size (λ i j q. count-added names es i below ∙ ap (held es) (omega arith)) between (h .2),
     )
 
 pub entries-legal : (names : ℕ) (a : Label) → LegalLabel names a → LegalEntries names (entriesFrom 0 a) × (added names (entriesFrom 0 a) ≡ a)
@@ -268,7 +278,8 @@ entries-legal names a h =
     let es = entriesFrom 0 a in
     let t = total-entries a 0 in
     let between = between-entries a 0 names 31 (omega (arith, h .0)) (h .2) in
-    let below : Below names es = each-weaken (Between 0 names 31) (λ e. e .name < names) es (λ e k. k .1) between in (
-      (some-entries es (omega (arith, h .1)), each-weaken (Between 0 names 31) (LegalEntry names) es (λ e k. omega arith) between, ascends-entries a 0, omega (arith, h .2)),
+    let below : Below names es = each-weaken (Between 0 names 31) (λ e. e .name < names) es (λ e k. k .1) between in
+    let entries = each-weaken (Between 0 names 31) (LegalEntry names) es (λ e k. omega arith) between in (
+      (some-entries es (omega (arith, h .1)), entries, ascends-entries a 0, omega (arith, h .2)),
       ext-getD 0 (added names es) a (length-added names es ∙ sym (h .0)) (λ i _. count-added names es i below ∙ held-at a 0 i i (omega arith)),
     )

@@ -10,7 +10,8 @@ use lib.Dec.{T, ltb, ltb→lt, lt→ltb, not-T, T-not}
 use lib.ListN.{length, getD, length-append, List·getD-append}
 use Rattle.meaning.specs.Bytes.{Text, ascii}
 use Rattle.meaning.specs.Sets.{_∈_}
-use Rattle.meaning.specs.Descriptions.{Term, act, tau, delta, ref, sum, cond, choice, ifelse, seq, merge, lmerge, sync, wrap, Description, names, equations, termCount, termAt}
+use Rattle.meaning.specs.Descriptions.{Term, act, tau, delta, ref, sum, cond, choice, ifelse, seq, merge, lmerge}
+use Rattle.meaning.specs.Descriptions.{sync, wrap, Description, names, equations, termCount, termAt}
 use Rattle.meaning.specs.Legal.{Each, isMultiAction, MultiAction, LegalTwo, LegalTerm, LegalTerms}
 use Rattle.meaning.proofs.Tests.{and-left, and-right, and-both}
 use Rattle.meaning.proofs.Members.{in-append}
@@ -42,7 +43,10 @@ unknown-says before w =
 
 four-tests : (a b c d : Bool) → T (a && b && c && d) ↔ (T a × T b × T c × T d)
 four-tests a b c d = (
-  λ h. let p = and-left (a && b && c) d h in let q = and-left (a && b) c p in (and-left a b q, and-right a b q, and-right (a && b) c p, and-right (a && b && c) d h),
+  λ h.
+      let p = and-left (a && b && c) d h in
+      let q = and-left (a && b) c p in
+      (and-left a b q, and-right a b q, and-right (a && b) c p, and-right (a && b && c) d h),
   λ h. and-both (a && b && c) d (and-both (a && b) c (and-both a b (h .0) (h .1)) (h .2)) (h .3),
 )
 
@@ -50,11 +54,13 @@ free-says : (before : List Text) (w : Text) → T (isFree before w) ↔ ((w ∈ 
 unfolding isFree
 free-says before w =
     let new = not (ltb (nameNumber before w) (length before)) in
-    let tests = four-tests new (not (sameText w (ascii "tau"))) (not (sameText w (ascii "none"))) (not (sameText w (ascii "all"))) in (
-      λ h. let k = tests .0 h in
-          (unknown-says before w .0 (k .0), (other-text w (ascii "tau") .0 (k .1), other-text w (ascii "none") .0 (k .2), other-text w (ascii "all") .0 (k .3))),
-      λ h. tests .1
-          (unknown-says before w .1 (h .0), other-text w (ascii "tau") .1 (h .1 .0), other-text w (ascii "none") .1 (h .1 .1), other-text w (ascii "all") .1 (h .1 .2)),
+    let tests = four-tests new (not (sameText w (ascii "tau"))) (not (sameText w (ascii "none"))) (not (sameText w (ascii "all"))) in
+    let isNew = unknown-says before w in
+    let noTau = other-text w (ascii "tau") in
+    let noNone = other-text w (ascii "none") in
+    let noAll = other-text w (ascii "all") in (
+      λ h. let k = tests .0 h in (isNew .0 (k .0), (noTau .0 (k .1), noNone .0 (k .2), noAll .0 (k .3))),
+      λ h. tests .1 (isNew .1 (h .0), noTau .1 (h .1 .0), noNone .1 (h .1 .1), noAll .1 (h .1 .2)),
     )
 
 words→ : (before ws : List Text) → LegalAfter NewWord before ws
@@ -119,7 +125,8 @@ module _ (d : Description) (few : equations d ≤ 100) where
   multi-at : (before more : List Term) → d .terms ≡ before ++ more → (t : ℕ) → t < length before → MultiAction (getD before t delta) ↔ MultiAction (termAt d t)
   multi-at before more e t h = rw (e, List·getD-append before more delta t h) Iff·rfl
 
-  term-legal : (before more : List Term) → d .terms ≡ before ++ more → length before ≤ 100 → (t : Term) → NewTerm (names d) (equations d) before t ↔ LegalTerm d (length before) t
+  term-legal : (before more : List Term) → d .terms ≡ before ++ more → length before ≤ 100
+      → (t : Term) → NewTerm (names d) (equations d) before t ↔ LegalTerm d (length before) t
   term-legal before more e n (act a) = (λ h. h .0, λ h. (h, (tt, tt)))
   term-legal before more e n tau = (λ h. tt, λ h. (tt, (tt, tt)))
   term-legal before more e n delta = (λ h. tt, λ h. (tt, (tt, tt)))
@@ -144,7 +151,8 @@ module _ (d : Description) (few : equations d ≤ 100) where
       let below = one-below (length before) t n in
       (λ h. (below .0 (h .0 .0, h .1 .0), h .0 .1), λ h. let b = below .1 (h .0) in ((b .0, h .1), (b .1, tt)))
 
-  pub legal-terms : (before ts : List Term) → d .terms ≡ before ++ ts → termCount d ≤ 100 → LegalAfter (NewTerm (names d) (equations d)) before ts ↔ LegalTerms d (length before) ts
+  pub legal-terms : (before ts : List Term) → d .terms ≡ before ++ ts → termCount d ≤ 100
+      → LegalAfter (NewTerm (names d) (equations d)) before ts ↔ LegalTerms d (length before) ts
   legal-terms before [] e n = Iff·rfl
   legal-terms before (t ∷ ts) e n =
       let next = before ++ (t ∷ []) in

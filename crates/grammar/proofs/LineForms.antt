@@ -1,6 +1,6 @@
 -- Lines and their writings: a form that is the whole of a line, or of what follows a word in it.
 -- Assumes nothing.
-use mathlib.Core.Path.{_≡_, sym, ap, subst, _∙_}
+use mathlib.Core.Path.{_≡_, sym, ap, subst, _∙_, _≡⟨_⟩_, _∎}
 use mathlib.Core.Logic.{_↔_}
 use mathlib.Core.Bool.{Bool}
 use mathlib.Core.List.{[], _++_, append-nil}
@@ -26,7 +26,8 @@ pub record Made {Y Z : Type 0} (build : Y → Z) (text : Y → Text) (Legal : Y 
   pub writes : s ≡ text source
   pub legal : Legal source
 
-pub record WritesLine {X Y Z : Type 0} (form : Text → Past X) (says : X → Z) (fault : X → Found) (build : Y → Z) (text : Y → Text) (Legal : Y → Type 0) : Type 0 where
+pub record WritesLine {X Y Z : Type 0} (form : Text → Past X) (says : X → Z) (fault : X → Found)
+    (build : Y → Z) (text : Y → Text) (Legal : Y → Type 0) : Type 0 where
   pub sound : (s : Text) → When (form s) (λ x r. IsFine (fault x) → Made build text Legal (says x) s)
   pub complete : (y : Y) → Legal y → ReadsLine form says fault build text y
   pub inline : (y : Y) → Legal y → Inline (text y)
@@ -40,7 +41,8 @@ pub line-ended : {X Y W Z : Type 0} {form : Text → Past X} {says : X → Y} {f
 line-ended {form} {says} {text} w make says′ fault′ build same faults = record {
   sound = λ s. onward→ (w .sound s) (λ x r h. onward→ (ended→ r) (λ _ q e. when-past (λ f.
       let k = h (faults x .0 f) in
-      record { source = says x; builds = same x; writes = k .0 ∙ ap (λ t. text (says x) ++ t) (e .0) ∙ append-nil (text (says x)); legal = k .1 })));
+      let whole = k .0 ∙ ap (λ t. text (says x) ++ t) (e .0) ∙ append-nil (text (says x)) in
+      record { source = says x; builds = same x; writes = whole; legal = k .1 })));
   complete = λ y l.
       let c = w .complete y l in
       record {
@@ -56,7 +58,8 @@ line-ended {form} {says} {text} w make says′ fault′ build same faults = reco
 pub line-first : {A X Y Z : Type 0} {form : Text → Past A} {text₁ : A → Text} {Legal₁ : A → Type 0} {goes : ℕ → Bool}
     {rest : A → Text → Past X} {says : X → Z} {fault : X → Found} {build : A → Y → Z} {text : Y → Text} {Legal : Y → Type 0}
     → Writes form (λ a. a) (λ a. fine) text₁ Legal₁ goes → ((a : A) → WritesLine (rest a) says fault (build a) text Legal) → ((y : Y) → Stops goes (text y))
-    → WritesLine (λ s. onward (form s) rest) says fault (λ (p : A × Y). build (p .0) (p .1)) (λ (p : A × Y). text₁ (p .0) ++ text (p .1)) (λ (p : A × Y). Legal₁ (p .0) × Legal (p .1))
+    → WritesLine (λ s. onward (form s) rest) says fault
+    (λ (p : A × Y). build (p .0) (p .1)) (λ (p : A × Y). text₁ (p .0) ++ text (p .1)) (λ (p : A × Y). Legal₁ (p .0) × Legal (p .1))
 line-first {form} {text₁} {rest} {build} {text} w v stops = record {
   sound = λ s. onward→ (w .sound s) (λ a r h. when-weaken (v a .sound r) (λ x q i f.
       let k = i f in
@@ -68,14 +71,18 @@ line-first {form} {text₁} {rest} {build} {text} w v stops = record {
         value = d .value;
         faultless = d .faultless;
         said = d .said;
-        reads = onward← _ (c .reads (text (p .1)) (stops (p .1))) ∙ ap (λ a. rest a (text (p .1))) (c .said) ∙ d .reads;
+        reads = onward (form (text₁ (p .0) ++ text (p .1))) rest
+            ≡⟨ onward← _ (c .reads (text (p .1)) (stops (p .1))) ⟩ rest (c .value) (text (p .1))
+            ≡⟨ ap (λ a. rest a (text (p .1))) (c .said) ⟩ rest (p .0) (text (p .1))
+            ≡⟨ d .reads ⟩ past (d .value) [] ∎;
       };
   inline = λ p l. inline-append (text₁ (p .0)) (text (p .1)) (w .inline (p .0) (l .0)) (v (p .0) .inline (p .1) (l .1));
 }
 
 module _ {X Y Z : Type 0} {form : Text → Past X} {says : X → Z} {fault : X → Found} {build : Y → Z} {text : Y → Text} {Legal : Y → Type 0} where
   -- A line behind a word that must stand there.
-  pub line-after : (key : Text) → T (inline? key) → WritesLine form says fault build text Legal → WritesLine (λ s. onward (literal key s) (λ _ r. form r)) says fault build (λ y. key ++ text y) Legal
+  pub line-after : (key : Text) → T (inline? key) → WritesLine form says fault build text Legal
+      → WritesLine (λ s. onward (literal key s) (λ _ r. form r)) says fault build (λ y. key ++ text y) Legal
   line-after key tested w = record {
     sound = λ s. onward→ (literal→ key s) (λ _ r e. when-weaken (w .sound r) (λ x q h f.
         let k = h f in

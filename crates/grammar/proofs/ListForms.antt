@@ -19,14 +19,16 @@ use Rattle.meaning.proofs.Tests.{and-left, and-right, and-both}
 use Rattle.meaning.proofs.Bags.{size-plus, size-empty}
 use Rattle.grammar.specs.Text.{past, sameText, isDigit, isLower, literal, number, word, wordOn, separatedOn, separated}
 use Rattle.grammar.specs.Forms.{Part, Parts, comma, dot, colon, greater, part, label, wordList, pair, rule, labelList}
-use Rattle.grammar.specs.Faults.{worse, unless, worst, above, rising, nameNumber, nameFault, labelSaid, actions, partFault, labelFault, wordsFault, pairFault, pairsFault, ruleFault, rulesFault, labelsFault, pairSaid, ruleSaid, numberSaid}
+use Rattle.grammar.specs.Faults.{worse, unless, worst, above, rising, nameNumber, nameFault, labelSaid, actions, partFault, labelFault, wordsFault}
+use Rattle.grammar.specs.Faults.{pairFault, pairsFault, ruleFault, rulesFault, labelsFault, pairSaid, ruleSaid, numberSaid}
 use Rattle.grammar.specs.Marks.{decimal, joined, labelText}
 use Rattle.grammar.specs.Writing.{nameText, pairText, ruleText, listText, labelsText, inName, LegalWords}
 use Rattle.grammar.proofs.Findings.{IsFine, fine-worse, fine-unless}
-use Rattle.grammar.proofs.Onwards.{same→, differs, when-past, when-weaken, when-branch}
+use Rattle.grammar.proofs.Onwards.{same→, sameText-differs, when-past, when-weaken, when-branch}
 use Rattle.grammar.proofs.Writes.{each-weaken, inline-tested, Reads, Writes, writes-as, writes-narrow, writes-pair, writes-several}
 use Rattle.grammar.proofs.Atoms.{known-says, itself, faultless, Small, writes-number, writes-name}
-use Rattle.grammar.proofs.Entries.{Entry, entriesFrom, entryText, label-entries, added, total, size-known, LegalEntry, LegalEntries, added-legal, entries-legal}
+use Rattle.grammar.proofs.Entries.{Entry, entriesFrom, entryText, label-entries, added, total, size-known}
+use Rattle.grammar.proofs.Entries.{LegalEntry, LegalEntries, added-legal, entries-legal}
 
 -- Lists in order and within their maximum.
 rising-says : (ns : List ℕ) → T (rising ns) ↔ Rising ns
@@ -55,7 +57,8 @@ map-map f g [] = refl
 map-map {C} f g (x ∷ xs) = ap {B = List C} (λ ys. f (g x) ∷ ys) (map-map f g xs)
 
 -- entries in the order of a key
-fine-keys : {X Y : Type 0} (says : X → Y) (key : Y → ℕ) (xs : List X) → IsFine (unless (rising (map (λ x. key (says x)) xs)) amount) ↔ Rising (map key (map says xs))
+fine-keys : {X Y : Type 0} (says : X → Y) (key : Y → ℕ) (xs : List X)
+    → IsFine (unless (rising (map (λ x. key (says x)) xs)) amount) ↔ Rising (map key (map says xs))
 fine-keys says key xs = rw (map-map key says xs) (fine-rising (map (λ x. key (says x)) xs))
 
 -- and at most so many
@@ -80,7 +83,8 @@ module _ (words : List Text) (legal : LegalWords words) where
   writes-part : Writes part (partSaid words) (partFault words) (entryText words) (LegalEntry (length words)) inName
   unfolding part isLower isDigit
   writes-part =
-      writes-pair (writes-name words legal) writes-count colon tt tt (λ w n. record { name = w; times = n }) (λ e. e .name) (λ e. e .times) (partSaid words) (partFault words)
+      writes-pair (writes-name words legal) writes-count colon tt tt
+      (λ w n. record { name = w; times = n }) (λ e. e .name) (λ e. e .times) (partSaid words) (partFault words)
       (λ w n. refl) (λ w n. refl) (λ y z p q. ap₂ (λ m n. record { name = m; times = n }) p q)
       (λ w n. fine-worse (nameFault words w) (unless (leb 1 n) amount))
 
@@ -149,7 +153,8 @@ module _ (words : List Text) (legal : LegalWords words) where
   writes-one-pair : Writes pair (pairSaid words) (pairFault words) (pairText words) (LegalPair (length words)) inName
   unfolding pair isLower isDigit
   writes-one-pair =
-      writes-pair (writes-name words legal) (writes-name words legal) greater tt tt (λ a b. record { left = a; right = b }) (λ p. p .left) (λ p. p .right) (pairSaid words) (pairFault words)
+      writes-pair (writes-name words legal) (writes-name words legal) greater tt tt
+      (λ a b. record { left = a; right = b }) (λ p. p .left) (λ p. p .right) (pairSaid words) (pairFault words)
       (λ a b. refl) (λ a b. refl) (λ y z p q. ap₂ (λ m n. record { left = m; right = n }) p q) (λ a b. fine-worse (nameFault words a) (nameFault words b))
 
   abbrev OneRule : Rule → Type 0
@@ -158,7 +163,8 @@ module _ (words : List Text) (legal : LegalWords words) where
   writes-one-rule : Writes rule (ruleSaid words) (ruleFault words) (ruleText words) OneRule inName
   unfolding rule isLower isDigit
   writes-one-rule =
-      writes-pair writes-left (writes-name words legal) greater tt tt (λ a b. record { left = a; right = b }) (λ r. r .left) (λ r. r .right) (ruleSaid words) (ruleFault words)
+      writes-pair writes-left (writes-name words legal) greater tt tt
+      (λ a b. record { left = a; right = b }) (λ r. r .left) (λ r. r .right) (ruleSaid words) (ruleFault words)
       (λ a b. refl) (λ a b. refl) (λ y z p q. ap₂ (λ m n. record { left = m; right = n }) p q)
       (λ ps b. fine-worse (worse (labelFault words ps) (unless (leb 2 (actions ps)) amount)) (nameFault words b))
 
@@ -169,7 +175,8 @@ module _ (words : List Text) (legal : LegalWords words) where
   pub writes-names : Writes wordList (map (nameNumber words)) (wordsFault words) (listText (nameText words)) (LegalNames (length words)) inList
   unfolding wordsFault isLower isDigit
   writes-names =
-      writes-narrow (writes-several (writes-name words legal) comma tt tt) (λ ws. unless (rising (map (nameNumber words) ws)) amount) Rising (LegalNames (length words))
+      writes-narrow (writes-several (writes-name words legal) comma tt tt)
+      (λ ws. unless (rising (map (nameNumber words) ws)) amount) Rising (LegalNames (length words))
       (λ ws _. fine-rising (map (nameNumber words) ws)) (λ ns. (λ h. ((h .0, h .1), h .2), λ k. (k .0 .0, k .0 .1, k .1)))
 
   pub writes-pairs : Writes (separated comma pair) (map (pairSaid words)) (pairsFault words) (listText (pairText words)) (LegalPairs (length words)) inList
@@ -186,15 +193,21 @@ module _ (words : List Text) (legal : LegalWords words) where
       (λ rs. worse (unless (rising (map (λ r. numberSaid words (r .left)) rs)) amount) (unless (leb (length rs) 8) amount))
       (λ rs. Rising (map (λ r. L.number (r .left)) rs) × (length rs ≤ 8)) (LegalRules (length words))
       (λ rs _. fine-most (ruleSaid words) (λ r. L.number (r .left)) rs (length rs) (length (map (ruleSaid words) rs)) 8 (sym (length-map rs (ruleSaid words))))
-      (λ rs. (λ h. ((h .0, each-weaken (LegalRule (length words)) OneRule rs (λ r g. ((g .0, g .1), g .2)) (h .2)), (h .3, h .1)), λ k. (k .0 .0, k .1 .1, each-weaken OneRule (LegalRule (length words)) rs (λ r g. (g .0 .0, g .0 .1, g .1)) (k .0 .1), k .1 .0)))
+      (λ rs. (
+        λ h. ((h .0, each-weaken (LegalRule (length words)) OneRule rs (λ r g. ((g .0, g .1), g .2)) (h .2)), (h .3, h .1)),
+        λ k. (k .0 .0, k .1 .1, each-weaken OneRule (LegalRule (length words)) rs (λ r g. (g .0 .0, g .0 .1, g .1)) (k .0 .1), k .1 .0),
+      ))
 
-  writes-some-labels : Writes (separated comma label) (map (labelSaid words)) (labelsFault words) (listText (labelText words)) (λ ls. (1 ≤ length ls) × LegalLabels (length words) ls)
+  abbrev SomeLabels : List Label → Type 0
+  SomeLabels ls = (1 ≤ length ls) × LegalLabels (length words) ls
+
+  writes-some-labels : Writes (separated comma label) (map (labelSaid words)) (labelsFault words) (listText (labelText words)) SomeLabels
       (λ b. inLabel b || eqb comma b)
   unfolding labelsFault isLower isDigit
   writes-some-labels =
       writes-narrow (writes-several writes-label comma tt tt)
       (λ ls. worse (unless (rising (map (numberSaid words) ls)) amount) (unless (leb (length ls) 32) amount))
-      (λ ls. Rising (map L.number ls) × (length ls ≤ 32)) (λ ls. (1 ≤ length ls) × LegalLabels (length words) ls)
+      (λ ls. Rising (map L.number ls) × (length ls ≤ 32)) SomeLabels
       (λ ls _. fine-most (labelSaid words) L.number ls (length ls) (length (map (labelSaid words) ls)) 32 (sym (length-map ls (labelSaid words))))
       (λ ls. (λ h. ((h .0, h .1 .1), (h .1 .2, h .1 .0)), λ k. (k .0 .0, (k .1 .1, k .0 .1, k .1 .0))))
 
@@ -220,7 +233,10 @@ module _ (words : List Text) (legal : LegalWords words) where
         faultless = c .faultless;
         said = c .said;
         reads = elim [
-          | [] ↦ λ h. rw (differs (separated comma label) (labelsText words (a ∷ ls) ++ []) (ascii "none") (c .reads [] tt) (none-stuck (c .value) []), labelList) (c .reads [] tt)
+          | [] ↦ λ h.
+              let some = labelsText words (a ∷ ls) ++ [] in
+              let other = sameText-differs (separated comma label) some (ascii "none") (c .reads [] tt) (none-stuck (c .value) []) in
+              rw (other, labelList) (c .reads [] tt)
           | b ∷ r ↦ λ h. absurd h
         ];
       }
@@ -230,7 +246,9 @@ module _ (words : List Text) (legal : LegalWords words) where
   writes-labels = record {
     sound = λ s.
         when-branch (sameText s (ascii "none")) (λ t. when-past (λ f. (same→ s (ascii "none") t, (zero-le, tt, tt))))
-        (λ _. when-weaken (writes-some-labels .sound s) (λ xs r h f. let k = h f in (k .0 ∙ ap (λ t. t ++ r) (some-text (map (labelSaid words) xs) (k .1 .0)), k .1 .1)));
+        (λ _. when-weaken (writes-some-labels .sound s) (λ xs r h f.
+        let k = h f in
+        (k .0 ∙ ap (λ t. t ++ r) (some-text (map (labelSaid words) xs) (k .1 .0)), k .1 .1)));
     complete = labels-complete;
     inline = elim [ [] ↦ λ l. inline-tested (ascii "none") tt | a ∷ ls ↦ λ l. writes-some-labels .inline (a ∷ ls) (omega arith, l) ];
   }

@@ -11,13 +11,13 @@ use Rattle.meaning.proofs.Tests.{and-left, and-right, and-both}
 use Rattle.grammar.specs.Text.{Past, past, stuck, onward, sameText, ended, literal}
 
 -- Tests.
-pub passes : (b : Bool) → T b → b ≡ true
-passes true t = refl
-passes false t = absurd t
+pub T→true : (b : Bool) → T b → b ≡ true
+T→true true t = refl
+T→true false t = absurd t
 
-pub fails : (b : Bool) → T (not b) → b ≡ false
-fails true t = absurd t
-fails false t = refl
+pub T-not→false : (b : Bool) → T (not b) → b ≡ false
+T-not→false true t = absurd t
+T-not→false false t = refl
 
 pub same→ : (s t : Text) → T (sameText s t) → s ≡ t
 unfolding sameText
@@ -35,8 +35,10 @@ same-refl [] = tt
 same-refl (b ∷ s) = and-both (eqb b b) (sameText s s) (eqb-refl b) (same-refl s)
 
 -- A text that is read is none that is not read.
-pub differs : {A : Type 0} (form : Text → Past A) {a : A} {r : Text} (s t : Text) → form s ≡ past a r → (form t ≡ past a r → ⊥) → sameText s t ≡ false
-differs form {a} {r} s t e f = fails (sameText s t) (not-T (sameText s t) (λ h. f (subst (λ u. form u ≡ past a r) (same→ s t h) e)))
+pub sameText-differs : {A : Type 0} (form : Text → Past A) {a : A} {r : Text} (s t : Text)
+    → form s ≡ past a r → (form t ≡ past a r → ⊥) → sameText s t ≡ false
+sameText-differs form {a} {r} s t e f =
+    T-not→false (sameText s t) (not-T (sameText s t) (λ h. f (subst (λ u. form u ≡ past a r) (same→ s t h) e)))
 
 -- What holds of that which was read and of the text left behind it, if anything was read.
 pub record When {A : Type 0} (m : Past A) (P : A → Text → Type 0) : Type 0 where
@@ -84,4 +86,4 @@ literal→ (c ∷ w) (b ∷ s) = when-branch (eqb c b) (λ h. when-weaken (liter
 pub literal← : (w r : Text) → literal w (w ++ r) ≡ past tt r
 unfolding literal
 literal← [] r = refl
-literal← (c ∷ w) r = rw (passes (eqb c c) (eqb-refl c), literal) (literal← w r)
+literal← (c ∷ w) r = rw (T→true (eqb c c) (eqb-refl c), literal) (literal← w r)

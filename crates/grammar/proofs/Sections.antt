@@ -1,6 +1,6 @@
 -- Whole lines: one, and so many that are read alike, against their writings.
 -- Assumes nothing.
-use mathlib.Core.Path.{_≡_, refl, sym, ap, ap₂, subst, subst₂, _∙_}
+use mathlib.Core.Path.{_≡_, refl, sym, ap, ap₂, subst, subst₂, _∙_, _≡⟨_⟩_, _∎}
 use mathlib.Core.Bool.{Bool, true, false}
 use mathlib.Core.List.{List, [], _∷_, _++_, append-nil, append-assoc}
 use Prim.Native.Nat.{ℕ, zero, suc}
@@ -12,10 +12,11 @@ use Rattle.meaning.specs.Answers.{Fault}
 use Rattle.grammar.specs.Text.{Past, past, stuck}
 use Rattle.grammar.specs.Forms.{lf}
 use Rattle.grammar.specs.Faults.{Found, fine, fault, unless}
-use Rattle.grammar.specs.Reading.{Taken, taken, faulty, takenIf, takenUnless, formed, Cut, cut, noLine, withByte, firstLine, Walk, reached, halted, walk, afterLine, lineWalk, oneLine, lines}
+use Rattle.grammar.specs.Reading.{Taken, taken, faulty, takenIf, takenUnless, formed, Cut, cut, noLine, withByte}
+use Rattle.grammar.specs.Reading.{firstLine, Walk, reached, halted, walk, afterLine, lineWalk, oneLine, lines}
 use Rattle.grammar.specs.Writing.{lineBefore, eachLine}
 use Rattle.grammar.proofs.Findings.{IsFine, fine-unless}
-use Rattle.grammar.proofs.Onwards.{fails, When}
+use Rattle.grammar.proofs.Onwards.{T-not→false, When}
 use Rattle.grammar.proofs.Writes.{Inline}
 use Rattle.grammar.proofs.LineForms.{Made, WritesLine, line-narrow}
 
@@ -36,7 +37,8 @@ unless← : {B : Type 0} {a : B} (f : Found) → IsFine f → takenUnless f a �
 unless← fine h = refl
 unless← (fault x) h = absurd h
 
-formed-if : {A B : Type 0} (test : A → Bool) (f : Fault) (make : A → B) (m : Past A) → formed m (λ a. takenIf (test a) f (make a)) ≡ formed m (λ a. takenUnless (unless (test a) f) (make a))
+formed-if : {A B : Type 0} (test : A → Bool) (f : Fault) (make : A → B) (m : Past A)
+    → formed m (λ a. takenIf (test a) f (make a)) ≡ formed m (λ a. takenUnless (unless (test a) f) (make a))
 formed-if {B} test f make (past a r) = same (test a)
   where
     same : (t : Bool) → takenIf t f (make a) ≡ takenUnless (unless t f) (make a)
@@ -44,10 +46,11 @@ formed-if {B} test f make (past a r) = same (test a)
     same false = refl
 formed-if test f make (stuck r) = refl
 
-pub takes : {X Y Z B : Type 0} {form : Text → Past X} {says : X → Z} {fault : X → Found} {build : Y → Z} {text : Y → Text} {Legal : Y → Type 0}
-    → WritesLine form says fault build text Legal → (make : Z → B) (take : Text → Taken B) → ((l : Text) → take l ≡ formed (form l) (λ x. takenUnless (fault x) (make (says x))))
+pub line→takes : {X Y Z B : Type 0} {form : Text → Past X} {says : X → Z} {fault : X → Found} {build : Y → Z} {text : Y → Text} {Legal : Y → Type 0}
+    → WritesLine form says fault build text Legal → (make : Z → B) (take : Text → Taken B)
+    → ((l : Text) → take l ≡ formed (form l) (λ x. takenUnless (fault x) (make (says x))))
     → Takes take (λ y. make (build y)) text Legal
-takes {X} {B} {form} {says} {fault} {build} {text} {Legal} w make take same = record {
+line→takes {X} {B} {form} {says} {fault} {build} {text} {Legal} w make take same = record {
   sound = λ l b e. go l b (form l) (w .sound l) (sym (same l) ∙ e);
   complete = λ y l.
       let c = w .complete y l in
@@ -55,7 +58,8 @@ takes {X} {B} {form} {says} {fault} {build} {text} {Legal} w make take same = re
   inline = w .inline;
 }
   where
-    go : (l : Text) (b : B) (m : Past X) → When m (λ x r. IsFine (fault x) → Made build text Legal (says x) l) → formed m (λ x. takenUnless (fault x) (make (says x))) ≡ taken b
+    go : (l : Text) (b : B) (m : Past X) → When m (λ x r. IsFine (fault x) → Made build text Legal (says x) l)
+        → formed m (λ x. takenUnless (fault x) (make (says x))) ≡ taken b
         → Made (λ y. make (build y)) text Legal b l
     go l b (past x r) h e =
         let k = unless→ (fault x) e in
@@ -67,8 +71,8 @@ takes {X} {B} {form} {says} {fault} {build} {text} {Legal} w make take same = re
 pub takes-if : {A B : Type 0} {form : Text → Past A} {text : A → Text} {Legal : A → Type 0} → WritesLine form (λ a. a) (λ a. fine) (λ a. a) text Legal
     → (test : A → Bool) (f : Fault) (make : A → B) → Takes (λ l. formed (form l) (λ a. takenIf (test a) f (make a))) make text (λ a. Legal a × T (test a))
 takes-if {form} w test f make =
-    takes (line-narrow w (λ a. unless (test a) f) (λ a. T (test a)) (λ a. fine-unless (test a) f)) make (λ l. formed (form l) (λ a. takenIf (test a) f (make a)))
-    (λ l. formed-if test f make (form l))
+    line→takes (line-narrow w (λ a. unless (test a) f) (λ a. T (test a)) (λ a. fine-unless (test a) f)) make
+    (λ l. formed (form l) (λ a. takenIf (test a) f (make a))) (λ l. formed-if test f make (form l))
 
 -- The first line of a text.
 abbrev CutOf : Text → Cut → Type 0
@@ -91,7 +95,7 @@ first-line→ (b ∷ s) = pick (eqb b lf) (eqb→eq b lf) (first-line→ s)
 first-line← : (l r : Text) → Inline l → firstLine (lineBefore l r) ≡ cut l r
 unfolding firstLine
 first-line← [] r h = refl
-first-line← (b ∷ l) r h = rw (fails (eqb b lf) (h .0), firstLine) (ap (withByte b) (first-line← l r (h .1)))
+first-line← (b ∷ l) r h = rw (T-not→false (eqb b lf) (h .0), firstLine) (ap (withByte b) (first-line← l r (h .1)))
 
 -- A walk that came to its end, and the steps that it is made of.
 pub record Reaches {A : Type 0} (m : Walk A) (a : A) (s : Text) : Type 0 where
@@ -112,7 +116,8 @@ pub walk→ : {A B : Type 0} {b : B} {s : Text} (m : Walk A) (f : A → ℕ → 
 walk→ (reached a n t) f h = record { value = a; number = n; rest = t; first = record { number = n; there = refl }; second = h }
 walk→ (halted f n) g h = absurd (not-halted h)
 
-pub walk← : {A B : Type 0} {a : A} {b : B} {s t : Text} {m : Walk A} (f : A → ℕ → Text → Walk B) → Reaches m a t → ((n : ℕ) → Reaches (f a n t) b s) → Reaches (walk m f) b s
+pub walk← : {A B : Type 0} {a : A} {b : B} {s t : Text} {m : Walk A} (f : A → ℕ → Text → Walk B)
+    → Reaches m a t → ((n : ℕ) → Reaches (f a n t) b s) → Reaches (walk m f) b s
 walk← {a} {b} {s} {t} f h k = subst (λ w. Reaches (walk w f) b s) (sym (h .there)) (k (h .number))
 
 -- One line.
@@ -152,7 +157,8 @@ pub record Section {A : Type 0} (Legal : List A → A → Type 0) (text : A → 
 
 module _ {A : Type 0} {take : List A → Text → Taken (List A)} {text : A → Text} {Legal : List A → A → Type 0}
     (w : (xs : List A) → Takes (take xs) (λ y. xs ++ (y ∷ [])) text (Legal xs)) where
-  pub lines→ : (count : ℕ) (xs : List A) (n : ℕ) (s : Text) (ys : List A) (r : Text) → Reaches (lines take count xs n s) ys r → Section Legal text xs ys count s r
+  pub lines→ : (count : ℕ) (xs : List A) (n : ℕ) (s : Text) (ys : List A) (r : Text)
+      → Reaches (lines take count xs n s) ys r → Section Legal text xs ys count s r
   unfolding lines eachLine
   lines→ zero xs n s ys r h = let e = h .there in let p : xs ≡ ys = cc in let q : s ≡ r = cc in
       record { entries = []; adds = sym p ∙ sym (append-nil xs); counted = refl; writes = q; legal = tt }
@@ -163,7 +169,10 @@ module _ {A : Type 0} {take : List A → Text → Taken (List A)} {text : A → 
       let i = lines→ count (k .value) (k .number) (k .rest) ys r (k .second) in
       record {
         entries = y ∷ i .entries;
-        adds = i .adds ∙ ap (λ v. v ++ i .entries) (m .builds) ∙ append-assoc xs (y ∷ []) (i .entries);
+        adds = ys
+            ≡⟨ i .adds ⟩ k .value ++ i .entries
+            ≡⟨ ap (λ v. v ++ i .entries) (m .builds) ⟩ (xs ++ (y ∷ [])) ++ i .entries
+            ≡⟨ append-assoc xs (y ∷ []) (i .entries) ⟩ xs ++ (y ∷ i .entries) ∎;
         counted = ap suc (i .counted);
         writes = m .writes ∙ ap (lineBefore (text y)) (i .writes);
         legal = (m .legal, subst (λ v. LegalAfter Legal v (i .entries)) (m .builds) (i .legal));
@@ -173,8 +182,9 @@ module _ {A : Type 0} {take : List A → Text → Taken (List A)} {text : A → 
   unfolding lines eachLine
   lines← [] xs n r l = record { number = n; there = ap (λ v. reached v n r) (sym (append-nil xs)) }
   lines← (z ∷ zs) xs n r l =
+      let next = xs ++ (z ∷ []) in
       walk← (lines take (length zs)) (one-line← (w xs) n z (eachLine text zs r) (l .0))
-      (λ m. subst (λ v. Reaches (lines take (length zs) (xs ++ (z ∷ [])) m (eachLine text zs r)) v r) (append-assoc xs (z ∷ []) zs) (lines← zs (xs ++ (z ∷ [])) m r (l .1)))
+      (λ m. subst (λ v. Reaches (lines take (length zs) next m (eachLine text zs r)) v r) (append-assoc xs (z ∷ []) zs) (lines← zs next m r (l .1)))
 
 -- What holds of that which a walk comes to, if it comes to an end.
 pub record Ends {A : Type 0} (m : Walk A) (P : A → Text → Type 0) : Type 0 where
@@ -185,7 +195,11 @@ ends-reached {P} {a} {s} h = record { holds = λ b t k. let e = k .there in let 
 
 pub ends-walk : {A B : Type 0} {m : Walk A} {f : A → ℕ → Text → Walk B} {P : A → Text → Type 0} {Q : B → Text → Type 0} → Ends m P
     → ((a : A) (n : ℕ) (s : Text) → P a s → Ends (f a n s) Q) → Ends (walk m f) Q
-ends-walk {m} {f} h k = record { holds = λ b s r. let w = walk→ m f r in k (w .value) (w .number) (w .rest) (h .holds (w .value) (w .rest) (w .first)) .holds b s (w .second) }
+ends-walk {m} {f} h k = record {
+  holds = λ b s r.
+      let w = walk→ m f r in
+      k (w .value) (w .number) (w .rest) (h .holds (w .value) (w .rest) (w .first)) .holds b s (w .second);
+}
 
 -- (where nothing else is made of a line, and where a section starts from nothing)
 pub ends-line : {B : Type 0} {take : Text → Taken B} {text : B → Text} {Legal : B → Type 0} → Takes take (λ b. b) text Legal

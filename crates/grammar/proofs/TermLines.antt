@@ -10,17 +10,20 @@ use lib.Dec.{T, ltb, eqb, ltb→lt}
 use lib.ListN.{length}
 use Rattle.meaning.specs.Bytes.{Text, ascii}
 use Rattle.meaning.specs.Descriptions as D
-use Rattle.meaning.specs.Descriptions.{Operator, block, hide, rename, comm, allow, Term, act, tau, delta, ref, sum, cond, choice, ifelse, seq, merge, lmerge, sync, wrap, Order}
+use Rattle.meaning.specs.Descriptions.{Operator, block, hide, rename, comm, allow, Term, act, tau, delta, ref, sum}
+use Rattle.meaning.specs.Descriptions.{cond, choice, ifelse, seq, merge, lmerge, sync, wrap, Order}
 use Rattle.meaning.specs.Legal.{LegalLabels, LegalOperator, LegalOrder}
 use Rattle.meaning.proofs.Tests.{and-left, and-right}
 use Rattle.grammar.specs.Text.{Past, past, stuck, onward, sameText, ended, literal, word, wordOn, separatedOn, isLower, isDigit}
 use Rattle.grammar.specs.Forms as F
-use Rattle.grammar.specs.Forms.{space, Listed, Line, plain, acts, wraps, OrderLine, part, Kind, kinds, labelList, alone, ofName, ofOne, ofTwo, ofList, farther, ofKind, termLine, orderLine}
+use Rattle.grammar.specs.Forms.{space, Listed, Line, plain, acts, wraps, OrderLine, part, Kind, kinds, labelList, alone}
+use Rattle.grammar.specs.Forms.{ofName, ofOne, ofTwo, ofList, farther, ofKind, termLine, orderLine}
 use Rattle.grammar.specs.Faults.{Found, termSaid, wordsOfFault, operatorSaid, listFault, orderSaid, orderFault}
 use Rattle.grammar.specs.Marks.{decimal}
 use Rattle.grammar.specs.Writing.{nameText, labelsText, after, two, withList, termText, orderText, LegalWords}
 use Rattle.grammar.proofs.Findings.{IsFine}
-use Rattle.grammar.proofs.Onwards.{same→, differs, When, when-past, when-stuck, when-weaken, when-branch, onward→, onward←, ended→, ended←, literal→, literal←}
+use Rattle.grammar.proofs.Onwards.{same→, sameText-differs, When, when-past, when-stuck, when-weaken, when-branch}
+use Rattle.grammar.proofs.Onwards.{onward→, onward←, ended→, ended←, literal→, literal←}
 use Rattle.grammar.proofs.Writes.{Inline, inline?, inline-tested, inline-append, Writes}
 use Rattle.grammar.proofs.Atoms.{Small, writes-number, writes-name}
 use Rattle.grammar.proofs.ListForms.{writes-names, writes-pairs, writes-rules, writes-labels}
@@ -121,7 +124,8 @@ module _ (words : List Text) (legal : LegalWords words) where
   unfolding ofList wordsOfFault isLower isDigit
   follows-list w make operator same faults =
       line-after (space ∷ []) tt (line-first writes-number
-      (λ t. line-after (space ∷ []) tt (line-ended w (λ l. wraps (make l) t) (termSaid words) (wordsOfFault words) (λ y. wrap (operator y) t) (λ x. ap (λ o. wrap o t) (same x)) faults))
+      (λ t. line-after (space ∷ []) tt (line-ended w (λ l. wraps (make l) t) (termSaid words) (wordsOfFault words)
+      (λ y. wrap (operator y) t) (λ x. ap (λ o. wrap o t) (same x)) faults))
       (λ y. tt))
 
   -- What the line of a kind says: one row for each kind.
@@ -266,7 +270,7 @@ module _ (words : List Text) (legal : LegalWords words) where
         value = c .value;
         faultless = c .faultless;
         said = c .said;
-        reads = rw (differs only-line (labelsText words ls) (ascii "all") (c .reads) (all-stuck (c .value)), after-key) (c .reads);
+        reads = rw (sameText-differs only-line (labelsText words ls) (ascii "all") (c .reads) (all-stuck (c .value)), after-key) (c .reads);
       }
 
   order-inline : (o : Order) → LegalOrder (length words) o → Inline (orderText words o)
@@ -278,7 +282,9 @@ module _ (words : List Text) (legal : LegalWords words) where
   writes-order = line-after (ascii "order=") tt (record {
     sound = λ s. when-branch (sameText s (ascii "all"))
         (λ t. when-past (λ f. record { source = D.all; builds = refl; writes = same→ s (ascii "all") t; legal = tt }))
-        (λ _. when-weaken (writes-only .sound s) (λ x r h f. let m = h f in record { source = D.only (m .source); builds = m .builds; writes = m .writes; legal = m .legal }));
+        (λ _. when-weaken (writes-only .sound s) (λ x r h f.
+        let m = h f in
+        record { source = D.only (m .source); builds = m .builds; writes = m .writes; legal = m .legal }));
     complete = order-complete;
     inline = order-inline;
   })

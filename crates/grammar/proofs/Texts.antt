@@ -13,8 +13,10 @@ use Rattle.meaning.specs.Descriptions.{Description, act, ref, seq, merge, comm,
 use Rattle.meaning.specs.Answers.{form, name, range, amount, operand}
 use Rattle.grammar.specs.Text.{sameText, ended, literal, isDigit, isLower, secondDigit, number, wordOn, word, separatedOn}
 use Rattle.grammar.specs.Forms.{part, pair, rule, labelList, alone, ofName, ofOne, ofTwo, ofList, kinds, ofKind, countLine, nameLine, termLine, orderLine}
-use Rattle.grammar.specs.Faults.{worst, rising, nameNumber, nameFault, labelSaid, actions, labelFault, wordsFault, pairsFault, rulesFault, labelsFault, wordsOfFault, termFault, orderFault}
-use Rattle.grammar.specs.Reading.{Reading, read, overlong, badLine, takeNumber, isFree, takeName, takeTerm, takeBody, takeOrder, firstLine, lines, wholeText, readText}
+use Rattle.grammar.specs.Faults.{worst, rising, nameNumber, nameFault, labelSaid, actions, labelFault, wordsFault}
+use Rattle.grammar.specs.Faults.{pairsFault, rulesFault, labelsFault, wordsOfFault, termFault, orderFault}
+use Rattle.grammar.specs.Reading.{Reading, read, overlong, badLine, takeNumber, isFree, takeName, takeTerm}
+use Rattle.grammar.specs.Reading.{takeBody, takeOrder, firstLine, lines, wholeText, readText}
 
 -- lines, each ended by LF
 abbrev pub text : List String → Text
@@ -76,7 +78,10 @@ All [] = Unit {0}
 All (c ∷ cs) = Holds c × All cs
 
 computed : All table
-unfolding plus sameText ended literal isDigit isLower secondDigit number wordOn word separatedOn part pair rule labelList alone ofName ofOne ofTwo ofList kinds ofKind countLine nameLine termLine orderLine worst rising nameNumber nameFault labelSaid actions labelFault wordsFault pairsFault rulesFault labelsFault wordsOfFault termFault orderFault takeNumber isFree takeName takeTerm takeBody takeOrder firstLine lines wholeText readText
+unfolding plus sameText ended literal isDigit isLower secondDigit number wordOn word separatedOn
+    part pair rule labelList alone ofName ofOne ofTwo ofList kinds ofKind countLine nameLine termLine orderLine
+    worst rising nameNumber nameFault labelSaid actions labelFault wordsFault pairsFault rulesFault labelsFault wordsOfFault termFault orderFault
+    takeNumber isFree takeName takeTerm takeBody takeOrder firstLine lines wholeText readText
 computed = (refl, (refl, (refl, (refl, (refl, (refl, (refl, (refl, (refl, (refl, (refl, (refl, (refl, tt)))))))))))))
 
 each : (cs : List Case) → All cs → (c : Case) → c ∈ cs → Holds c

@@ -37,9 +37,9 @@ written-append {s} {t} {before} u v =
       size = rw (u .size, v .size) (sym (length-append s t));
     }
 
--- a text copied to the start of an area
-pub copied : {s before after : Text} {r : ℕ} → r ≡ length s → after ≡ take (length s) s ++ drop (length s) before → Written s before after r
-copied {s} n e = record { area = rw (take-length s) at e; size = n }
+-- A text copied to the start of an area
+pub copied→written : {s before after : Text} {r : ℕ} → r ≡ length s → after ≡ take (length s) s ++ drop (length s) before → Written s before after r
+copied→written {s} n e = record { area = rw (take-length s) at e; size = n }
 
 pub written-byte : {s before mid : Text} {k : ℕ} (b : ℕ) → Written s before mid k → k < length mid → Written (s ++ (b ∷ [])) before (set mid k b) (k + 1)
 written-byte {s} {before} b u h =

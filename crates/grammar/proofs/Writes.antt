@@ -17,7 +17,7 @@ use Rattle.grammar.specs.Forms.{lf}
 use Rattle.grammar.specs.Faults.{Found, fine, worse, worst}
 use Rattle.grammar.specs.Marks.{followed, joined}
 use Rattle.grammar.proofs.Findings.{IsFine, fine-worse}
-use Rattle.grammar.proofs.Onwards.{passes, fails, When, when-past, when-stuck, when-weaken, when-branch, onward→, onward←, literal→, literal←}
+use Rattle.grammar.proofs.Onwards.{T→true, T-not→false, When, when-past, when-stuck, when-weaken, when-branch, onward→, onward←, literal→, literal←}
 
 -- A text that does not go on with such a byte, and a text within a line.
 abbrev pub Stops : (ℕ → Bool) → Text → Type 0
@@ -47,9 +47,9 @@ pub inline-tested : (s : Text) → T (inline? s) → Inline s
 inline-tested [] h = tt
 inline-tested (b ∷ s) h = (and-left (not (eqb b lf)) (inline? s) h, inline-tested s (and-right (not (eqb b lf)) (inline? s) h))
 
-pub neither : (b c : Bool) → T (not (b || c)) → T (not b) × T (not c)
-neither true c h = absurd h
-neither false c h = (tt, h)
+pub not-or→ : (b c : Bool) → T (not (b || c)) → T (not b) × T (not c)
+not-or→ true c h = absurd h
+not-or→ false c h = (tt, h)
 
 -- What is read back as y, where the text behind it does not go on.
 pub record Reads {X Y : Type 0} (form : Text → Past X) (says : X → Y) (fault : X → Found) (text : Y → Text) (goes : ℕ → Bool) (y : Y) : Type 0 where
@@ -58,7 +58,8 @@ pub record Reads {X Y : Type 0} (form : Text → Past X) (says : X → Y) (fault
   pub said : says value ≡ y
   pub reads : (r : Text) → Stops goes r → form (text y ++ r) ≡ past value r
 
-pub record Writes {X Y : Type 0} (form : Text → Past X) (says : X → Y) (fault : X → Found) (text : Y → Text) (Legal : Y → Type 0) (goes : ℕ → Bool) : Type 0 where
+pub record Writes {X Y : Type 0} (form : Text → Past X) (says : X → Y) (fault : X → Found)
+    (text : Y → Text) (Legal : Y → Type 0) (goes : ℕ → Bool) : Type 0 where
   pub sound : (s : Text) → When (form s) (λ x r. IsFine (fault x) → (s ≡ text (says x) ++ r) × Legal (says x))
   pub complete : (y : Y) → Legal y → Reads form says fault text goes y
   pub inline : (y : Y) → Legal y → Inline (text y)
@@ -85,7 +86,8 @@ module _ {X Y : Type 0} {form : Text → Past X} {says : X → Y} {fault : X →
   }
 
   -- One more fault to be free of.
-  pub writes-narrow : (more : X → Found) (And Legal′ : Y → Type 0) → ((x : X) → IsFine (fault x) → IsFine (more x) ↔ And (says x)) → ((y : Y) → Legal′ y ↔ (Legal y × And y))
+  pub writes-narrow : (more : X → Found) (And Legal′ : Y → Type 0)
+      → ((x : X) → IsFine (fault x) → IsFine (more x) ↔ And (says x)) → ((y : Y) → Legal′ y ↔ (Legal y × And y))
       → Writes form says (λ x. worse (fault x) (more x)) text Legal′ goes
   writes-narrow more And Legal′ free legal =
       writes-as says (λ x. worse (fault x) (more x)) text Legal′
@@ -114,7 +116,8 @@ module _ {A B C D X Y : Type 0} {one : Text → Past A} {says₁ : A → B} {fau
   pair-sound s =
       onward→ (w .sound s) (λ a t h. onward→ (literal→ (sign ∷ []) t) (λ _ q e. onward→ (v .sound q) (λ c r i. when-past (λ f.
       let k = faults a c .0 f in
-      let m : s ≡ text₁ (says₁ a) ++ (sign ∷ (text₂ (says₂ c) ++ r)) = h (k .0) .0 ∙ ap (λ u. text₁ (says₁ a) ++ u) (e ∙ ap {B = Text} (λ u. sign ∷ u) (i (k .1) .0)) in
+      let m : s ≡ text₁ (says₁ a) ++ (sign ∷ (text₂ (says₂ c) ++ r)) =
+      h (k .0) .0 ∙ ap (λ u. text₁ (says₁ a) ++ u) (e ∙ ap {B = Text} (λ u. sign ∷ u) (i (k .1) .0)) in
       (rw (says-left a c, says-right a c, append-assoc) m, (rw (says-left a c) (h (k .0) .1), rw (says-right a c) (i (k .1) .1)))))))
 
   pair-complete : (y : Y) → pair-legal y → Reads pair-form says fault pair-text goes₂ y
@@ -161,7 +164,8 @@ module _ {X Y : Type 0} {form : Text → Past X} {says : X → Y} {fault : X →
   behind [] h = absurd (omega arith)
   behind (y ∷ ys) h = refl
 
-  several-sound : (more : ℕ) (s : Text) → When (separatedOn sign form more s) (λ xs r. IsFine (worst fault xs) → (s ≡ several-text (map says xs) ++ r) × Several (map says xs))
+  several-sound : (more : ℕ) (s : Text) → When (separatedOn sign form more s)
+      (λ xs r. IsFine (worst fault xs) → (s ≡ several-text (map says xs) ++ r) × Several (map says xs))
   unfolding separatedOn joined followed worst
   several-sound zero s = when-stuck
   several-sound (suc more) s =
@@ -169,7 +173,8 @@ module _ {X Y : Type 0} {form : Text → Past X} {says : X → Y} {fault : X →
       (λ _. onward→ (literal→ (sign ∷ []) t) (λ _ q e. onward→ (several-sound more q) (λ xs r i. when-past (λ f.
       let k = fine-worse (fault a) (worst fault xs) .0 f in
       let j = i (k .1) in
-      let m : s ≡ text (says a) ++ (sign ∷ (several-text (map says xs) ++ r)) = h (k .0) .0 ∙ ap (λ u. text (says a) ++ u) (e ∙ ap {B = Text} (λ u. sign ∷ u) (j .0)) in
+      let m : s ≡ text (says a) ++ (sign ∷ (several-text (map says xs) ++ r)) =
+      h (k .0) .0 ∙ ap (λ u. text (says a) ++ u) (e ∙ ap {B = Text} (λ u. sign ∷ u) (j .0)) in
       (rw (append-assoc, behind (map says xs) (j .1 .0)) m, (omega arith, (h (k .0) .1, j .1 .1)))))))
       (λ _. when-past (λ f. let k = h (fine-worse (fault a) fine .0 f .0) in (rw append-nil (k .0), (omega arith, (k .1, tt))))))
 
@@ -180,7 +185,9 @@ module _ {X Y : Type 0} {form : Text → Past X} {says : X → Y} {fault : X →
   values-fine : (ys : List Y) (l : Each Legal ys) → IsFine (worst fault (values ys l))
   unfolding values worst
   values-fine [] l = tt
-  values-fine (y ∷ ys) l = let c = w .complete y (l .0) in fine-worse (fault (c .value)) (worst fault (values ys (l .1))) .1 (c .faultless, values-fine ys (l .1))
+  values-fine (y ∷ ys) l =
+      let c = w .complete y (l .0) in
+      fine-worse (fault (c .value)) (worst fault (values ys (l .1))) .1 (c .faultless, values-fine ys (l .1))
 
   values-said : (ys : List Y) (l : Each Legal ys) → map says (values ys l) ≡ ys
   unfolding values
@@ -189,7 +196,7 @@ module _ {X Y : Type 0} {form : Text → Past X} {says : X → Y} {fault : X →
 
   stops-both : (r : Text) → Stops or-sign r → Stops goes r × (starts sign r ≡ false)
   stops-both [] h = (tt, refl)
-  stops-both (b ∷ s) h = let k = neither (goes b) (eqb sign b) h in (k .0, fails (eqb sign b) (k .1))
+  stops-both (b ∷ s) h = let k = not-or→ (goes b) (eqb sign b) h in (k .0, T-not→false (eqb sign b) (k .1))
 
   several-reads : (more : ℕ) (y : Y) (ys : List Y) (l : Each Legal (y ∷ ys)) (r : Text) → Stops or-sign r → length ys < more
       → separatedOn sign form more (several-text (y ∷ ys) ++ r) ≡ past (values (y ∷ ys) l) r
@@ -201,7 +208,7 @@ module _ {X Y : Type 0} {form : Text → Past X} {says : X → Y} {fault : X →
   several-reads (suc more) y (z ∷ ys) l r h n =
       let rest = several-text (z ∷ ys) ++ r in
       rw append-assoc (onward← _ (w .complete y (l .0) .reads (sign ∷ rest) apart)
-      ∙ rw (passes (eqb sign sign) (eqb-refl sign)) (onward← _ (literal← (sign ∷ []) rest) ∙ onward← _ (several-reads more z ys (l .1) r h (omega arith))))
+      ∙ rw (T→true (eqb sign sign) (eqb-refl sign)) (onward← _ (literal← (sign ∷ []) rest) ∙ onward← _ (several-reads more z ys (l .1) r h (omega arith))))
 
   -- there are not more entries than bytes
   enough : (y : Y) (ys : List Y) (r : Text) → length ys ≤ length (several-text (y ∷ ys) ++ r)

@@ -6,6 +6,7 @@ use lib.ListN.{length}
 use Rattle.meaning.specs.Bytes.{Text, ascii}
 use Rattle.meaning.specs.Labels.{Label}
 use Rattle.meaning.specs.Answers.{Refusal, reasonOf, lineOf}
+use Rattle.grammar.specs.Forms.{lf}
 use Rattle.grammar.specs.Marks.{decimal, labelText}
 
 -- A label; the empty bag is printed `tau`.
@@ -18,7 +19,7 @@ printedLabel words a = orTau (labelText words a)
 
 -- Lines.
 abbrev pub line : Text → Text → Text
-line key value = key ++ value ++ (10 ∷ [])
+line key value = key ++ value ++ (lf ∷ [])
 
 unfoldable pub labelLines : List Text → List Label → Text
 labelLines words [] = []
@@ -26,7 +27,8 @@ labelLines words (a ∷ s) = line (ascii "label=") (printedLabel words a) ++ lab
 
 unfoldable pub answerText : List Text → ℕ → List Label → Text
 answerText words rounds labels =
-    line (ascii "answer=") (ascii "ok") ++ (line (ascii "rounds=") (decimal rounds) ++ (line (ascii "labels=") (decimal (length labels)) ++ labelLines words labels))
+    line (ascii "answer=") (ascii "ok")
+    ++ (line (ascii "rounds=") (decimal rounds) ++ (line (ascii "labels=") (decimal (length labels)) ++ labelLines words labels))
 
 unfoldable pub refusedText : ℕ → ℕ → Text
 refusedText reason at =

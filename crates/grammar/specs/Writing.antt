@@ -10,7 +10,8 @@ use lib.ListN.{length, getD}
 use Rattle.meaning.specs.Bytes.{Text, ascii}
 use Rattle.meaning.specs.Labels.{Label}
 use Rattle.meaning.specs.Sets.{_∈_}
-use Rattle.meaning.specs.Descriptions.{Pair, Rule, Operator, block, hide, rename, comm, allow, Term, act, tau, delta, ref, sum, cond, choice, ifelse, seq, merge, lmerge, sync, wrap, Order, all, only, Description, names, termCount, equations}
+use Rattle.meaning.specs.Descriptions.{Pair, Rule, Operator, block, hide, rename, comm, allow, Term, act, tau, delta, ref, sum, cond, choice, ifelse}
+use Rattle.meaning.specs.Descriptions.{seq, merge, lmerge, sync, wrap, Order, all, only, Description, names, termCount, equations}
 use Rattle.meaning.specs.Legal.{Each}
 use Rattle.grammar.specs.Text.{isDigit, isLower}
 use Rattle.grammar.specs.Forms.{lf, space, comma, greater}

@@ -27,21 +27,21 @@ pub length-part : (word : Text) (times : ℕ) → length (partText word times) �
 length-part word times = omega (arith, length-append word (colon ∷ decimal times))
 
 -- What is to come of a label of which so many bytes are written.
-unfoldable pub onward : ℕ → List Text → Text
-onward written ts = elim (eqb written 0) [ true ↦ joined dot ts | false ↦ followed dot ts ]
+unfoldable pub toCome : ℕ → List Text → Text
+toCome written ts = elim (eqb written 0) [ true ↦ joined dot ts | false ↦ followed dot ts ]
 
-onward-some : (written : ℕ) (ts : List Text) → (written ≡ 0 → ⊥) → onward written ts ≡ followed dot ts
-unfolding onward
-onward-some written ts h = rw (ne-eqb written 0 h, onward)
+toCome-some : (written : ℕ) (ts : List Text) → (written ≡ 0 → ⊥) → toCome written ts ≡ followed dot ts
+unfolding toCome
+toCome-some written ts h = rw (ne-eqb written 0 h, toCome)
 
-onward-none : (written : ℕ) (ts : List Text) → written ≡ 0 → onward written ts ≡ joined dot ts
-unfolding onward
-onward-none written ts e = rw (eq-eqb written 0 e, onward)
+toCome-none : (written : ℕ) (ts : List Text) → written ≡ 0 → toCome written ts ≡ joined dot ts
+unfolding toCome
+toCome-none written ts e = rw (eq-eqb written 0 e, toCome)
 
-pub onward-nil : (written : ℕ) → onward written [] ≡ []
+pub toCome-nil : (written : ℕ) → toCome written [] ≡ []
 unfolding joined followed
-onward-nil written =
-    elim (ℕ-discrete written 0) [ yes e ↦ onward-none written [] e | no d ↦ onward-some written [] d ]
+toCome-nil written =
+    elim (ℕ-discrete written 0) [ yes e ↦ toCome-none written [] e | no d ↦ toCome-some written [] d ]
 
 -- The three cases of a next part.
 pub next-absent : (written : ℕ) (w : Text) (x : ℕ) → x ≡ 0 → nextText written w x ≡ []
@@ -52,13 +52,13 @@ pub next-first : (written : ℕ) (w : Text) (x : ℕ) → (x ≡ 0 → ⊥) → 
 unfolding nextText
 next-first written w x h e = rw (ne-eqb x 0 h, eq-eqb written 0 e, nextText)
 
-pub next-later : (written : ℕ) (w : Text) (x : ℕ) → (x ≡ 0 → ⊥) → (written ≡ 0 → ⊥) → nextText written w x ≡ 46 ∷ partText w x
+pub next-later : (written : ℕ) (w : Text) (x : ℕ) → (x ≡ 0 → ⊥) → (written ≡ 0 → ⊥) → nextText written w x ≡ dot ∷ partText w x
 unfolding nextText
 next-later written w x h d = rw (ne-eqb x 0 h, ne-eqb written 0 d, nextText)
 
 -- What is to come is the next part and what is to come behind it.
 parts-next : (written : ℕ) (w : Text) (ws : List Text) (x : ℕ) (a : Label) →
-    onward written (partTexts (w ∷ ws) (x ∷ a)) ≡ nextText written w x ++ onward (written + length (nextText written w x)) (partTexts ws a)
+    toCome written (partTexts (w ∷ ws) (x ∷ a)) ≡ nextText written w x ++ toCome (written + length (nextText written w x)) (partTexts ws a)
 unfolding joined followed
 parts-next written w ws x a =
     let part = partText w x in
@@ -66,10 +66,10 @@ parts-next written w ws x a =
     elim (ℕ-discrete x 0) [
       | yes e ↦ rw (partTexts-zero w ws x a e, next-absent written w x e, add-zero)
       | no h ↦ elim (ℕ-discrete written 0) [
-        | yes e ↦ rw (partTexts-some w ws x a h, next-first written w x h e, onward-none written (part ∷ rest) e)
-            (rw (onward-some (written + length part) rest (omega (arith, length-part w x))))
-        | no d ↦ rw (partTexts-some w ws x a h, next-later written w x h d, onward-some written (part ∷ rest) d)
-            (rw (onward-some (written + length (dot ∷ part)) rest (omega arith)))
+        | yes e ↦ rw (partTexts-some w ws x a h, next-first written w x h e, toCome-none written (part ∷ rest) e)
+            (rw (toCome-some (written + length part) rest (omega (arith, length-part w x))))
+        | no d ↦ rw (partTexts-some w ws x a h, next-later written w x h d, toCome-some written (part ∷ rest) d)
+            (rw (toCome-some (written + length (dot ∷ part)) rest (omega arith)))
       ]
     ]
 
@@ -78,9 +78,9 @@ abbrev pub partsFrom : List ℕ → ℕ → ℕ → List Text
 partsFrom names i rest = partTexts (wordsOf (drop i names)) (labelOf (12 - i) rest)
 
 parts-step : (written : ℕ) (names : List ℕ) (i rest : ℕ) → i < 12 → length names ≡ 12 →
-    onward written (partsFrom names i rest)
+    toCome written (partsFrom names i rest)
     ≡ nextText written (nameOf 8 (getD names i 0)) (rest % 32)
-    ++ onward (written + length (nextText written (nameOf 8 (getD names i 0)) (rest % 32))) (partsFrom names (i + 1) (rest / 32))
+    ++ toCome (written + length (nextText written (nameOf 8 (getD names i 0)) (rest % 32))) (partsFrom names (i + 1) (rest / 32))
 unfolding labelOf
 parts-step written names i rest h e =
     let more : 12 - i ≡ suc (12 - (i + 1)) = omega arith in
@@ -96,25 +96,25 @@ parts-none [] (suc n) = refl
 parts-none (w ∷ ws) (suc n) = parts-none ws n
 
 -- A turn of the writer's loop, and its end.
-module _ {goal before mid : Text} {k : ℕ} (names : List ℕ) (i rest : ℕ) (u : Underway goal (onward k (partsFrom names i rest)) before mid k) where
+module _ {goal before mid : Text} {k : ℕ} (names : List ℕ) (i rest : ℕ) (u : Underway goal (toCome k (partsFrom names i rest)) before mid k) where
   pub parts-room : i < 12 → length names ≡ 12 → length (nextText k (nameOf 8 (getD names i 0)) (rest % 32)) ≤ length (lent k mid)
   parts-room h e =
       let next = nextText k (nameOf 8 (getD names i 0)) (rest % 32) in
-      next-room next (onward (k + length next) (partsFrom names (i + 1) (rest / 32))) (rw (parts-step k names i rest h e) at u)
+      next-room next (toCome (k + length next) (partsFrom names (i + 1) (rest / 32))) (rw (parts-step k names i rest h e) at u)
 
   pub parts-again : {part : Text} {r : ℕ} → i < 12 → length names ≡ 12 →
       Written (nextText k (nameOf 8 (getD names i 0)) (rest % 32)) (lent k mid) part r →
-      Underway goal (onward (k + r) (partsFrom names (i + 1) (rest / 32))) before (back k mid part) (k + r)
+      Underway goal (toCome (k + r) (partsFrom names (i + 1) (rest / 32))) before (back k mid part) (k + r)
   parts-again h e v = underway-step (rw (rw (← v .size) at (parts-step k names i rest h e)) at u) v
 
   pub parts-early : rest ≡ 0 → Written goal before mid k
   parts-early e =
       let none = ap (partsFrom names i) e ∙ parts-none (wordsOf (drop i names)) (12 - i) in
-      underway-end (rw (ap (onward k) none ∙ onward-nil k) at u)
+      underway-end (rw (ap (toCome k) none ∙ toCome-nil k) at u)
 
   pub parts-end : i ≡ 12 → Written goal before mid k
   unfolding labelOf partTexts
-  parts-end e = underway-end (rw (ap (λ (n : ℕ). onward k (partsFrom names n rest)) e ∙ onward-nil k) at u)
+  parts-end e = underway-end (rw (ap (λ (n : ℕ). toCome k (partsFrom names n rest)) e ∙ toCome-nil k) at u)
 
-pub parts-start : (ts : List Text) → onward 0 ts ≡ joined dot ts
-parts-start ts = onward-none 0 ts refl
+pub parts-start : (ts : List Text) → toCome 0 ts ≡ joined dot ts
+parts-start ts = toCome-none 0 ts refl

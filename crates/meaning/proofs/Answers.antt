@@ -1,6 +1,6 @@
 -- The executable answer meets the declarative statement, and any two answers that meet it are equal.
 -- Assumes nothing.
-use mathlib.Core.Path.{_≡_, refl, sym, ap₂, subst, _∙_}
+use mathlib.Core.Path.{_≡_, refl, sym, ap, ap₂, subst, _∙_}
 use mathlib.Core.Logic.{inl, inr, _↔_}
 use mathlib.Core.Bool.{Bool, true, false}
 use mathlib.Core.List.{List, [], _∷_, _++_}
@@ -15,10 +15,10 @@ use Rattle.meaning.specs.Sets.{_∈_, at, spread, kept, keep}
 use Rattle.meaning.specs.Descriptions.{Order, all, only, Description}
 use Rattle.meaning.specs.Rounds.{bodySets, roundSets, Rounds}
 use Rattle.meaning.specs.Limits.{someOver, over, PassesLimit}
-use Rattle.meaning.specs.Answers.{Allows, Outcome, tooLarge, listed, Lists, Answers, admits, cut, sameLabels, sameSets, answerFrom, answer}
+use Rattle.meaning.specs.Answers.{Allows, Outcome, tooLarge, listed, Lists, Answers, admits, cut, sameLabels, sameSets, answerFrom, answer, Verdict}
 use Rattle.meaning.proofs.Tests.{Says, compare-says, and-left, and-right, and-both}
 use Rattle.meaning.proofs.Order.{same→eq, eq→same}
-use Rattle.meaning.proofs.Digits.{small, number-below}
+use Rattle.meaning.proofs.Digits.{size→small, number-below}
 use Rattle.meaning.proofs.Sorted.{Within, Sorted, NumberLess, sorted-rising, rising-unique}
 use Rattle.meaning.proofs.Members.{Ascending, in-spread, in-spread→, in-keep}
 use Rattle.meaning.proofs.Carried.{against-last}
@@ -26,7 +26,21 @@ use Rattle.meaning.proofs.Growth.{round-ascends}
 use Rattle.meaning.proofs.Lengths.{round-full}
 use Rattle.meaning.proofs.Stable.{Stable, union-is-stable, unstable-total}
 use Rattle.meaning.proofs.Operators.{allowed→, →allowed}
-use Rattle.meaning.proofs.Limits.{long, over-one, over-some, over-all, round-passes, stable-passes}
+use Rattle.meaning.proofs.Limits.{long→someLong, over-one, over-some, over-all, round-passes, stable-passes}
+
+-- The parts of equal verdicts.
+module _ {v w : Verdict} (e : v ≡ w) where
+  pub reason-eq : v .reason ≡ w .reason
+  reason-eq = ap (λ (x : Verdict). x .reason) e
+
+  pub line-eq : v .line ≡ w .line
+  line-eq = ap (λ (x : Verdict). x .line) e
+
+  pub rounds-eq : v .rounds ≡ w .rounds
+  rounds-eq = ap (λ (x : Verdict). x .rounds) e
+
+  pub labels-eq : v .labels ≡ w .labels
+  labels-eq = ap (λ (x : Verdict). x .labels) e
 
 -- The order's test.
 pub admits→ : (o : Order) (a : Label) → T (admits o a) → Allows o a
@@ -69,7 +83,7 @@ by-number n (a ∷ s) h k = (
   λ b m.
       let p = h a (inl refl) in
       let q = h b (inr m) in
-      number-below a b (small a (p .0)) (small b (q .0)) (p .1 ∙ sym (q .1)) (k .0 b m),
+      number-below a b (size→small a (p .0)) (size→small b (q .0)) (p .1 ∙ sym (q .1)) (k .0 b m),
   by-number n s (λ b m. h b (inr m)) (k .1),
 )
 
@@ -77,7 +91,7 @@ by-number n (a ∷ s) h k = (
 pub no-long : (sets : List (List Label)) → (T (someOver sets) → ⊥) → (t : ℕ) (a : Label) → a ∈ at sets t → size a ≤ 31
 no-long [] h t a m = absurd m
 no-long (s ∷ sets) h zero a m =
-    elim (decLt 31 (size a)) [ yes l ↦ absurd (h (over-one s sets (inl (long s a m l)))) | no n ↦ omega arith ]
+    elim (decLt 31 (size a)) [ yes l ↦ absurd (h (over-one s sets (inl (long→someLong s a m l)))) | no n ↦ omega arith ]
 no-long (s ∷ sets) h (suc t) a m = no-long sets (λ k. h (over-one s sets (inr (inr k)))) t a m
 
 -- Equality of sets, tested.
@@ -111,10 +125,10 @@ pub →sameSets : (s t : List (List Label)) → s ≡ t → T (sameSets s t)
 →sameSets s t e = subst (λ (x : List (List Label)). T (sameSets s x)) e (sameSets-refl s)
 
 -- A stable round that passes no limit gives the answer.
-pub lists : (d : Description) (o : Order) (k : ℕ) → ((j : ℕ) → j < k → Stable d j → ⊥) → Stable d k → (T (over (roundSets d (suc k))) → ⊥)
+pub stable→lists : (d : Description) (o : Order) (k : ℕ) → ((j : ℕ) → j < k → Stable d j → ⊥) → Stable d k → (T (over (roundSets d (suc k))) → ⊥)
     → Lists d o (suc k) (cut o (at (roundSets d (suc k)) (d .root)))
 unfolding cut
-lists d o k earlier e fits =
+stable→lists d o k earlier e fits =
     let set = at (roundSets d (suc k)) (d .root) in
     let union = union-is-stable d k e (d .root) in
     record {
@@ -154,7 +168,7 @@ answer-from (suc more) k d o e h =
     decide-right d o (over sets) (sameSets (bodySets d sets) (bodySets d (roundSets d k)))
     (listed (suc k) (cut o (at sets (d .root)))) (answerFrom more d o (suc k) sets)
     (round-passes d (suc k))
-    (λ fits same. lists d o k h (sameSets→ (bodySets d sets) (bodySets d (roundSets d k)) same) fits)
+    (λ fits same. stable→lists d o k h (sameSets→ (bodySets d sets) (bodySets d (roundSets d k)) same) fits)
     (λ differ. answer-from more (suc k) d o (suc-add k more ∙ sym (add-suc k more) ∙ e) (λ j l s.
     elim (against-last j k) [
       | inl i ↦ h j i s

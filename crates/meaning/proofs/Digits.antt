@@ -1,6 +1,6 @@
 -- The number of a label: its digits to base 32 give the label back where counts are below 32, and its order is the order of labels.
 -- Assumes nothing.
-use mathlib.Core.Path.{_≡_, refl, sym, ap, ap₂, _∙_}
+use mathlib.Core.Path.{_≡_, refl, sym, ap, ap₂, _∙_, _≡⟨_⟩_, _∎}
 use mathlib.Core.Logic.{inl, inr}
 use mathlib.Core.List.{[], _∷_}
 use Prim.Native.Nat.{ℕ, zero, suc, _+_, _*_, _/_, _%_, _^_, _≤_, _<_}
@@ -16,10 +16,10 @@ use Rattle.meaning.proofs.Order.{_≺_}
 abbrev pub Small : Label → Type 0
 Small a = Each (λ x. x < 32) a
 
-pub small : (a : Label) → size a ≤ 31 → Small a
+pub size→small : (a : Label) → size a ≤ 31 → Small a
 unfolding size
-small [] h = tt
-small (x ∷ a) h = (omega arith, small a (omega arith))
+size→small [] h = tt
+size→small (x ∷ a) h = (omega arith, size→small a (omega arith))
 
 pub labelOf-number : (a : Label) → Small a → labelOf (length a) (number a) ≡ a
 unfolding labelOf number
@@ -30,7 +30,11 @@ labelOf-number (x ∷ a) h =
     ap₂ {C = Label} _∷_ lo (ap (labelOf (length a)) hi ∙ labelOf-number a (h .1))
 
 pub number-injective : (a b : Label) → Small a → Small b → length a ≡ length b → number a ≡ number b → a ≡ b
-number-injective a b p q l n = sym (labelOf-number a p) ∙ ap₂ labelOf l n ∙ labelOf-number b q
+number-injective a b p q l n =
+    a
+    ≡⟨ sym (labelOf-number a p) ⟩ labelOf (length a) (number a)
+    ≡⟨ ap₂ labelOf l n ⟩ labelOf (length b) (number b)
+    ≡⟨ labelOf-number b q ⟩ b ∎
 
 pub length-labelOf : (names w : ℕ) → length (labelOf names w) ≡ names
 unfolding labelOf

@@ -10,7 +10,8 @@ use native.Mathlib.Decide.{decLt}
 use lib.ListN.{getD, List·getD-eq-default}
 use Rattle.meaning.specs.Labels.{Label}
 use Rattle.meaning.specs.Sets.{_∈_, at}
-use Rattle.meaning.specs.Descriptions.{Term, act, tau, delta, ref, sum, cond, choice, ifelse, seq, merge, lmerge, sync, wrap, Order, Description, termCount, termAt, bodyAt}
+use Rattle.meaning.specs.Descriptions.{Term, act, tau, delta, ref, sum, cond, choice, ifelse, seq, merge, lmerge}
+use Rattle.meaning.specs.Descriptions.{sync, wrap, Order, Description, termCount, termAt, bodyAt}
 use Rattle.meaning.specs.Legal.{LegalTerm, LegalTerms, Legal}
 use Rattle.meaning.specs.Rounds.{Shape, leaf, reference, one, either, both, joint, through, shape, made, worked, bodySets, next, roundSets, InSet}
 use Rattle.meaning.proofs.Members.{Sum, in-ascending}

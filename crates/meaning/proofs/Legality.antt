@@ -9,8 +9,10 @@ use lib.Dec.{T}
 use lib.ListN.{length}
 use Rattle.meaning.specs.Labels.{Label, size, number}
 use Rattle.meaning.specs.Sets.{Above, Rising}
-use Rattle.meaning.specs.Descriptions.{Pair, Rule, Operator, block, hide, rename, comm, allow, Term, act, tau, delta, ref, sum, cond, choice, ifelse, seq, merge, lmerge, sync, wrap, Order, all, only, Description, names, termCount, equations, termAt}
-use Rattle.meaning.specs.Legal.{Each, LegalLabel, LegalNames, LegalPair, LegalRule, LegalLabels, LegalOperator, isMultiAction, LegalTwo, LegalTerm, LegalTerms, LegalOrder, Legal}
+use Rattle.meaning.specs.Descriptions.{Pair, Rule, Operator, block, hide, rename, comm, allow, Term, act, tau, delta, ref, sum, cond, choice, ifelse, seq}
+use Rattle.meaning.specs.Descriptions.{merge, lmerge, sync, wrap, Order, all, only, Description, names, termCount, equations, termAt}
+use Rattle.meaning.specs.Legal.{Each, LegalLabel, LegalNames, LegalPair, LegalRule, LegalLabels, LegalOperator}
+use Rattle.meaning.specs.Legal.{isMultiAction, LegalTwo, LegalTerm, LegalTerms, LegalOrder, Legal}
 
 three : {A B C : Type 0} → Dec A → Dec B → Dec C → Dec (A × B × C)
 three (yes a) (yes b) (yes c) = yes (a, b, c)

@@ -7,7 +7,8 @@ use Prim.Native.Nat.{ℕ, zero, suc}
 use lib.ListN.{length, length-replicate}
 use Rattle.meaning.specs.Labels.{Label}
 use Rattle.meaning.specs.Sets.{_∈_, at}
-use Rattle.meaning.specs.Descriptions.{Term, act, tau, delta, ref, sum, cond, choice, ifelse, seq, merge, lmerge, sync, wrap, Description, names, termAt, bodyAt, termCount}
+use Rattle.meaning.specs.Descriptions.{Term, act, tau, delta, ref, sum, cond, choice, ifelse, seq, merge, lmerge}
+use Rattle.meaning.specs.Descriptions.{sync, wrap, Description, names, termAt, bodyAt, termCount}
 use Rattle.meaning.specs.Rounds.{shape, made, bodySets, next, roundSets}
 use Rattle.meaning.proofs.Bags.{length-plus, length-several}
 use Rattle.meaning.proofs.Members.{Sum, in-ascending}

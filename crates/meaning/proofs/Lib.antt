@@ -1,25 +1,49 @@
--- The law of uniqueness; then the theorems, each file after those that it cites; the computed cases first.
+-- The law of uniqueness and the computed cases; then the theorems, each file after those that it cites.
+-- alike, alike-through: what is equal to the same is equal, also through a map that can be gone back
 pub mod Alike
+-- legal-tested: a computed test of legality, and that it is equivalent to legality
 pub mod Legality
+-- computed: the examples P1 to P8, as one table that the checker computes
 pub mod Alphabets
+-- and-left, or-cases, compare-says, ..: tests against what they say
 pub mod Tests
+-- plus-comm, count-minus, size-plus, ..: the laws of bags
 pub mod Bags
+-- ≺-irrefl, ≺-trans, order-says: the order of labels is a strict order, and `order` tells it
 pub mod Order
+-- size→small, labelOf-number, number-injective, number-below: a label and its number to base 32
 pub mod Digits
+-- sorted-once, sorted-unique, rising-unique, once-count: lists that ascend in a strict order
 pub mod Sorted
+-- in-append, in-map, in-product, in-ascending, ..: members of the lists that sets are made of
 pub mod Members
+-- in-made, made-grows: what a term is made of, as a property of labels
 pub mod Made
+-- carried: a relation of sets that two passes over the terms keep; growth, order and lengths are its instances
 pub mod Carried
+-- rounds-widen, rounds-grow, round-ascends: sets grow with widening and with each round, and ascend
 pub mod Growth
+-- roundSets-stable, union-is-stable, unstable-total: a stable round stays, and a round that is not stable adds a label
 pub mod Stable
+-- sets-meet, sets-least: the sets of terms are the least ones that meet the rules
 pub mod Least
+-- allowed→, in-applied, length-image, acts-image: what operators make of labels
 pub mod Operators
+-- onRun→inSet: every label on any finite run is in the root's set
 pub mod Soundness
+-- long→someLong, over-cases, over-grows, round-passes, rounds-bound: a limit that a part passes the whole passes
 pub mod Limits
+-- round-full: every label of a round has a count for each name
 pub mod Lengths
+-- reason-eq, answer-right, answers-unique, answer-only: equal verdicts have equal parts; the executable answer is the one that meets the statement
 pub mod Answers
+-- passed-answer, stable-answer, rounds-so-far, worked-over: what one round settles of the answer
 pub mod Outcomes
+-- set-held, listed-held, listed-few: what an answer lists
 pub mod Listings
+-- sets-widen, passes-widen, tightening: demand 3 of two legal descriptions
 pub mod Widening
+-- all-widens: `order=all` to every label of one name widens
 pub mod WideningCases
+-- cases: what the computed table says of each of its rows
 pub mod Examples

@@ -24,18 +24,18 @@ pub record Long (s : List Label) : Type 0 where
   pub there : label ∈ s
   pub long : 31 < size label
 
-pub long→ : (s : List Label) → T (someLong s) → Long s
+pub someLong→long : (s : List Label) → T (someLong s) → Long s
 unfolding someLong
-long→ (a ∷ s) t = pick (or-cases (ltb 31 (size a)) (someLong s) t) (long→ s)
+someLong→long (a ∷ s) t = pick (or-cases (ltb 31 (size a)) (someLong s) t) (someLong→long s)
   where
     pick : T (ltb 31 (size a)) ⊎ T (someLong s) → (T (someLong s) → Long s) → Long (a ∷ s)
     pick (inl h) more = record { label = a; there = inl refl; long = ltb→lt 31 (size a) h }
     pick (inr h) more = let x = more h in record { label = x .label; there = inr (x .there); long = x .long }
 
-pub long : (s : List Label) (a : Label) → a ∈ s → 31 < size a → T (someLong s)
+pub long→someLong : (s : List Label) (a : Label) → a ∈ s → 31 < size a → T (someLong s)
 unfolding someLong
-long (b ∷ s) a (inl e) h = or-left (ltb 31 (size b)) (someLong s) (lt→ltb 31 (size b) (subst (λ (x : Label). 31 < size x) e h))
-long (b ∷ s) a (inr m) h = or-right (ltb 31 (size b)) (someLong s) (long s a m h)
+long→someLong (b ∷ s) a (inl e) h = or-left (ltb 31 (size b)) (someLong s) (lt→ltb 31 (size b) (subst (λ (x : Label). 31 < size x) e h))
+long→someLong (b ∷ s) a (inr m) h = or-right (ltb 31 (size b)) (someLong s) (long→someLong s a m h)
 
 -- the three tests of one set and of those after it
 pub over-cases : (s : List Label) (sets : List (List Label)) → T (someOver (s ∷ sets)) → T (someLong s) ⊎ ((1024 < length s) ⊎ T (someOver sets))
@@ -67,13 +67,15 @@ someOver-grows [] sets o w t = absurd t
 someOver-grows (s ∷ part) [] o w t = ends (over-cases s part t) (someOver-grows part [] (λ n. o (suc n)) (λ n. w (suc n)))
   where
     ends : T (someLong s) ⊎ ((1024 < length s) ⊎ T (someOver part)) → (T (someOver part) → ⊥) → ⊥
-    ends (inl h) more = let x = long→ s h in w 0 (x .label) (x .there)
+    ends (inl h) more = let x = someLong→long s h in w 0 (x .label) (x .there)
     ends (inr (inl h)) more = let k = once-count s [] (o 0) (w 0) .0 in omega arith
     ends (inr (inr h)) more = more h
 someOver-grows (s ∷ part) (s′ ∷ sets) o w t = goes (over-cases s part t) (someOver-grows part sets (λ n. o (suc n)) (λ n. w (suc n)))
   where
     goes : T (someLong s) ⊎ ((1024 < length s) ⊎ T (someOver part)) → (T (someOver part) → T (someOver sets)) → T (someOver (s′ ∷ sets))
-    goes (inl h) more = let x = long→ s h in over-one s′ sets (inl (long s′ (x .label) (w 0 (x .label) (x .there)) (x .long)))
+    goes (inl h) more =
+        let x = someLong→long s h in
+        over-one s′ sets (inl (long→someLong s′ (x .label) (w 0 (x .label) (x .there)) (x .long)))
     goes (inr (inl h)) more = let k = once-count s s′ (o 0) (w 0) .0 in over-one s′ sets (inr (inl (omega arith)))
     goes (inr (inr h)) more = over-one s′ sets (inr (inr (more h)))
 

@@ -18,7 +18,7 @@ use Rattle.meaning.specs.Answers.{Outcome, tooLarge, listed, Lists, cut,
 use Rattle.meaning.specs.Widening.{Listable}
 use Rattle.meaning.proofs.Lengths.{round-full}
 use Rattle.meaning.proofs.Limits.{over-one, over-some, round-passes}
-use Rattle.meaning.proofs.Answers.{no-long, lists, answers-unique}
+use Rattle.meaning.proofs.Answers.{no-long, stable→lists, answers-unique}
 
 pub set-held : (d : Description) → (PassesLimit d → ⊥) → (t : ℕ) (a : Label) → InSet d t a → Listable (names d) a
 set-held d within t a x =
@@ -54,6 +54,6 @@ listed-few d o zero ls l = absurd (omega (arith, l .counted .atLeast))
 listed-few d o (suc k) ls l =
     let set = at (roundSets d (suc k)) (d .root) in
     let same = answers-unique d o (listed (suc k) ls) (listed (suc k) (cut o set)) l
-    (lists d o k (λ j h. l .counted .smallest (suc j) (omega arith) (omega arith)) (l .counted .stable) (λ t. l .within (round-passes d (suc k) t))) in
+    (stable→lists d o k (λ j h. l .counted .smallest (suc j) (omega arith) (omega arith)) (l .counted .stable) (λ t. l .within (round-passes d (suc k) t))) in
     let wide = no-wide (roundSets d (suc k)) (λ t. l .within (round-passes d (suc k) (over-some (roundSets d (suc k)) t))) (d .root) in
     omega (arith, ap listings same, cut-shorter o set)

@@ -7,6 +7,7 @@ use mathlib.Core.List.{List, [], _∷_, _++_, map}
 use Prim.Native.Nat.{Ordering, Ordering·lt, Ordering·eq, Ordering·gt}
 use lib.Dec.{T, isEq}
 use Rattle.meaning.specs.Labels.{Label, order, plus}
+use Rattle.meaning.specs.Legal.{Each}
 use Rattle.meaning.specs.Sets.{_∈_, member, placed, insert, ascending, spread, kept, keep, turn, product}
 use Rattle.meaning.proofs.Tests.{Says, or-cases, or-left, or-right}
 use Rattle.meaning.proofs.Order.{_≺_, ≺-irrefl, ≺-trans, order-says, same→eq, eq→same}
@@ -18,6 +19,10 @@ in-append a (b ∷ s) t = (
   elim [ inl e ↦ inl (inl e) | inr m ↦ elim (in-append a s t .0 m) [ inl k ↦ inl (inr k) | inr k ↦ inr k ] ],
   elim [ inl m ↦ elim m [ inl e ↦ inl e | inr k ↦ inr (in-append a s t .1 (inl k)) ] | inr k ↦ inr (in-append a s t .1 (inr k)) ],
 )
+
+pub each-in : {A : Type 0} (P : A → Type 0) (s : List A) → ((a : A) → a ∈ s → P a) → Each P s
+each-in P [] h = tt
+each-in P (a ∷ s) h = (h a (inl refl), each-in P s (λ b m. h b (inr m)))
 
 pub record Image {A B : Type 0} (f : A → B) (s : List A) (b : B) : Type 0 where
   pub source : A

@@ -1,7 +1,7 @@
 -- What operators make of labels: the applications of rules one by one, labels over all names, and that what an operator does
 -- to a label on a run is among what it makes of it in a set.
 -- Assumes nothing.
-use mathlib.Core.Path.{_≡_, refl, ap, subst, _∙_}
+use mathlib.Core.Path.{_≡_, refl, ap, subst, _∙_, _≡⟨_⟩_, _∎}
 use mathlib.Core.Logic.{_⊎_, inl, inr}
 use mathlib.Core.List.{List, [], _∷_}
 use Prim.Native.Nat.{ℕ, zero, suc, _≤_, _<_}
@@ -16,7 +16,8 @@ use Rattle.meaning.specs.Legal.{Each, LegalRule, LegalOperator}
 use Rattle.meaning.specs.Rounds.{target, allowed, replaced, applied, communicated, image}
 use Rattle.meaning.specs.Runs.{Communicates, enough, apply, Acts}
 use Rattle.meaning.proofs.Tests.{or-cases, or-left, or-right}
-use Rattle.meaning.proofs.Bags.{plus-none, plus-assoc, minus-plus, inside-plus, size-plus, size-minus, size-several, length-plus, length-minus, length-several, length-without, length-renamed, zero→clear}
+use Rattle.meaning.proofs.Bags.{plus-none, plus-assoc, minus-plus, inside-plus, size-plus, size-minus, size-several, length-plus}
+use Rattle.meaning.proofs.Bags.{length-minus, length-several, length-without, length-renamed, zero→clear}
 use Rattle.meaning.proofs.Members.{in-append, in-spread, in-spread→, in-keep, in-turn, member→in, in→member}
 
 -- Listed, or tau.
@@ -77,7 +78,11 @@ length-communicated (suc more) names rs a b h (inr m) =
 
 pub length-image : (names : ℕ) (o : Operator) (a b : Label) → length a ≡ names → b ∈ image names o a → length b ≡ names
 length-image names (block ns) a b h m = ap length (in-keep (clear ns) a b .0 m .0) ∙ h
-length-image names (hide ns) a b h m = ap length (in-turn (without ns) a b .0 m) ∙ length-without ns a ∙ h
+length-image names (hide ns) a b h m =
+    length b
+    ≡⟨ ap length (in-turn (without ns) a b .0 m) ⟩ length (without ns a)
+    ≡⟨ length-without ns a ⟩ length a
+    ≡⟨ h ⟩ names ∎
 length-image names (rename ps) a b h m = ap length (in-turn (renamed names (target ps)) a b .0 m) ∙ length-renamed names (target ps) a 0
 length-image names (comm rs) a b h m = length-communicated (size a) names rs a b h m
 length-image names (allow ls) a b h m = ap length (in-keep (allowed ls) a b .0 m .0) ∙ h

@@ -18,7 +18,7 @@ use Rattle.meaning.specs.Answers.{tooLarge, listed, cut, answer}
 use Rattle.meaning.proofs.Tests.{or-cases}
 use Rattle.meaning.proofs.Stable.{Stable, unstable-total}
 use Rattle.meaning.proofs.Limits.{over-cases, over-one, over-some, over-all, round-passes}
-use Rattle.meaning.proofs.Answers.{lists, answer-only}
+use Rattle.meaning.proofs.Answers.{stable→lists, answer-only}
 
 -- A round that passes a limit, and a stable one that passes none.
 pub passed-answer : (d : Description) (o : Order) (k : ℕ) → T (over (roundSets d k)) → answer d o ≡ tooLarge
@@ -27,7 +27,7 @@ passed-answer d o k t = sym (answer-only d o tooLarge (round-passes d k t))
 pub stable-answer : (d : Description) (o : Order) (k : ℕ) → ((j : ℕ) → j < k → Stable d j → ⊥) → Stable d k → (T (over (roundSets d (suc k))) → ⊥)
     → answer d o ≡ listed (suc k) (cut o (at (roundSets d (suc k)) (d .root)))
 stable-answer d o k earlier e fits =
-    sym (answer-only d o (listed (suc k) (cut o (at (roundSets d (suc k)) (d .root)))) (lists d o k earlier e fits))
+    sym (answer-only d o (listed (suc k) (cut o (at (roundSets d (suc k)) (d .root)))) (stable→lists d o k earlier e fits))
 
 -- Where no round so far was stable and the last passes no limit, there have been at most 2,048.
 pub rounds-so-far : (d : Description) (k : ℕ) → ((j : ℕ) → j < k → Stable d j → ⊥) → (T (over (roundSets d k)) → ⊥) → k ≤ 2048

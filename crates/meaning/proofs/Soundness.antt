@@ -6,10 +6,13 @@ use mathlib.Core.List.{List}
 use Prim.Native.Nat.{ℕ}
 use Rattle.meaning.specs.Labels.{Label}
 use Rattle.meaning.specs.Sets.{_∈_}
-use Rattle.meaning.specs.Descriptions.{Term, act, tau, ref, sum, cond, choice, ifelse, seq, merge, lmerge, sync, wrap, Order, Description, names, termAt, bodyAt}
+use Rattle.meaning.specs.Descriptions.{Term, act, tau, ref, sum, cond, choice, ifelse, seq, merge, lmerge}
+use Rattle.meaning.specs.Descriptions.{sync, wrap, Order, Description, names, termAt, bodyAt}
 use Rattle.meaning.specs.Legal.{LegalOperator, MultiAction, LegalTerm, Legal}
 use Rattle.meaning.specs.Rounds.{image, shape, InSet}
-use Rattle.meaning.specs.Runs.{State, ended, term, followed, beside, within, Step, by-act, by-tau, by-ref, by-sum, by-cond, by-choice-left, by-choice-right, by-ifelse-left, by-ifelse-right, by-seq, by-merge, by-lmerge, by-sync, by-operator, before, after, on-left, on-right, on-both, inner, Run, stop, go, OnRun}
+use Rattle.meaning.specs.Runs.{State, ended, term, followed, beside, within, Step, by-act, by-tau, by-ref, by-sum, by-cond}
+use Rattle.meaning.specs.Runs.{by-choice-left, by-choice-right, by-ifelse-left, by-ifelse-right, by-seq, by-merge, by-lmerge, by-sync}
+use Rattle.meaning.specs.Runs.{by-operator, before, after, on-left, on-right, on-both, inner, Run, stop, go, OnRun}
 use Rattle.meaning.proofs.Members.{Through, Sum}
 use Rattle.meaning.proofs.Made.{Made, sum-grows}
 use Rattle.meaning.proofs.Operators.{acts-image}
@@ -148,5 +151,5 @@ module _ (d : Description) (o : Order) (legal : Legal d o) where
   run-shows {s = s} h (go p more) a (inl e) = subst (λ (b : Label). Can d s b) (sym e) (kept h p .shown)
   run-shows h (go p more) a (inr m) = let k = kept h p in k .rest a (run-shows (k .fine) more a m)
 
-  pub sound : (a : Label) → OnRun d a → InSet d (d .root) a
-  sound a x = run-shows tt (x .run) a (x .met)
+  pub onRun→inSet : (a : Label) → OnRun d a → InSet d (d .root) a
+  onRun→inSet a x = run-shows tt (x .run) a (x .met)

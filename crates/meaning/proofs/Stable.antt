@@ -31,14 +31,16 @@ stays-more d k e zero = rw (add-zero k)
 stays-more d k e (suc more) =
     rw (add-suc k more) (next-same d (suc (k + more)) (suc k) (ap (bodySets d) (stays-more d k e more)) ∙ next-same d (suc k) k e)
 
-pub stays : (d : Description) (k : ℕ) → Stable d k → (j : ℕ) → k ≤ j → roundSets d (suc j) ≡ roundSets d (suc k)
-stays d k e j h = let x = le-dest h in subst (λ (i : ℕ). roundSets d (suc i) ≡ roundSets d (suc k)) (x .1) (stays-more d k e (x .0))
+pub roundSets-stable : (d : Description) (k : ℕ) → Stable d k → (j : ℕ) → k ≤ j → roundSets d (suc j) ≡ roundSets d (suc k)
+roundSets-stable d k e j h =
+    let x = le-dest h in
+    subst (λ (i : ℕ). roundSets d (suc i) ≡ roundSets d (suc k)) (x .1) (stays-more d k e (x .0))
 
 -- Every round lies within the one that follows a stable round.
 pub all-rounds : (d : Description) (k : ℕ) → Stable d k → (j : ℕ) → AllWithin (roundSets d j) (roundSets d (suc k))
 all-rounds d k e j t a m =
     let later = rounds-grow d j (suc (k + j)) (omega arith) t a m in
-    subst (λ (sets : List (List Label)). a ∈ at sets t) (stays d k e (k + j) (omega arith)) later
+    subst (λ (sets : List (List Label)). a ∈ at sets t) (roundSets-stable d k e (k + j) (omega arith)) later
 
 pub union-is-stable : (d : Description) (k : ℕ) → Stable d k → (t : ℕ) (a : Label) → InSet d t a ↔ (a ∈ at (roundSets d (suc k)) t)
 union-is-stable d k e t a = (λ x. all-rounds d k e (x .round) t a (x .there), λ m. record { round = suc k; there = m })

@@ -2,8 +2,9 @@
 -- Assumes nothing.
 use mathlib.Core.Path.{_≡_, refl, ap}
 use mathlib.Core.Logic.{_⊎_, inl, inr}
-use mathlib.Core.Bool.{Bool, true, false, _&&_, _||_}
-use Prim.Native.Nat.{ℕ, zero, suc, _<_, zero-le, suc-le-suc, compare, Ordering, Ordering·lt, Ordering·eq, Ordering·gt, compare·zero-suc, compare·suc-zero, compare·suc-suc}
+use mathlib.Core.Bool.{Bool, true, false, _&&_, _||_, true≢false}
+use Prim.Native.Nat.{ℕ, zero, suc, _<_, zero-le, suc-le-suc, compare, Ordering, Ordering·lt, Ordering·eq}
+use Prim.Native.Nat.{Ordering·gt, compare·zero-suc, compare·suc-zero, compare·suc-suc}
 use lib.Dec.{T}
 
 pub and-left : (b c : Bool) → T (b && c) → T b
@@ -29,6 +30,15 @@ or-left false c t = absurd t
 pub or-right : (b c : Bool) → T c → T (b || c)
 or-right true c t = tt
 or-right false c t = t
+
+-- The same of what a test of either came to.
+pub or-true→ : (b c : Bool) → (b || c) ≡ true → (b ≡ true) ⊎ (c ≡ true)
+or-true→ true c e = inl refl
+or-true→ false c e = inr e
+
+pub or-false→ : (b c : Bool) → (b || c) ≡ false → (b ≡ false) × (c ≡ false)
+or-false→ true c e = absurd (true≢false e)
+or-false→ false c e = (refl, e)
 
 -- A test passes or fails.
 pub decided-by : (b : Bool) → T b ⊎ (T b → ⊥)

@@ -23,7 +23,7 @@ use Rattle.meaning.proofs.Growth.{Wide, rounds-widen}
 use Rattle.meaning.proofs.Operators.{allowed→, →allowed}
 use Rattle.meaning.proofs.Answers.{answer-right}
 use Rattle.meaning.proofs.Listings.{set-held}
-use Rattle.meaning.proofs.Soundness.{sound}
+use Rattle.meaning.proofs.Soundness.{onRun→inSet}
 
 -- A filter that lets more through gives more: said once, for allow lists that gain and block lists that lose.
 keep-grows : (p q : Label → Bool) → ((a : Label) → T (p a) → T (q a)) → (a b : Label) → b ∈ keep p a → b ∈ keep q a
@@ -102,7 +102,7 @@ tightening d o d′ o′ legal legal′ w rounds labels e =
     record {
       answered = answered-unless d o (answer d o) (answer-right d o) within;
       covered = λ a run allowed.
-          let there = sound d o legal a run in
+          let there = onRun→inSet d o legal a run in
           let there′ = subst (λ (t : ℕ). InSet d′ t a) (w .root) (sets-widen d o d′ o′ w (d .root) a there) in
           right .exactly a .1 (there′, w .orders a (set-held d within (d .root) a there) allowed);
     }

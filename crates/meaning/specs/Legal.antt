@@ -9,7 +9,8 @@ use lib.Dec.{T}
 use lib.ListN.{length}
 use Rattle.meaning.specs.Labels.{Label, size, number}
 use Rattle.meaning.specs.Sets.{Rising}
-use Rattle.meaning.specs.Descriptions.{Pair, Rule, Operator, block, hide, rename, comm, allow, Term, act, tau, delta, ref, sum, cond, choice, ifelse, seq, merge, lmerge, sync, wrap, Order, all, only, Description, names, termCount, equations, termAt}
+use Rattle.meaning.specs.Descriptions.{Pair, Rule, Operator, block, hide, rename, comm, allow, Term, act, tau, delta, ref, sum, cond, choice, ifelse, seq}
+use Rattle.meaning.specs.Descriptions.{merge, lmerge, sync, wrap, Order, all, only, Description, names, termCount, equations, termAt}
 
 abbrev pub Each : {A : Type 0} → (A → Type 0) → List A → Type 0
 Each P [] = Unit {0}

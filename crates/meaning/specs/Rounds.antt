@@ -8,7 +8,8 @@ use Prim.Native.Nat.{ℕ, zero, suc, pred, _≤_, _<_}
 use lib.Dec.{eqb}
 use Rattle.meaning.specs.Labels.{Label, size, empty, single, isTau, plus, minus, inside, clear, without, renamed}
 use Rattle.meaning.specs.Sets.{_∈_, at, member, ascending, spread, keep, turn, product}
-use Rattle.meaning.specs.Descriptions.{Pair, Rule, Operator, block, hide, rename, comm, allow, Term, act, tau, delta, ref, sum, cond, choice, ifelse, seq, merge, lmerge, sync, wrap, Description, names, termCount, termAt}
+use Rattle.meaning.specs.Descriptions.{Pair, Rule, Operator, block, hide, rename, comm, allow, Term, act, tau, delta, ref, sum, cond, choice}
+use Rattle.meaning.specs.Descriptions.{ifelse, seq, merge, lmerge, sync, wrap, Description, names, termCount, termAt}
 
 -- one of two, by a test
 abbrev pub pick : {A : Type 0} → Bool → A → A → A

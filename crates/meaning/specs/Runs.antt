@@ -8,7 +8,8 @@ use Prim.Native.Nat.{ℕ}
 use lib.Dec.{T}
 use Rattle.meaning.specs.Labels.{Label, count, size, empty, single, plus, minus, inside, without, renamed}
 use Rattle.meaning.specs.Sets.{_∈_}
-use Rattle.meaning.specs.Descriptions.{Rule, Operator, block, hide, rename, comm, allow, act, tau, ref, sum, cond, choice, ifelse, seq, merge, lmerge, sync, wrap, Description, names, termAt, bodyAt}
+use Rattle.meaning.specs.Descriptions.{Rule, Operator, block, hide, rename, comm, allow, act, tau, ref, sum, cond, choice, ifelse}
+use Rattle.meaning.specs.Descriptions.{seq, merge, lmerge, sync, wrap, Description, names, termAt, bodyAt}
 use Rattle.meaning.specs.Rounds.{target}
 
 -- What is left to do: nothing, a term, a state that a term follows, two states side by side (a merge), a state within an operator.

@@ -12,11 +12,11 @@ fn write_digits(text: &mut [u8], n: usize) -> usize
     ensures { λ r. ⌜ Written (decimal n) (now (text .entry)) (now (text .exit)) r ⌝ }
 {
     if n < 10 {
-        text[0] = 48 + n as u8;
+        text[0] = b'0' + n as u8;
         return 1;
     }
     let at = write_digits(text, n / 10);
-    text[at] = 48 + (n % 10) as u8;
+    text[at] = b'0' + (n % 10) as u8;
     at + 1
 }
 

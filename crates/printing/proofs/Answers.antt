@@ -1,6 +1,6 @@
 -- The text of an answer: its head and the lines of its labels, and whether both fit.
 -- Assumes nothing.
-use mathlib.Core.Path.{_≡_, sym, ap, _∙_}
+use mathlib.Core.Path.{_≡_, sym, ap, _∙_, _≡⟨_⟩_, _∎}
 use mathlib.Core.Bool.{Bool}
 use mathlib.Core.List.{List, _∷_, _++_, append-assoc, map}
 use Prim.Native.Nat.{ℕ, _+_, _-_, _≤_}
@@ -10,6 +10,7 @@ use borrow.Author.Tests.{le-leb, lt-leb}
 use lib.Dec.{leb}
 use lib.ListN.{length, length-append, length-map}
 use Rattle.meaning.specs.Bytes.{Text, ascii}
+use Rattle.grammar.specs.Forms.{lf}
 use Rattle.grammar.specs.Marks.{decimal}
 use Rattle.grammar.specs.Printed.{line, answerText}
 use Rattle.label_texts.specs.Packed.{wordsOf, countsOf}
@@ -37,7 +38,7 @@ module _ (names : List ℕ) (rounds : ℕ) (labels : List ℕ) where
   unfolding answerText answerHead
   answer-joined =
       rw (length-map labels countsOf)
-      (ap (λ (s : Text). ascii "answer=ok" ++ (10 ∷ s))
+      (ap (λ (s : Text). ascii "answer=ok" ++ (lf ∷ s))
       (append-assoc (line (ascii "rounds=") (decimal rounds)) (line (ascii "labels=") (decimal (length labels))) (linesFrom names labels 0)))
 
   pub length-joined : length packedAnswer ≡ length (answerHead rounds (length labels)) + length (linesFrom names labels 0)
@@ -45,6 +46,9 @@ module _ (names : List ℕ) (rounds : ℕ) (labels : List ℕ) where
 
   pub answer-fits : (room : ℕ) {size : ℕ} {b : Bool} → size ≡ length (answerHead rounds (length labels)) → size ≤ room →
       b ≡ leb (length (linesFrom names labels 0)) (room - size) → b ≡ leb (length packedAnswer) room
-  answer-fits room {size} e h t =
+  answer-fits room {size} {b} e h t =
       let lines = length (linesFrom names labels 0) in
-      t ∙ leb-behind size lines room h ∙ ap (λ (n : ℕ). leb n room) (ap (λ (k : ℕ). k + lines) e ∙ sym length-joined)
+      b
+      ≡⟨ t ⟩ leb lines (room - size)
+      ≡⟨ leb-behind size lines room h ⟩ leb (size + lines) room
+      ≡⟨ ap (λ (n : ℕ). leb n room) (ap (λ (k : ℕ). k + lines) e ∙ sym length-joined) ⟩ leb (length packedAnswer) room ∎

@@ -1,7 +1,7 @@
 -- For callers: what is printed over the twelve packed names and the packed labels is what is printed over a description's own
 -- words and labels. A name that is not there has count 0 and prints nothing.
 -- Assumes nothing.
-use mathlib.Core.Path.{_≡_, refl, sym, ap, ap₂, _∙_}
+use mathlib.Core.Path.{_≡_, refl, sym, ap, ap₂, _∙_, _≡⟨_⟩_, _∎}
 use mathlib.Core.List.{List, [], _∷_, _++_, map}
 use Prim.Native.Nat.{ℕ, zero, suc, _+_, _*_, _/_, _%_, _≤_, _<_, zero-le}
 use native.Mathlib.Nat.{suc-inj, le-of-suc-le-suc}
@@ -44,8 +44,16 @@ unpacked (suc k) (b ∷ s) h e =
 same-part : (w : Text) (x : ℕ) (vs ws : List Text) (a b : Label) → partTexts vs a ≡ partTexts ws b → partTexts (w ∷ vs) (x ∷ a) ≡ partTexts (w ∷ ws) (x ∷ b)
 same-part w x vs ws a b rest =
     elim (ℕ-discrete x 0) [
-      | yes e ↦ partTexts-zero w vs x a e ∙ rest ∙ sym (partTexts-zero w ws x b e)
-      | no d ↦ partTexts-some w vs x a d ∙ ap {B = List Text} (λ ts. partText w x ∷ ts) rest ∙ sym (partTexts-some w ws x b d)
+      | yes e ↦
+          partTexts (w ∷ vs) (x ∷ a)
+          ≡⟨ partTexts-zero w vs x a e ⟩ partTexts vs a
+          ≡⟨ rest ⟩ partTexts ws b
+          ≡⟨ sym (partTexts-zero w ws x b e) ⟩ partTexts (w ∷ ws) (x ∷ b) ∎
+      | no d ↦
+          partTexts (w ∷ vs) (x ∷ a)
+          ≡⟨ partTexts-some w vs x a d ⟩ partText w x ∷ partTexts vs a
+          ≡⟨ ap {B = List Text} (λ ts. partText w x ∷ ts) rest ⟩ partText w x ∷ partTexts ws b
+          ≡⟨ sym (partTexts-some w ws x b d) ⟩ partTexts (w ∷ ws) (x ∷ b) ∎
     ]
 
 same-parts : (k : ℕ) (ws : List Text) (a : Label) → length ws ≤ k → Each Bytes ws → Fits ws a →

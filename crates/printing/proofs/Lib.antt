@@ -1,12 +1,13 @@
 -- The computed cases, then the laws that the writers' proofs cite, each file after those that it cites.
+-- packed-listing: the listing of README.md, printed over packed names and labels
 pub mod Cases
--- A line: its key, its value and its end
+-- length-line, key→underway, value→ended, length-head: a line's key, value and end, one behind the other
 pub mod Line
--- The labels' lines: the first of those to come, and those behind it
+-- lines-step, lines-end, length-lines, lines-short: the first of the labels' lines to come, and those behind it
 pub mod LabelLines
--- An answer: its head and its labels' lines
+-- answer-joined, length-joined, answer-fits: an answer is its head and its labels' lines
 pub mod Answers
--- For callers: what is printed over packed words is what is printed over a description's own
+-- same-answer: for callers, what is printed over packed words is what is printed over a description's own
 pub mod Callers
--- For callers: how long a text can be, and that what is answered lies within the area
+-- length-answer, length-refusal, printed-within: for callers, how long a text can be
 pub mod Lengths

@@ -3,6 +3,7 @@
 use mathlib.Core.List.{[], _∷_, _++_}
 use Prim.Native.Nat.{ℕ}
 use Rattle.meaning.specs.Bytes.{Text, ascii}
+use Rattle.grammar.specs.Forms.{lf}
 use Rattle.grammar.specs.Marks.{decimal}
 use Rattle.grammar.specs.Printed.{line}
 
@@ -12,4 +13,4 @@ headText said key n next m = said ++ (line key (decimal n) ++ line next (decimal
 
 -- What stands before the lines of an answer's labels.
 unfoldable pub answerHead : ℕ → ℕ → Text
-answerHead rounds count = headText (ascii "answer=ok" ++ (10 ∷ [])) (ascii "rounds=") rounds (ascii "labels=") count
+answerHead rounds count = headText (ascii "answer=ok" ++ (lf ∷ [])) (ascii "rounds=") rounds (ascii "labels=") count

@@ -65,6 +65,9 @@ pub(crate) fn write_label_lines(text: &mut [u8], names: [u64; NAMES], labels: &[
     at
 }
 
+// `label=` before a label and the line's end behind it.
+const AROUND_A_LABEL: usize = 7;
+
 // A label of the longest, with the bytes around it.
 const LONGEST_LINE: usize = 151;
 
@@ -79,7 +82,7 @@ pub(crate) fn label_lines_fit(names: [u64; NAMES], labels: &[u64], room: usize) 
     let mut left = room;
     let mut i = 0;
     while i < labels.len() {
-        let size = label_length(names, labels[i]) + 7;
+        let size = label_length(names, labels[i]) + AROUND_A_LABEL;
         if left < size {
             return false;
         }

@@ -14,10 +14,12 @@ use Rattle.meaning.specs.Labels.{Label}
 use Rattle.meaning.specs.Descriptions.{Description, Order}
 use Rattle.meaning.specs.Limits.{PassesLimit}
 use Rattle.meaning.specs.Answers as A
-use Rattle.meaning.specs.Answers.{Outcome, tooLarge, listed, Lists, Answers, Fault, form, name, range, amount, operand, Refusal, tooLong, inLine, large, reasonOf, Verdict}
+use Rattle.meaning.specs.Answers.{Outcome, tooLarge, listed, Lists, Answers, Fault, form, name, range, amount}
+use Rattle.meaning.specs.Answers.{operand, Refusal, tooLong, inLine, large, reasonOf, Verdict}
 use Rattle.meaning.specs.Widening.{Widens}
+use Rattle.meaning.proofs.Tests.{or-true→, or-false→}
 use Rattle.meaning.proofs.Alike.{alike-through}
-use Rattle.meaning.proofs.Answers.{answer-right, answer-only}
+use Rattle.meaning.proofs.Answers.{reason-eq, labels-eq, answer-right, answer-only}
 use Rattle.meaning.proofs.Widening as W
 use Rattle.meaning.proofs.Widening.{tightening}
 use Rattle.grammar.specs.Reading.{Reading, read, overlong, badLine, readText}
@@ -25,23 +27,21 @@ use Rattle.grammar.proofs.Acceptance.{accepted→}
 use Rattle.grammar.proofs.Lengths.{overlong→, →overlong}
 use Rattle.grammar.specs.Printed.{answerText, refusedText}
 use Rattle.grammar.specs.Areas.{withStart}
-use Rattle.rimecutter.specs.Calls.{Call, refusing, answering, workWords, answerWords, tooShort, ofOutcome, ofReading, unlessShort, call, verdictOf, textOf}
+use Rattle.rimecutter.specs.Calls.{Call, refusing, answering, workWords, answerWords, tooShort, ofOutcome}
+use Rattle.rimecutter.specs.Calls.{ofReading, unlessShort, call, ownCall, verdictOf, textOf}
 use Rattle.rimecutter.specs.Answers.{Settled}
 use Rattle.rimecutter.specs.Refusals.{Roomy, Large, Due}
-use Rattle.rimecutter.specs.Demands.{Made, verdict, DueOf, Answered, RefusedWith, Refused, Listing, Right, Safe, Called, textDue, Holds, numberOf, SaysOk, SafeText}
+use Rattle.rimecutter.specs.Demands.{Made, verdict, DueOf, Answered, RefusedWith, Refused, Listing, Right, Safe}
+use Rattle.rimecutter.specs.Demands.{Called, textDue, Holds, numberOf, SaysOk, SafeText}
 use Rattle.rimecutter.proofs.Texts.{refusals-numbered, faults-below}
 
-pub reason-eq : {v w : Verdict} → v ≡ w → v .reason ≡ w .reason
-reason-eq e = ap (λ (v : Verdict). v .reason) e
-
 -- Areas: the test, and what it says.
-or-cases : (a b : Bool) → (a || b) ≡ true → (a ≡ true) ⊎ (b ≡ true)
-or-cases true b e = inl refl
-or-cases false b e = inr e
-
 pub short→ : {work answer : ℕ} → tooShort work answer ≡ true → (work < workWords) ⊎ (answer < answerWords)
 short→ {work} {answer} e =
-    elim (or-cases (ltb work workWords) (ltb answer answerWords) e) [ inl x ↦ inl (ltb-true work workWords x) | inr x ↦ inr (ltb-true answer answerWords x) ]
+    elim (or-true→ (ltb work workWords) (ltb answer answerWords) e) [
+      | inl x ↦ inl (ltb-true work workWords x)
+      | inr x ↦ inr (ltb-true answer answerWords x)
+    ]
 
 pub →short : {work answer : ℕ} → (work < workWords) ⊎ (answer < answerWords) → tooShort work answer ≡ true
 →short {work = work} {answer = answer} (inl h) = rw (lt-ltb work workWords h)
@@ -56,12 +56,8 @@ roomy→ {work} {answer} r = rw (le-ltb work workWords (r .works), le-ltb answer
 
 pub →roomy : {work answer : ℕ} → tooShort work answer ≡ false → Roomy work answer
 →roomy {work} {answer} e =
-    let fits = or-false (ltb work workWords) (ltb answer answerWords) e in
+    let fits = or-false→ (ltb work workWords) (ltb answer answerWords) e in
     record { works = ltb-false work workWords (fits .0); answers = ltb-false answer answerWords (fits .1) }
-  where
-    or-false : (a b : Bool) → (a || b) ≡ false → (a ≡ false) × (b ≡ false)
-    or-false true b x = let z : _≡_ {A = ℕ} 0 1 = cc in absurd (omega arith)
-    or-false false b x = (refl, x)
 
 -- What a call comes to, from the input.
 module _ (text : Text) (work answer : ℕ) where
@@ -166,8 +162,8 @@ answered-roomy m a = by (tooShort (length (m .work)) (length (m .answer))) refl
     by false e = →roomy e
 
 -- Demand 2, by the outcome.
-pub right : (m : Made) {d : Description} {o : Order} → readText (m .text) ≡ read d o → Roomy (length (m .work)) (length (m .answer)) → Right m d o
-right m {d} {o} reads roomy =
+pub read→right : (m : Made) {d : Description} {o : Order} → readText (m .text) ≡ read d o → Roomy (length (m .work)) (length (m .answer)) → Right m d o
+read→right m {d} {o} reads roomy =
     by (A.answer d o) (answer-right d o)
     (subst (Settles m) (call-read (m .text) (length (m .work)) (length (m .answer)) roomy reads) (m .kept))
   where
@@ -194,8 +190,8 @@ answered-few : (d : Description) (o : Order) → W.Answered (A.answer d o) → P
 answered-few d o x p = let e = answer-only d o tooLarge p ∙ x .is in let z : _≡_ {A = ℕ} 0 1 = cc in omega arith
 
 module _ (m m′ : Made) {d d′ : Description} {o o′ : Order} (reads : readText (m .text) ≡ read d o) (reads′ : readText (m′ .text) ≡ read d′ o′) where
-  pub safe : Widens d o d′ o′ → Roomy (length (m .work)) (length (m .answer)) → Answered m′ → Safe m m′ d o
-  safe w roomy a =
+  pub widens→safe : Widens d o d′ o′ → Roomy (length (m .work)) (length (m .answer)) → Answered m′ → Safe m m′ d o
+  widens→safe w roomy a =
       let same : read d′ o′ ≡ read (a .given) (a .order) = sym reads′ ∙ a .reads in
       let lists : Lists d′ o′ (a .rounds) (a .labels) = subst (λ (x : Reading). ListsOf x (a .rounds) (a .labels)) (sym same) (a .lists) in
       let legal = accepted→ (m .text) d o reads .1 in
@@ -203,16 +199,16 @@ module _ (m m′ : Made) {d d′ : Description} {o o′ : Order} (reads : readTe
       let tight = tightening d o d′ o′ legal legal′ w (a .rounds) (a .labels) (sym (answer-only d′ o′ (listed (a .rounds) (a .labels)) lists)) in
       let few : PassesLimit d → ⊥ = λ p. answered-few d o (tight .answered) p in
       record {
-        answered = reason-eq (right m reads roomy .listing few .says);
+        answered = reason-eq (read→right m reads roomy .listing few .says);
         listed-labels = a .labels;
         shown = a .answers;
-        count = ap (λ (v : Verdict). v .labels) (a .says);
+        count = labels-eq (a .says);
         covered = tight .covered;
       }
 
 -- What a call for C printed.
-pub printed : (c : Called) → Holds c → c .area′ ≡ withStart (textDue c) (c .area)
-printed c holds = shown-if (leb (length (textDue c)) (length (c .area))) (le→leb (length (textDue c)) (length (c .area)) holds) (c .kept .area)
+pub holds→shown : (c : Called) → Holds c → c .area′ ≡ withStart (textDue c) (c .area)
+holds→shown c holds = shown-if (leb (length (textDue c)) (length (c .area))) (le→leb (length (textDue c)) (length (c .area)) holds) (c .kept .area)
   where
     shown-if : (b : Bool) → T b → c .area′ ≡ elim b [ true ↦ withStart (textDue c) (c .area) | false ↦ c .area ] → c .area′ ≡ withStart (textDue c) (c .area)
     shown-if true t e = e
@@ -244,17 +240,19 @@ module _ (c c′ : Called) {d d′ : Description} {o o′ : Order} (reads : read
       let first = call-read (c .text) workWords answerWords own reads ∙ ap (ofOutcome d) (tight .answered .is) in
       let second = call-read (c′ .text) workWords answerWords own reads′ ∙ ap (ofOutcome d′) e in
       record {
-        answered = subst SaysOk (sym (printed c holds ∙ ap text first)) (answer-ok (d .words) (tight .answered .rounds) (tight .answered .labels) (c .area));
+        answered =
+            subst SaysOk (sym (holds→shown c holds ∙ ap text first))
+            (answer-ok (d .words) (tight .answered .rounds) (tight .answered .labels) (c .area));
         rounds = rounds;
         listed-labels = labels;
-        shown = printed c′ holds′ ∙ ap text′ second;
+        shown = holds→shown c′ holds′ ∙ ap text′ second;
         covered = tight .covered;
       }
 
   pub safe-texts : Widens d o d′ o′ → SaysOk (c′ .area′) → SafeText c c′ d o d′
   safe-texts w ok =
       let text′ : Call → Text = λ x. withStart (textOf x) (c′ .area) in
-      safe-text w (A.answer d′ o′) refl (subst SaysOk (printed c′ holds′ ∙ ap text′ (call-read (c′ .text) workWords answerWords own reads′)) ok)
+      safe-text w (A.answer d′ o′) refl (subst SaysOk (holds→shown c′ holds′ ∙ ap text′ (call-read (c′ .text) workWords answerWords own reads′)) ok)
 
 -- Refusal 8: no text is empty, and no other number is 8.
 text-some : (c : Call) → 1 ≤ length (textOf c)
@@ -270,7 +268,7 @@ verdict-below (answering words rounds labels) = omega arith
 
 module _ (c : Called) where
   abbrev coming : Call
-  coming = call (c .text) workWords answerWords
+  coming = ownCall (c .text)
 
   by-fit : (fits : Bool)
       → c .size ≡ elim fits [ true ↦ length (textDue c) | false ↦ 0 ]

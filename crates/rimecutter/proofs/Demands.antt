@@ -10,10 +10,12 @@ use Rattle.meaning.specs.Descriptions.{Description, Order}
 use Rattle.meaning.specs.Answers as A
 use Rattle.meaning.specs.Answers.{Refusal}
 use Rattle.meaning.specs.Widening.{Widens}
+use Rattle.meaning.proofs.Answers.{reason-eq}
 use Rattle.grammar.specs.Reading.{read, readText}
 use Rattle.rimecutter.specs.Refusals.{Roomy, Large, Due}
 use Rattle.rimecutter.specs.Demands.{Made, verdict, DueOf, Answered, RefusedWith, Refused, Right, Safe, Called, Holds, numberOf, SaysOk, SafeText}
-use Rattle.rimecutter.proofs.DemandSteps.{reason-eq, due→, refused-by, answered-or-refused, refusal-unique, no-answer, answered-roomy, right, seven-large, safe, safe-texts, no-room}
+use Rattle.rimecutter.proofs.DemandSteps.{due→, refused-by, answered-or-refused, refusal-unique, no-answer}
+use Rattle.rimecutter.proofs.DemandSteps.{answered-roomy, read→right, seven-large, widens→safe, safe-texts, no-room}
 
 -- Demand 1. Every input gets an answer or a refusal that was due, never both.
 pub demand-1 : (m : Made) → Answered m ⊎ Refused m
@@ -55,7 +57,7 @@ pub demand-2 : (m : Made) {d : Description} {o : Order}
     → readText (m .text) ≡ read d o
     → Roomy (length (m .work)) (length (m .answer))
     → Right m d o
-demand-2 m reads roomy = right m reads roomy
+demand-2 m reads roomy = read→right m reads roomy
 
 pub large-only : (m : Made)
     → verdict m .reason ≡ 7
@@ -76,7 +78,7 @@ pub demand-3 : (m m′ : Made) {d d′ : Description} {o o′ : Order}
     → verdict m′ .reason ≡ 0
     → Safe m m′ d o
 demand-3 m m′ reads reads′ w works answers zero = elim (demand-1 m′) [
-  | inl a ↦ safe m m′ reads reads′ w (rw (works, answers) (answered-roomy m′ a)) a
+  | inl a ↦ widens→safe m m′ reads reads′ w (rw (works, answers) (answered-roomy m′ a)) a
   | inr x ↦ absurd (no-answer (x .refusal) (sym (reason-eq (x .refused .says)) ∙ zero))
 ]
 

@@ -1,14 +1,15 @@
 -- From what reading and the rounds answer to what a call leaves.
 -- Assumes nothing.
-use mathlib.Core.Path.{_≡_, refl, sym, ap, ap₂, subst, _∙_}
-use mathlib.Core.Bool.{Bool, true, false, _||_, true≢false}
+use mathlib.Core.Path.{_≡_, refl, sym, ap, ap₂, subst, _∙_, _≡⟨_⟩_, _∎}
+use mathlib.Core.Bool.{Bool, true, false}
 use lib.Dec.{ltb}
 use borrow.Author.Tests.{ltb-false, le-leb}
-use mathlib.Core.List.{List, _++_, map, append-nil}
+use mathlib.Core.List.{List, [], _++_, map, append-nil}
 use Prim.Native.Nat.{ℕ, _≤_}
 use native.Mathlib.Omega.{arith}
 use lib.ListN.{length, drop, length-map, drop-of-length-le}
 use Rattle.meaning.specs.Bytes.{Text}
+use Rattle.meaning.proofs.Tests.{or-false→}
 use Rattle.meaning.specs.Labels.{number}
 use Rattle.meaning.specs.Descriptions as D
 use Rattle.meaning.specs.Answers as A
@@ -30,13 +31,9 @@ use Rattle.rounds.specs.declared.Answer as R
 use Rattle.rounds.specs.Alphabets as Q
 use Rattle.rounds.specs.Alphabets.{alphabetOf, Answered}
 use Rattle.reading.specs.Stored.{faultFor, readFor, storeFor, withRoom, readWith, Stored}
-use Rattle.rimecutter.specs.Calls.{Call, refusing, tooShort, ofOutcome, ofReading, unlessShort, call, cleared, answerWords}
+use Rattle.rimecutter.specs.Calls.{Call, refusing, tooShort, ofOutcome, ofReading, unlessShort, call, cleared, workWords, answerWords}
 use Rattle.rimecutter.specs.Answers.{verdictFor, Responded}
 use Rattle.rimecutter.specs.Steps.{answerFor}
-
-or-false : (a b : Bool) → (a || b) ≡ false → (a ≡ false) × (b ≡ false)
-or-false true b e = absurd (true≢false e)
-or-false false b e = (refl, e)
 
 abbrev IsFine : B.Answer → Type 0
 IsFine Fine = Unit {0}
@@ -65,6 +62,10 @@ fault-back A.range = refl
 fault-back A.amount = refl
 fault-back A.operand = refl
 
+-- equal readings say the same
+answer-eq : {x y : Read} → x ≡ y → x .answer ≡ y .answer
+answer-eq e = ap (λ (y : Read). y .answer) e
+
 responded : (c c′ : Call) (work work′ answer answer′ : List ℕ) (r : Response) → c ≡ c′ → Responded c′ work work′ answer answer′ r
     → Responded c work work′ answer answer′ r
 responded c c′ work work′ answer answer′ r e h = subst (λ (x : Call). Responded x work work′ answer answer′ r) (sym e) h
@@ -87,10 +88,10 @@ module _ (text : Text) (work answer : List ℕ) where
     unfolding call
     by-reading = ap (λ (b : Bool). unlessShort b (readText text)) long
 
-    room : (4096 ≤ length work) × (1024 ≤ length answer)
+    room : (workWords ≤ length work) × (answerWords ≤ length answer)
     room =
-        let fits = or-false (ltb (length work) 4096) (ltb (length answer) 1024) long in
-        (ltb-false (length work) 4096 (fits .0), ltb-false (length answer) 1024 (fits .1))
+        let fits = or-false→ (ltb (length work) workWords) (ltb (length answer) answerWords) long in
+        (ltb-false (length work) workWords (fits .0), ltb-false (length answer) answerWords (fits .1))
 
     -- What reading answers, over a store of just its words.
     module _ (before after : List ℕ) (r : Read) (whole : length before ≡ 3104) (done : Stored text before after r) where
@@ -109,27 +110,27 @@ module _ (text : Text) (work answer : List ℕ) where
         where
           told : (x : Reading) → readText text ≡ x → called ≡ ofReading x → r ≡ readFor x
               → Responded called work work answer answer (record { answer = C.TooLong; names = names })
-          told (read d o) t c h = absurd (subst IsFine (ap (λ (y : Read). y .answer) (sym h) ∙ e) tt)
+          told (read d o) t c h = absurd (subst IsFine (answer-eq (sym h) ∙ e) tt)
           told overlong t c h =
               responded called (refusing tooLong) work work answer answer (record { answer = C.TooLong; names = names }) c
               (record { settled = record { verdict = refl; works = refl; answers = refl }; names = tt })
-          told (badLine f l) t c h = absurd (subst IsBad (ap (λ (y : Read). y .answer) (sym h) ∙ e) tt)
+          told (badLine f l) t c h = absurd (subst IsBad (answer-eq (sym h) ∙ e) tt)
 
-      pub bad-responded : (names work′ : List ℕ) (f : F.Fault) (l : ℕ) → r .answer ≡ Bad f l → work′ ≡ zeroed 4096 work
+      pub bad-responded : (names work′ : List ℕ) (f : F.Fault) (l : ℕ) → r .answer ≡ Bad f l → work′ ≡ zeroed workWords work
           → Responded called work work′ answer answer (record { answer = C.Bad f l; names = names })
       bad-responded names work′ f l e w = told (readText text) refl by-reading answers
         where
           told : (x : Reading) → readText text ≡ x → called ≡ ofReading x → r ≡ readFor x
               → Responded called work work′ answer answer (record { answer = C.Bad f l; names = names })
-          told (read d o) t c h = absurd (subst IsFine (ap (λ (y : Read). y .answer) (sym h) ∙ e) tt)
-          told overlong t c h = absurd (subst IsBad (sym e ∙ ap (λ (y : Read). y .answer) h) tt)
+          told (read d o) t c h = absurd (subst IsFine (answer-eq (sym h) ∙ e) tt)
+          told overlong t c h = absurd (subst IsBad (sym e ∙ answer-eq h) tt)
           told (badLine g m) t c h =
-              let k : Bad (faultFor g) m ≡ Bad f l = ap (λ (y : Read). y .answer) (sym h) ∙ e in
+              let k : Bad (faultFor g) m ≡ Bad f l = answer-eq (sym h) ∙ e in
               responded called (refusing (inLine g m)) work work′ answer answer (record { answer = C.Bad f l; names = names }) c
               (record {
                 settled = record {
                   verdict = sym (ap₂ (λ (x : A.Fault) (y : ℕ). A.refused (inLine x y)) (sym (fault-back g) ∙ ap faultIn k) (ap lineIn k));
-                  works = w ∙ zeroed-front 4096 work (room .0);
+                  works = w ∙ zeroed-front workWords work (room .0);
                   answers = refl;
                 };
                 names = tt;
@@ -161,10 +162,14 @@ module _ (text : Text) (work answer : List ℕ) where
                 → Responded called work work′ answer answer′ (record { answer = a; names = r .table .names })
             told (read d o) t c h s =
                 let all : length before ≤ 3104 = omega (arith, whole) in
-                let store : after ≡ storeOf d o = s ∙ ap (λ (ws : List ℕ). storeOf d o ++ ws) (drop-of-length-le before all) ∙ append-nil (storeOf d o) in
+                let store = after
+                ≡⟨ s ⟩ storeOf d o ++ drop 3104 before
+                ≡⟨ ap (λ (ws : List ℕ). storeOf d o ++ ws) (drop-of-length-le before all) ⟩ storeOf d o ++ []
+                ≡⟨ append-nil (storeOf d o) ⟩ storeOf d o ∎
+                in
                 let table = ap (λ (y : Read). y .table) h in
                 let found = worked .right d o (accepted→ text d o t .1) table store (ap (λ (y : Read). y .order) h) (room .0) (room .1) in
                 responded called (ofOutcome d (A.answer d o)) work work′ answer answer′ (record { answer = a; names = r .table .names }) c
                 (rw (ae, table) (outcome d (A.answer d o) (found .0) (found .1) (found .2)))
-            told overlong t c h s = absurd (subst IsFine (sym e ∙ ap (λ (y : Read). y .answer) h) tt)
-            told (badLine g m) t c h s = absurd (subst IsFine (sym e ∙ ap (λ (y : Read). y .answer) h) tt)
+            told overlong t c h s = absurd (subst IsFine (sym e ∙ answer-eq h) tt)
+            told (badLine g m) t c h s = absurd (subst IsFine (sym e ∙ answer-eq h) tt)

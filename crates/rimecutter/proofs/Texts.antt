@@ -1,6 +1,6 @@
 -- From what a call comes to, to the text that is printed of it.
 -- Assumes nothing.
-use mathlib.Core.Path.{_≡_, refl, sym, ap, ap₂, subst, _∙_}
+use mathlib.Core.Path.{_≡_, refl, sym, ap, ap₂, subst, _∙_, _≡⟨_⟩_, _∎}
 use mathlib.Core.Bool.{Bool, true, false, _&&_}
 use mathlib.Core.Logic.{inl, inr}
 use mathlib.Core.List.{List, [], _∷_, _++_, map}
@@ -13,16 +13,18 @@ use Rattle.printing.proofs.Lengths.{length-answer, length-refusal}
 use lib.Seq.{take-at}
 use Rattle.meaning.specs.Bytes.{Text}
 use Rattle.meaning.specs.Labels.{Label, size, number}
-use Rattle.meaning.specs.Sets.{_∈_}
 use Rattle.meaning.specs.Descriptions.{Description, Order, names}
 use Rattle.meaning.specs.Legal.{Each}
 use Rattle.meaning.specs.Answers as A
-use Rattle.meaning.specs.Answers.{Outcome, tooLarge, listed, Lists, Answers, Refusal, tooLong, inLine, large, Fault, form, name, range, amount, operand, faultNumber, reasonOf, lineOf, Verdict}
-use Rattle.meaning.proofs.Digits.{small}
-use Rattle.meaning.proofs.Answers.{answer-right}
+use Rattle.meaning.specs.Answers.{Outcome, tooLarge, listed, Lists, Answers, Refusal, tooLong, inLine, large, Fault, form}
+use Rattle.meaning.specs.Answers.{name, range, amount, operand, faultNumber, reasonOf, lineOf, Verdict}
+use Rattle.meaning.proofs.Digits.{size→small}
+use Rattle.meaning.proofs.Answers.{reason-eq, line-eq, rounds-eq, labels-eq, answer-right}
+use Rattle.meaning.proofs.Members.{each-in}
 use Rattle.meaning.proofs.Listings.{listed-held, listed-few}
 use Rattle.grammar.specs.Reading.{Reading, read, overlong, badLine, readText}
 use Rattle.grammar.specs.Writing.{inName, NameForm}
+use Rattle.grammar.proofs.Writes.{each-weaken}
 use Rattle.grammar.proofs.Acceptance.{accepted→}
 use Rattle.table.specs.Encoded.{filled, wordOf}
 use Rattle.grammar.specs.Text.{isLower, isDigit}
@@ -30,7 +32,8 @@ use Rattle.grammar.specs.Printed.{refusedText, answerText}
 use Rattle.grammar.specs.Areas.{Printed}
 use Rattle.label_texts.specs.Packed.{wordsOf, countsOf}
 use Rattle.printing.proofs.Callers.{Bytes, Fits, same-answer}
-use Rattle.rimecutter.specs.Calls.{Call, refusing, answering, workWords, answerWords, tooShort, ofOutcome, ofReading, unlessShort, call, verdictOf, answerAfter, textOf}
+use Rattle.rimecutter.specs.Calls.{Call, refusing, answering, workWords, answerWords, tooShort, ofOutcome}
+use Rattle.rimecutter.specs.Calls.{ofReading, unlessShort, call, ownCall, verdictOf, answerAfter, textOf}
 use Rattle.rimecutter.specs.Answers.{verdictFor, NamesFor, Responded}
 use Rattle.rimecutter.specs.declared.Answer.{Answer}
 use Rattle.rimecutter.specs.declared.calls.Response.{Response}
@@ -38,8 +41,8 @@ use Rattle.rimecutter.specs.declared.Answer.the-variants.{Listed}
 
 -- A refusal's text is that of its number and line.
 pub refused-text : (c : Call) (v : Verdict) → v ≡ verdictOf c → (v .reason ≡ 0 → ⊥) → textOf c ≡ refusedText (v .reason) (v .line)
-refused-text (refusing r) v e some = ap₂ refusedText (ap (λ (x : Verdict). x .reason) (sym e)) (ap (λ (x : Verdict). x .line) (sym e))
-refused-text (answering words rounds labels) v e some = absurd (some (ap (λ (x : Verdict). x .reason) e))
+refused-text (refusing r) v e some = ap₂ refusedText (reason-eq (sym e)) (line-eq (sym e))
+refused-text (answering words rounds labels) v e some = absurd (some (reason-eq e))
 
 -- No refusal has number 0.
 pub faults-numbered : (f : Fault) → 1 ≤ faultNumber f
@@ -112,9 +115,9 @@ module _ (text : Text) (words : List Text) (rounds : ℕ) (labels : List Label) 
   from-call true e = absurd (no-refusal tooLong e)
   from-call false e = from-reading (readText text) refl e
 
-  pub origin : (w a : ℕ) → call text w a ≡ this → Origin text words rounds labels
+  pub call→origin : (w a : ℕ) → call text w a ≡ this → Origin text words rounds labels
   unfolding call
-  origin w a e = from-call (tooShort w a) e
+  call→origin w a e = from-call (tooShort w a) e
 
 -- The names of a description that was read, byte by byte.
 within-byte : (low high b : ℕ) → 1 ≤ low → high < 256 → T (leb low b && leb b high) → (1 ≤ b) × (b < 256)
@@ -131,65 +134,61 @@ name-byte b t =
       | inr h ↦ within-byte 48 57 b (omega arith) (omega arith) h
     ]
 
-each-map : {A : Type 0} {P Q : A → Type 0} → ((a : A) → P a → Q a) → (xs : List A) → Each P xs → Each Q xs
-each-map f [] h = tt
-each-map f (x ∷ xs) h = (f x (h .0), each-map f xs (h .1))
-
 name-bytes : (w : Text) → NameForm w → Bytes w
 unfolding isLower
 name-bytes [] h = absurd h
 name-bytes (b ∷ w) h =
     let first = within-byte 97 122 b (omega arith) (omega arith) (h .0) in
-    (omega (arith, h .1), (first, each-map {P = λ c. T (inName c)} {Q = λ c. (1 ≤ c) × (c < 256)} name-byte w (h .2)))
-
-each-in : (P : Label → Type 0) (s : List Label) → ((a : Label) → a ∈ s → P a) → Each P s
-each-in P [] h = tt
-each-in P (a ∷ s) h = (h a (inl refl), each-in P s (λ b m. h b (inr m)))
+    (omega (arith, h .1), (first, each-weaken (λ c. T (inName c)) (λ c. (1 ≤ c) × (c < 256)) w name-byte (h .2)))
 
 -- An answer's text is that of its words.
 pub record Listing (c : Call) (rounds n : ℕ) (names answer : List ℕ) : Type 0 where
   pub few : n ≤ 1024
   pub says : textOf c ≡ answerText (wordsOf names) rounds (map countsOf (take n answer))
 
-pub listed-text : (text : Text) (c : Call) → call text workWords answerWords ≡ c → (rounds n : ℕ) (names answer answer′ : List ℕ)
+pub listed-text : (text : Text) (c : Call) → ownCall text ≡ c → (rounds n : ℕ) (names answer answer′ : List ℕ)
     → verdictFor (Listed rounds n) ≡ verdictOf c → NamesFor c names → answer′ ≡ answerAfter c answer → Listing c rounds n names answer′
-listed-text text (refusing r) e rounds n names answer answer′ v ns put = absurd (omega (arith, refusals-numbered r, ap (λ (x : Verdict). x .reason) v))
+listed-text text (refusing r) e rounds n names answer answer′ v ns put = absurd (omega (arith, refusals-numbered r, reason-eq v))
 listed-text text (answering words k ls) e rounds n names answer answer′ v ns put =
-    let from = origin text words k ls workWords answerWords e in
+    let from = call→origin text words k ls workWords answerWords e in
     let d = from .given in
     let legal = accepted→ text d (from .order) (from .reads) in
     let held = listed-held d (from .order) k ls (from .lists) in
-    let count : n ≡ length ls = ap (λ (x : Verdict). x .labels) v in
+    let count : n ≡ length ls = labels-eq v in
     let size : length (map number ls) ≡ n = sym (count ∙ sym (rw length-map)) in
     let these : take n answer′ ≡ map number ls = ap (take n) put ∙ take-at (map number ls) (drop (length ls) answer) n size in
-    let bytes : Each Bytes words = subst (Each Bytes) (sym (from .named)) (each-map {P = NameForm} {Q = Bytes} name-bytes (d .words) (legal .2 .0)) in
-    let fit : Each (Fits words) ls = each-in (Fits words) ls (λ a m. (held a m .0 ∙ ap length (sym (from .named)), small a (held a m .1))) in
+    let bytes : Each Bytes words = subst (Each Bytes) (sym (from .named)) (each-weaken NameForm Bytes (d .words) name-bytes (legal .2 .0)) in
+    let fit : Each (Fits words) ls = each-in (Fits words) ls (λ a m. (held a m .0 ∙ ap length (sym (from .named)), size→small a (held a m .1))) in
+    let packed = filled 12 0 (map wordOf words) in
     let few-words : length words ≤ 12 = omega (arith, legal .1 .nameCount .1, ap length (from .named)) in
     record {
       few = omega (arith, listed-few d (from .order) k ls (from .lists));
-      says = sym (ap₂ (λ (ws : List ℕ) (ns : List ℕ). answerText (wordsOf ns) rounds (map countsOf ws)) these ns
-          ∙ same-answer words few-words bytes rounds ls fit ∙ ap (λ (m : ℕ). answerText words m ls) (ap (λ (x : Verdict). x .rounds) v));
+      says = answerText words k ls
+          ≡⟨ ap (λ (m : ℕ). answerText words m ls) (sym (rounds-eq v)) ⟩ answerText words rounds ls
+          ≡⟨ sym (same-answer words few-words bytes rounds ls fit) ⟩ answerText (wordsOf packed) rounds (map countsOf (map number ls))
+          ≡⟨ sym (ap₂ (λ (vs ws : List ℕ). answerText (wordsOf ws) rounds (map countsOf vs)) these ns) ⟩
+          answerText (wordsOf names) rounds (map countsOf (take n answer′)) ∎;
     }
 
 -- The same of what a call responds.
-module _ (text : Text) (work work′ answer answer′ : List ℕ) (r : Response) (h : Responded (call text workWords answerWords) work work′ answer answer′ r) where
-  pub listing : (rounds n : ℕ) → r .answer ≡ Listed rounds n → Listing (call text workWords answerWords) rounds n (r .names) answer′
-  listing rounds n e =
-      listed-text text (call text workWords answerWords) refl rounds n (r .names) answer answer′ (ap verdictFor (sym e) ∙ h .settled .verdict)
+module _ (text : Text) {work work′ answer answer′ : List ℕ} {r : Response} (h : Responded (ownCall text) work work′ answer answer′ r) where
+  pub responded→listing : {rounds n : ℕ} → r .answer ≡ Listed rounds n → Listing (ownCall text) rounds n (r .names) answer′
+  responded→listing {rounds} {n} e =
+      listed-text text (ownCall text) refl rounds n (r .names) answer answer′ (ap verdictFor (sym e) ∙ h .settled .verdict)
       (h .names) (h .settled .answers)
 
-  pub refusal : (a : Answer) → r .answer ≡ a → (verdictFor a .reason ≡ 0 → ⊥)
-      → textOf (call text workWords answerWords) ≡ refusedText (verdictFor a .reason) (verdictFor a .line)
-  refusal a e some = refused-text (call text workWords answerWords) (verdictFor a) (ap verdictFor (sym e) ∙ h .settled .verdict) some
+  pub responded→refusal : (a : Answer) → r .answer ≡ a → (verdictFor a .reason ≡ 0 → ⊥)
+      → textOf (ownCall text) ≡ refusedText (verdictFor a .reason) (verdictFor a .line)
+  responded→refusal a e some = refused-text (ownCall text) (verdictFor a) (ap verdictFor (sym e) ∙ h .settled .verdict) some
 
-pub printed : (s t before after : Text) (n : ℕ) → s ≡ t → Printed t before after n → Printed s before after n
-printed s t before after n e p = subst (λ (x : Text). Printed x before after n) (sym e) p
+pub printed-same : {s t before after : Text} {n : ℕ} → s ≡ t → Printed t before after n → Printed s before after n
+printed-same {before = before} {after = after} {n = n} e p = subst (λ (x : Text). Printed x before after n) (sym e) p
 
 -- 155,648 bytes hold every text.
-pub text-fits : (text : Text) → length (textOf (call text workWords answerWords)) ≤ 155648
-text-fits text = fits (call text workWords answerWords) refl
+pub text-fits : (text : Text) → length (textOf (ownCall text)) ≤ 155648
+text-fits text = fits (ownCall text) refl
   where
-    fits : (c : Call) → call text workWords answerWords ≡ c → length (textOf c) ≤ 155648
+    fits : (c : Call) → ownCall text ≡ c → length (textOf c) ≤ 155648
     fits (refusing r) e = omega (arith, length-refusal (reasonOf r) (lineOf r))
     fits (answering words k ls) e =
         let names = filled 12 0 (map wordOf words) in

@@ -44,6 +44,10 @@ unlessShort false r = ofReading r
 unfoldable pub call : Text → (work answer : ℕ) → Call
 call text work answer = unlessShort (tooShort work answer) (readText text)
 
+-- The call over areas of its own, which are long enough.
+abbrev pub ownCall : Text → Call
+ownCall text = call text workWords answerWords
+
 -- The number, line, rounds and number of labels.
 abbrev pub verdictOf : Call → Verdict
 verdictOf (refusing r) = A.refused r

@@ -17,7 +17,7 @@ use Rattle.grammar.specs.Reading.{read, readText}
 use Rattle.grammar.specs.Printed.{line, answerText}
 use Rattle.grammar.specs.Areas.{withStart, Printed}
 use Rattle.rimecutter.specs.declared.Answer.{Answer}
-use Rattle.rimecutter.specs.Calls.{refusing, call, cleared, workAfter, textOf, numberInText, workWords, answerWords}
+use Rattle.rimecutter.specs.Calls.{refusing, call, ownCall, cleared, workAfter, textOf, numberInText}
 use Rattle.rimecutter.specs.Answers.{verdictFor, Settled}
 use Rattle.rimecutter.specs.Refusals.{Due}
 
@@ -89,18 +89,18 @@ pub record Called : Type 0 where
   pub area : Text
   pub area′ : Text
   pub size : ℕ
-  pub kept : Printed (textOf (call text workWords answerWords)) area area′ size
+  pub kept : Printed (textOf (ownCall text)) area area′ size
 
 -- what it has to say, and that the area holds it
 abbrev pub textDue : Called → Text
-textDue c = textOf (call (c .text) workWords answerWords)
+textDue c = textOf (ownCall (c .text))
 
 abbrev pub Holds : Called → Type 0
 Holds c = length (textDue c) ≤ length (c .area)
 
 -- the number that it gives
 abbrev pub numberOf : Called → ℕ
-numberOf c = numberInText (call (c .text) workWords answerWords) (length (c .area))
+numberOf c = numberInText (ownCall (c .text)) (length (c .area))
 
 -- an area that begins with the first line of an answer
 abbrev pub SaysOk : Text → Type 0

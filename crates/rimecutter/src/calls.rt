@@ -8,13 +8,14 @@ use crate::Answer;
 use reading::read_description;
 use rounds::ANSWER_WORDS;
 use rounds::WORK_WORDS;
+use table::NAMES;
 use table::STORE_WORDS;
 use table::areas::clear;
 
 // What is answered, with the names of the description, packed in words.
 pub struct Response {
     pub answer: Answer,
-    pub names: [u64; 12],
+    pub names: [u64; NAMES],
 }
 
 // Refusal 1 for the areas.
@@ -43,7 +44,7 @@ pub fn respond(description: &[u8], work: &mut [u64], answer: &mut [u64]) -> Resp
     if too_short(work.len(), answer.len()) {
         return Response {
             answer: Answer::TooLong,
-            names: [0u64; 12],
+            names: [0u64; NAMES],
         };
     }
     let mut store = [0u64; STORE_WORDS];

@@ -34,6 +34,13 @@ pub fn alphabet(description: &[u8], work: &mut [u64], answer: &mut [u64]) -> Ans
     said
 }
 
+// The refusals that are no fault of a line.
+const TOO_LONG: usize = 1;
+
+const TOO_LARGE: usize = 7;
+
+const NO_LINE: usize = 0;
+
 // The text of the answer, with areas of the call's own: whole, or not at all where it does not fit.
 pub fn alphabet_text(description: &[u8], text: &mut [u8]) -> usize
     ensures { λ r. ⌜ Printed (textOf (call (now (description .entry)) workWords answerWords)) (now (text .entry)) (now (text .exit)) r ⌝ }
@@ -45,8 +52,8 @@ pub fn alphabet_text(description: &[u8], text: &mut [u8]) -> usize
     let names = response.names;
     match said {
         Answer::Listed(rounds, labels) => write_answer(text, names, rounds, &answer[..labels]),
-        Answer::TooLong => write_refusal(text, 1, 0),
+        Answer::TooLong => write_refusal(text, TOO_LONG, NO_LINE),
         Answer::Bad(fault, line) => write_refusal(text, number_of(fault), line),
-        Answer::TooLarge => write_refusal(text, 7, 0),
+        Answer::TooLarge => write_refusal(text, TOO_LARGE, NO_LINE),
     }
 }

@@ -6,7 +6,7 @@ use Rattle.meaning.specs.Bytes.{Text}
 use Rattle.grammar.specs.Marks.{labelText}
 use Rattle.grammar.specs.Printed.{printedLabel}
 use Rattle.label_texts.specs.Packed.{wordsOf, countsOf}
-use Rattle.grammar.proofs.Underway.{copied}
+use Rattle.grammar.proofs.Underway.{copied→written}
 use Rattle.label_texts.proofs.Tau.{parts-written, tau-written, parts-within, tau-length}
 use borrow.Author.Needs.{needs}
 use Rattle.label_texts.proofs.write_fitting_label.Statement.{statement}
@@ -41,7 +41,7 @@ returns c =
     let t = c .before .before .before .before .before in
     let p = t .before .before .before in
     let w = c .before .before .copy .ensures in
-    tau-written (parts (entry p)) (p .write-parts .ensures) (t .if1 .taken) (copied (w .0) (w .1))
+    tau-written (parts (entry p)) (p .write-parts .ensures) (t .if1 .taken) (copied→written (w .0) (w .1))
 
 same-length-2 : tie.Need-same-length-2
 same-length-2 c = search needs

@@ -5,9 +5,11 @@ use mathlib.Core.List.{_∷_}
 use native.Mathlib.Nat.{le-refl}
 use native.Mathlib.Omega.{arith}
 use Rattle.table.specs.Decoded.{nameOf}
+use Rattle.grammar.specs.Forms.{dot}
 use Rattle.grammar.specs.Marks.{partText}
 use Rattle.label_texts.specs.Steps.{nextText}
-use Rattle.grammar.proofs.Underway.{Underway, written-nil, underway-start, underway-byte, underway-last, underway-room, lent-room, written-within, written-length}
+use Rattle.grammar.proofs.Underway.{Underway, written-nil, underway-start, underway-byte, underway-last}
+use Rattle.grammar.proofs.Underway.{underway-room, lent-room, written-within, written-length}
 use Rattle.label_texts.proofs.Parts.{next-absent, next-first, next-later}
 use borrow.Author.Needs.{needs}
 use Rattle.label_texts.proofs.write_next.Statement.{statement}
@@ -38,7 +40,7 @@ entry c = c .before .before .before
 
 pointed : (c : tie.Else2) →
     let a = entry c .args in
-    Underway (nextText (a .written) (nameOf 8 (a .name)) (a .times)) (46 ∷ partText (nameOf 8 (a .name)) (a .times)) (a .text .now) (a .text .now) 0
+    Underway (nextText (a .written) (nameOf 8 (a .name)) (a .times)) (dot ∷ partText (nameOf 8 (a .name)) (a .times)) (a .text .now) (a .text .now) 0
 pointed c =
     let a = entry c .args in
     underway-start (sym (next-later (a .written) (nameOf 8 (a .name)) (a .times) (c .before .if1 .left) (c .if2 .left))) (entry c .pre)

@@ -5,6 +5,7 @@ use mathlib.Core.List.{_∷_}
 use native.Mathlib.Nat.{le-refl}
 use native.Mathlib.Omega.{arith}
 use Rattle.table.specs.Decoded.{nameOf}
+use Rattle.grammar.specs.Forms.{colon}
 use Rattle.grammar.specs.Marks.{decimal, partText}
 use Rattle.grammar.proofs.Areas.{printed→written}
 use Rattle.grammar.proofs.Underway.{Underway, underway-first, underway-byte, underway-last, underway-kept, underway-room}
@@ -23,7 +24,7 @@ entry c = c .before .before .before .before .before
 named : (c : tie.After-slice-known2) →
     let a = entry c .args in
     let w = c .before .before .write-name in
-    Underway (partText (nameOf 8 (a .name)) (a .times)) (58 ∷ decimal (a .times)) (a .text .now) (w .last .0) (w .result)
+    Underway (partText (nameOf 8 (a .name)) (a .times)) (colon ∷ decimal (a .times)) (a .text .now) (w .last .0) (w .result)
 named c =
     let a = entry c .args in
     underway-first {s = nameOf 8 (a .name)} refl (entry c .pre) (c .before .before .write-name .ensures)

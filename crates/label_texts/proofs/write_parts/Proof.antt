@@ -7,13 +7,13 @@ use native.Mathlib.Omega.{arith}
 use Rattle.grammar.specs.Marks.{partTexts, labelText}
 use Rattle.label_texts.specs.Packed.{wordsOf, countsOf}
 use Rattle.grammar.proofs.Underway.{Underway, underway-start, underway-kept, underway-room}
-use Rattle.label_texts.proofs.Parts.{onward, partsFrom, parts-start, parts-room, parts-again, parts-early, parts-end}
+use Rattle.label_texts.proofs.Parts.{toCome, partsFrom, parts-start, parts-room, parts-again, parts-early, parts-end}
 use Rattle.label_texts.proofs.write_parts.Statement.{statement}
 use Rattle.label_texts.proofs.write_parts.Tie as tie
 
 abbrev Inv-loop : tie.InvT-loop
 Inv-loop text₀ label names rest₀ at₀ i₀ text rest at i =
-    Underway (labelText (wordsOf names) (countsOf label)) (onward at (partsFrom names i rest)) text₀ text at × (i ≤ 12)
+    Underway (labelText (wordsOf names) (countsOf label)) (toCome at (partsFrom names i rest)) text₀ text at × (i ≤ 12)
 
 abbrev μ-loop : tie.MeasureT-loop
 μ-loop text₀ label names rest₀ at₀ i₀ text rest at i = 12 - i

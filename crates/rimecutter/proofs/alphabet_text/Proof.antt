@@ -7,9 +7,8 @@ use lib.ListN.{length-take}
 use Prim.Native.Nat.{ℕ}
 use Rattle.grammar.specs.Printed.{refusedText}
 use Rattle.faults.specs.CodedFaults.{faultOf}
-use Rattle.rimecutter.specs.Calls.{call, textOf, workWords, answerWords}
 use Rattle.rimecutter.specs.declared.Answer.the-variants.{TooLong, Bad, TooLarge}
-use Rattle.rimecutter.proofs.Texts.{listing, refusal, printed, faults-numbered}
+use Rattle.rimecutter.proofs.Texts.{responded→listing, responded→refusal, printed-same, faults-numbered}
 use Rattle.rimecutter.proofs.alphabet_text.Statement.{statement}
 use Rattle.rimecutter.proofs.alphabet_text.Tie as tie
 
@@ -31,7 +30,7 @@ array-share-prefix-answer c =
     let responded = said .before .before .before .before .before in
     let told = said .said .given in
     let a = responded .before .before .before .before .before .args in
-    omega (arith, listing (a .description .now) _ _ _ _ (responded .respond .result) (responded .respond .ensures) (told .0 .0) (told .0 .1 .0) (told .1) .few)
+    omega (arith, responded→listing (a .description .now) (responded .respond .ensures) (told .1) .few)
 
 slice-aggregate-write-answer : tie.Need-slice-aggregate-write-answer
 slice-aggregate-write-answer c =
@@ -39,7 +38,7 @@ slice-aggregate-write-answer c =
     let responded = said .before .before .before .before .before in
     let told = said .said .given in
     let a = responded .before .before .before .before .before .args in
-    let list = listing (a .description .now) _ _ _ _ (responded .respond .result) (responded .respond .ensures) (told .0 .0) (told .0 .1 .0) (told .1) in
+    let list = responded→listing (a .description .now) (responded .respond .ensures) (told .1) in
     sym (rw length-take (min-eq-left (omega (arith, list .few))))
 
 write-answer-requires : tie.Need-write-answer-requires
@@ -75,8 +74,8 @@ returns c =
     let responded = said .before .before .before .before .before in
     let told = said .said .given in
     let a = responded .before .before .before .before .before .args in
-    let list = listing (a .description .now) _ _ _ _ (responded .respond .result) (responded .respond .ensures) (told .0 .0) (told .0 .1 .0) (told .1) in
-    printed (textOf (call (a .description .now) workWords answerWords)) _ _ _ _ (list .says) (c .before .before .write-answer .ensures)
+    let list = responded→listing (a .description .now) (responded .respond .ensures) (told .1) in
+    printed-same (list .says) (c .before .before .write-answer .ensures)
 
 same-length-2 : tie.Need-same-length-2
 same-length-2 c = c .before .before .write-refusal .kept .0
@@ -86,8 +85,8 @@ returns-2 c =
     let said = c .before .before .before .before in
     let responded = said .before .before .before .before .before in
     let a = responded .before .before .before .before .before .args in
-    printed (textOf (call (a .description .now) workWords answerWords)) _ _ _ _
-    (refusal (a .description .now) _ _ _ _ (responded .respond .result) (responded .respond .ensures) TooLong (said .enum-told .given .1)
+    printed-same
+    (responded→refusal (a .description .now) (responded .respond .ensures) TooLong (said .enum-told .given .1)
     (λ e. absurd (omega (arith, e))))
     (c .before .before .write-refusal .ensures)
 
@@ -102,8 +101,8 @@ returns-3 c =
     let fault = told .0 .0 in
     let line = told .0 .1 .0 in
     let a = responded .before .before .before .before .before .args in
-    printed (textOf (call (a .description .now) workWords answerWords)) _ _ _ _
-    (refusal (a .description .now) _ _ _ _ (responded .respond .result) (responded .respond .ensures) (Bad fault line) (told .1)
+    printed-same
+    (responded→refusal (a .description .now) (responded .respond .ensures) (Bad fault line) (told .1)
     (λ e. absurd (omega (arith, e, faults-numbered (faultOf fault))))
     ∙ ap (λ (n : ℕ). refusedText n line) (sym (c .before .before .before .number-of .ensures)))
     (c .before .before .write-refusal2 .ensures)
@@ -116,8 +115,8 @@ returns-4 c =
     let said = c .before .before .before .before in
     let responded = said .before .before .before .before .before in
     let a = responded .before .before .before .before .before .args in
-    printed (textOf (call (a .description .now) workWords answerWords)) _ _ _ _
-    (refusal (a .description .now) _ _ _ _ (responded .respond .result) (responded .respond .ensures) TooLarge (said .enum-told2 .given .1)
+    printed-same
+    (responded→refusal (a .description .now) (responded .respond .ensures) TooLarge (said .enum-told2 .given .1)
     (λ e. absurd (omega (arith, e))))
     (c .before .before .write-refusal3 .ensures)
 

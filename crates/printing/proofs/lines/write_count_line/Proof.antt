@@ -7,10 +7,11 @@ use native.Mathlib.Omega.{arith}
 use lib.ListN.{length}
 use Rattle.meaning.specs.Bytes.{Text}
 use Rattle.grammar.specs.Marks.{decimal}
+use Rattle.grammar.specs.Forms.{lf}
 use Rattle.grammar.specs.Printed.{line}
 use Rattle.grammar.proofs.Areas.{printed→written}
-use Rattle.grammar.proofs.Underway.{Underway, lent, copied, underway-room, next-room}
-use Rattle.printing.proofs.Line.{length-line, keyed, Ended, ended}
+use Rattle.grammar.proofs.Underway.{Underway, lent, copied→written, underway-room, next-room}
+use Rattle.printing.proofs.Line.{length-line, key→underway, Ended, value→ended}
 use Rattle.printing.proofs.lines.write_count_line.Statement.{statement}
 use Rattle.printing.proofs.lines.write_count_line.Tie as tie
 
@@ -28,10 +29,10 @@ entry c = c .before .before .before .before .before .before
 
 key-written : (c : tie.After-slice-known2) →
     let w = c .before .before .copy in
-    Underway (line (entry c .args .key .now) (value (entry c))) (value (entry c) ++ (10 ∷ [])) (entry c .args .text .now) (w .last .1 .0) (w .result)
+    Underway (line (entry c .args .key .now) (value (entry c))) (value (entry c) ++ (lf ∷ [])) (entry c .args .text .now) (w .last .1 .0) (w .result)
 key-written c =
     let w = c .before .before .copy .ensures in
-    keyed (entry c .args .key .now) (value (entry c)) (entry c .pre) (copied (w .0) (w .1))
+    key→underway (entry c .args .key .now) (value (entry c)) (entry c .pre) (copied→written (w .0) (w .1))
 
 sub-write-number : tie.Need-sub-write-number
 sub-write-number c = omega (arith, underway-room (key-written c))
@@ -46,7 +47,7 @@ write-number-requires : tie.Need-write-number-requires
 write-number-requires c κs = tt
 
 value-room : (c : tie.After-slice-known2) → length (value (entry c)) ≤ length (lent (c .before .before .copy .result) (c .before .before .copy .last .1 .0))
-value-room c = next-room (value (entry c)) (10 ∷ []) (key-written c)
+value-room c = next-room (value (entry c)) (lf ∷ []) (key-written c)
 
 -- the value is written too
 line-written : (c : tie.After-slice-known3) →
@@ -58,7 +59,7 @@ line-written c =
     let k = c .before .before .before .before in
     let w = k .before .before .copy .ensures in
     let v = printed→written (value-room k) (c .before .before .write-number .ensures) in
-    ended (entry k .args .key .now) (value (entry k)) (entry k .pre) (copied (w .0) (w .1)) v
+    value→ended (entry k .args .key .now) (value (entry k)) (entry k .pre) (copied→written (w .0) (w .1)) v
 
 add-end : tie.Need-add-end
 add-end c = omega (arith, line-written c .below)

@@ -10,7 +10,8 @@ use Rattle.meaning.specs.Bytes.{Text}
 use Rattle.grammar.specs.Marks.{decimal}
 use Rattle.grammar.specs.Printed.{line}
 use Rattle.printing.specs.Steps.{headText}
-use Rattle.grammar.proofs.Underway.{Underway, copied, underway-first, back, underway-step, underway-last, underway-kept, underway-room, next-room, lent-room, written-within, written-length}
+use Rattle.grammar.proofs.Underway.{Underway, copied→written, underway-first, back, underway-step, underway-last, underway-kept}
+use Rattle.grammar.proofs.Underway.{underway-room, next-room, lent-room, written-within, written-length}
 use Rattle.printing.proofs.lines.write_head.Statement.{statement}
 use Rattle.printing.proofs.lines.write_head.Tie as tie
 
@@ -40,7 +41,7 @@ said-written : (c : tie.After-slice-known2) →
 said-written c =
     let s = entry c in
     let w = c .before .before .copy .ensures in
-    underway-first {s = s .args .said .now} refl (s .pre) (copied (w .0) (w .1))
+    underway-first {s = s .args .said .now} refl (s .pre) (copied→written (w .0) (w .1))
 
 sub-write-count-line : tie.Need-sub-write-count-line
 sub-write-count-line c = omega (arith, underway-room (said-written c))

@@ -7,11 +7,12 @@ use native.Mathlib.Nat.{le-refl}
 use native.Mathlib.Omega.{arith}
 use lib.ListN.{length}
 use Rattle.meaning.specs.Bytes.{Text, ascii}
+use Rattle.grammar.specs.Forms.{lf}
 use Rattle.grammar.specs.Printed.{printedLabel, line}
 use Rattle.label_texts.specs.Packed.{wordsOf, countsOf}
 use Rattle.grammar.proofs.Areas.{printed→written}
-use Rattle.grammar.proofs.Underway.{Underway, lent, copied, underway-room, next-room}
-use Rattle.printing.proofs.Line.{keyed, Ended, ended}
+use Rattle.grammar.proofs.Underway.{Underway, lent, copied→written, underway-room, next-room}
+use Rattle.printing.proofs.Line.{key→underway, Ended, value→ended}
 use Rattle.printing.proofs.lines.write_label_line.Statement.{statement}
 use Rattle.printing.proofs.lines.write_label_line.Tie as tie
 
@@ -30,13 +31,13 @@ entry c = c .before .before .before .before .before .before
 
 key-written : (c : tie.After-slice-known2) →
     let w = c .before .before .copy in
-    Underway (line (ascii "label=") (value (entry c))) (value (entry c) ++ (10 ∷ [])) (entry c .args .text .now) (w .last .1 .0) (w .result)
+    Underway (line (ascii "label=") (value (entry c))) (value (entry c) ++ (lf ∷ [])) (entry c .args .text .now) (w .last .1 .0) (w .result)
 key-written c =
     let w = c .before .before .copy .ensures in
-    keyed (ascii "label=") (value (entry c)) (entry c .pre) (copied (w .0) (w .1))
+    key→underway (ascii "label=") (value (entry c)) (entry c .pre) (copied→written (w .0) (w .1))
 
 value-room : (c : tie.After-slice-known2) → length (value (entry c)) ≤ length (lent (c .before .before .copy .result) (c .before .before .copy .last .1 .0))
-value-room c = next-room (value (entry c)) (10 ∷ []) (key-written c)
+value-room c = next-room (value (entry c)) (lf ∷ []) (key-written c)
 
 -- the value is written too
 line-written : (c : tie.After-slice-known3) →
@@ -48,7 +49,7 @@ line-written c =
     let k = c .before .before .before .before in
     let w = k .before .before .copy .ensures in
     let v = printed→written (value-room k) (c .before .before .write-label .ensures) in
-    ended (ascii "label=") (value (entry k)) (entry k .pre) (copied (w .0) (w .1)) v
+    value→ended (ascii "label=") (value (entry k)) (entry k .pre) (copied→written (w .0) (w .1)) v
 
 sub-write-label : tie.Need-sub-write-label
 sub-write-label c = omega (arith, underway-room (key-written c))
