@@ -11,7 +11,9 @@ use Rattle.meaning.specs.Descriptions.{Term, Description}
 use Rattle.meaning.specs.Answers.{form, range}
 use Rattle.faults.specs.CodedFaults.{faultOf}
 use Rattle.faults.specs.declared.Fault as F
-use Rattle.grammar.specs.Reading.{Taken, taken, faulty, takeNumber, nameCount, equationCount, termCount, takeName, takeBody, Cut, cut, noLine, firstLine, Walk, reached, halted, walk, afterLine, lineWalk, oneLine, lines, Whole, fromOrder, fromRoot, fromBodies, fromTerms, fromCounts, fromNames, wholeText}
+use Rattle.grammar.specs.Reading.{Taken, taken, faulty, takeNumber, nameCount, equationCount, termCount, takeName, takeBody}
+use Rattle.grammar.specs.Reading.{Cut, cut, noLine, firstLine, Walk, reached, halted, walk, afterLine, lineWalk, oneLine, lines}
+use Rattle.grammar.specs.Reading.{Whole, fromOrder, fromRoot, fromBodies, fromTerms, fromCounts, fromNames, wholeText}
 use Rattle.sections.specs.declared.Progress.the-variants.{To, Bad}
 use Rattle.sections.proofs.Walking.{later, later-to, later-bad, gone-to, gone-bad, room-there}
 use Rattle.frames.specs.Heads.{Heading, headTerms, headEquations, headNames, headText}

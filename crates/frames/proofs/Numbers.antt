@@ -14,7 +14,8 @@ use Rattle.faults.specs.CodedFaults.{faultOf}
 use Rattle.faults.specs.declared.Fault as F
 use Rattle.grammar.specs.Text.{Past, past, stuck}
 use Rattle.grammar.specs.Forms.{countLine}
-use Rattle.grammar.specs.Reading.{takenIf, formed, takeNumber, nameCount, equationCount, termCount, Cut, cut, noLine, firstLine, Walk, reached, halted, afterLine, lineWalk, oneLine}
+use Rattle.grammar.specs.Reading.{takenIf, formed, takeNumber, nameCount, equationCount, termCount}
+use Rattle.grammar.specs.Reading.{Cut, cut, noLine, firstLine, Walk, reached, halted, afterLine, lineWalk, oneLine}
 use Rattle.sections.specs.Lines.{between, NumberTo}
 use Rattle.sections.specs.declared.Progress.{Progress}
 use Rattle.sections.specs.declared.Progress.the-variants.{To, Bad}

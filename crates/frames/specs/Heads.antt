@@ -51,7 +51,8 @@ pub record Named (names : List ℕ) (named : ℕ) : Type 0 where
 abbrev pub headingOf : Head → Heading
 headingOf h = record { words = map (nameOf 8) (take (h .named) (h .names)); equations = h .equations; terms = h .terms }
 
--- Four lines stand around the names, and what they say is within the limits; a bad line is one of the first fifteen.
+-- Three lines stand around the names, so that the next is the fourth besides theirs; what they say is within the limits, and a bad
+-- line is one of the first fifteen.
 pub record HeadTo (text : Text) (due : Walk Heading) (v took : ℕ) (r : Head) : Type 0 where
   pub plain : v ≡ 0
   pub says : reached (headingOf r) (4 + r .named) (drop took text) ≡ due

@@ -21,7 +21,8 @@ use Rattle.faults.specs.declared.Fault.{Fault}
 use Rattle.faults.specs.declared.Fault.the-variants.{Form, Name, Range, Amount, Operand}
 use Rattle.lists.specs.Lists.{over}
 use Rattle.words.proofs.Rests.{rest-cons}
-use Rattle.grammar.specs.Reading.{takeOrder, Walk, reached, halted, walk, oneLine, Reading, read, badLine, Whole, fromOrder, fromBodies, fromTerms, wholeText, described}
+use Rattle.grammar.specs.Reading.{takeOrder, Walk, reached, halted, walk, oneLine, Reading, read, badLine}
+use Rattle.grammar.specs.Reading.{Whole, fromOrder, fromBodies, fromTerms, wholeText, described}
 use Rattle.sections.specs.Walks.{Padded}
 use Rattle.sections.specs.declared.Progress.{Progress}
 use Rattle.sections.specs.declared.Progress.the-variants.{Bad}

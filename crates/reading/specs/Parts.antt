@@ -19,6 +19,8 @@ use Rattle.sections.specs.declared.Progress.{Progress}
 use Rattle.sections.specs.declared.Progress.the-variants.{To, Bad}
 use Rattle.frames.specs.declared.heads.Head.{Head}
 use Rattle.frames.specs.Heads.{Named, headingOf}
+use Rattle.termlines.specs.declared.orders.Ordered.{Ordered}
+use Rattle.termlines.specs.declared.terms.Terms.{Terms}
 use Rattle.termlines.specs.Terms.{TermsWalk}
 
 -- The lines before the terms are within the limits.
@@ -35,10 +37,11 @@ pub record Sized (text : Text) (line named : ℕ) (store : List ℕ) : Type 0 wh
   pub long : length store ≡ 3104
 
 -- The lines of terms, with the lists before the order's words, which are still 0.
-pub record TermsPart (text : Text) (h : Head) (store slots : List ℕ) (r : Progress) : Type 0 where
+pub record TermsPart (text : Text) (h : Head) (store : List ℕ) (r : Terms) : Type 0 where
   pub lists : List ℕ
   pub kept : store ≡ lists ++ filled 32 0 []
-  pub walks : TermsWalk text (lines (takeTerm (headingOf h .words) (h .equations)) (h .terms) [] 0 text) (h .terms) lists slots r
+  pub walks : TermsWalk text (lines (takeTerm (headingOf h .words) (h .equations)) (h .terms) [] 0 text) (h .terms) lists (r .slots)
+      (r .progress)
 
 -- Slots and a store that hold so many terms.
 pub record HeldTerms (terms : List Term) (count : ℕ) (slots store : List ℕ) : Type 0 where
@@ -66,3 +69,6 @@ pub record EndBad (line : ℕ) (due : Reading) (f : F.Fault) (l : ℕ) : Type 0 
 abbrev pub EndWalks : Description → ℕ → Reading → List ℕ → List ℕ → Order → Progress → Type 0
 EndWalks d line due before after x (To v took) = EndTo d due before after x
 EndWalks d line due before after x (Bad f l) = EndBad line due f l
+
+pub record EndRead (d : Description) (line : ℕ) (due : Reading) (before after : List ℕ) (r : Ordered) : Type 0 where
+  pub came : EndWalks d line due before after (r .order) (r .progress)

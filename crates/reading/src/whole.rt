@@ -10,7 +10,7 @@ ghost use Rattle.table.specs.Encoded.{filled};
 ghost use Rattle.grammar.specs.Reading.{fromOrder, fromBodies, fromTerms, wholeText, described};
 ghost use Rattle.frames.specs.Heads.{headingOf};
 ghost use Rattle.reading.specs.Stored.{refusing, Ended, Completed};
-ghost use Rattle.reading.specs.Parts.{EndWalks, Headed, Sized, TermsPart, HeldTerms, Held};
+ghost use Rattle.reading.specs.Parts.{EndRead, Headed, Sized, TermsPart, HeldTerms, Held};
 use crate::Answer;
 use crate::Read;
 use faults::Fault;
@@ -54,7 +54,7 @@ fn bad(p: Progress, before: usize) -> Read
 fn read_end(text: &[u8], line: usize, names: &[u64], store: &mut [u64]) -> Ordered
     requires { ⌜ Sized (now text) line (length (now names)) (now store) ⌝ }
     ensures { λ r. ⌜ ((d : D.Description) → map (nameOf 8) (now (names .entry)) ≡ d .words
-        → EndWalks d line (described (fromOrder d line (now (text .entry)))) (now (store .entry)) (now (store .exit)) (r .order) (r .progress)) ⌝ }
+        → EndRead d line (described (fromOrder d line (now (text .entry)))) (now (store .entry)) (now (store .exit)) r) ⌝ }
 {
     let last = take_order(text, line, names, &mut store[3072..]);
     let progress = last.progress;
@@ -125,7 +125,7 @@ fn read_foot(text: &[u8], head: Head, slots: [u64; 96], store: &mut [u64]) -> Re
 // The lines of terms, whose lists go to the first 3,072 words of the store.
 fn read_part(text: &[u8], head: Head, store: &mut [u64]) -> Terms
     requires { ⌜ (length (now text) ≤ 8192) × Headed head × (now store ≡ filled 3104 0 []) ⌝ }
-    ensures { λ r. ⌜ TermsPart (now (text .entry)) head (now (store .exit)) (r .slots) (r .progress) ⌝ }
+    ensures { λ r. ⌜ TermsPart (now (text .entry)) head (now (store .exit)) r ⌝ }
 {
     let names = head.names;
     let named = head.named;

@@ -43,7 +43,8 @@ returns-3 c =
     let text = a .text .now in
     let store = a .store .now in
     completed-stored text store
-    (both-fit text (length store) (omega (arith, c .before .before .before .before .before .if1 .left)) (omega (arith, c .before .before .before .before .if2 .left)))
+    (both-fit text (length store) (omega (arith, c .before .before .before .before .before .if1 .left))
+    (omega (arith, c .before .before .before .before .if2 .left)))
     (c .before .before .read-cleared .ensures)
 
 pub read-description-spec : {M : Type 1} → statement M

@@ -48,7 +48,8 @@ returns c =
 add-end : tie.Need-add-end
 add-end c =
     let start = c .before .before .before .before .before .before .before in
-    omega (arith, number-on (start .args .text .now) (start .args .from) (c .before .before .before .take-number .ensures) (c .before .given .given .1) (start .pre .0))
+    let read = c .before .before .before .take-number .ensures in
+    omega (arith, number-on (start .args .text .now) (start .args .from) read (c .before .given .given .1) (start .pre .0))
 
 returns-2 : tie.Need-returns-2
 returns-2 c =

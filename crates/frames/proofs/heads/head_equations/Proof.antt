@@ -48,7 +48,8 @@ returns c =
 add-next : tie.Need-add-next
 add-next c =
     let start = c .before .before .before .before .before .before .before in
-    omega (arith, number-on (start .args .text .now) (start .args .from) (c .before .before .before .take-number .ensures) (c .before .given .given .1) (start .pre .0))
+    let read = c .before .before .before .take-number .ensures in
+    omega (arith, number-on (start .args .text .now) (start .args .from) read (c .before .given .given .1) (start .pre .0))
 
 head-terms-requires : tie.Need-head-terms-requires
 head-terms-requires c κs =
@@ -65,7 +66,8 @@ returns-2 c =
     let s : 3 + a .named ≡ suc (2 + a .named) = omega arith in
     let k = c .head-terms .ensures in
     head-on _ (a .text .now)
-    (number-to (ascii "equations=") 0 17 equationCount equations-test form (a .text .now) (a .from) (2 + a .named) (c .before .before .before .before .take-number .ensures) (to .1))
+    (number-to (ascii "equations=") 0 17 equationCount equations-test form (a .text .now) (a .from) (2 + a .named)
+    (c .before .before .before .before .take-number .ensures) (to .1))
     (rw s at k)
 
 pub head-equations-spec : {M : Type 1} → statement M

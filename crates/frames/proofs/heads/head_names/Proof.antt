@@ -24,7 +24,8 @@ enum-told : tie.Need-enum-told
 enum-told c = c .match .keys2
 
 bad-name-requires : tie.Need-bad-name-requires
-bad-name-requires c κs = λ f line e. omega (arith, gone-before (c .before .before .take-names .ensures .section .walks) e, c .before .before .before .before .before .pre .1)
+bad-name-requires c κs = λ f line e.
+    omega (arith, gone-before (c .before .before .take-names .ensures .section .walks) e, c .before .before .before .before .before .pre .1)
 
 returns : tie.Need-returns
 returns c =
@@ -39,7 +40,8 @@ add-next : tie.Need-add-next
 add-next c =
     let start = c .before .before .before .before .before .before .before in
     let a = start .args in
-    omega (arith, names-on (a .text .now) (a .from) (a .named) (c .before .before .before .before .take-names .ensures .section) (start .pre .1) (c .before .before .progress .given .1) (start .pre .0))
+    let section = c .before .before .before .before .take-names .ensures .section in
+    omega (arith, names-on (a .text .now) (a .from) (a .named) section (start .pre .1) (c .before .before .progress .given .1) (start .pre .0))
 
 head-equations-requires : tie.Need-head-equations-requires
 head-equations-requires c κs =
@@ -56,7 +58,9 @@ returns-2 : tie.Need-returns-2
 returns-2 c =
     let start = c .before .before .before .before .before .before .before .before in
     let a = start .args in
-    head-on _ (a .text .now) (names-to (a .text .now) (a .from) (a .named) (c .before .before .before .before .before .take-names .ensures .section) (start .pre .1) (c .before .before .before .progress .given .1))
+    let section = c .before .before .before .before .before .take-names .ensures .section in
+    head-on _ (a .text .now)
+    (names-to (a .text .now) (a .from) (a .named) section (start .pre .1) (c .before .before .before .progress .given .1))
     (c .head-equations .ensures)
 
 pub head-names-spec : {M : Type 1} → statement M

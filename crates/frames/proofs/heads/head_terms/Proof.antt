@@ -48,7 +48,8 @@ returns c =
 add-end : tie.Need-add-end
 add-end c =
     let start = c .before .before .before .before .before .before .before in
-    omega (arith, number-on (start .args .text .now) (start .args .from) (c .before .before .before .take-number .ensures) (c .before .given .given .1) (start .pre .0))
+    let read = c .before .before .before .take-number .ensures in
+    omega (arith, number-on (start .args .text .now) (start .args .from) read (c .before .given .given .1) (start .pre .0))
 
 returns-2 : tie.Need-returns-2
 returns-2 c =
@@ -57,7 +58,8 @@ returns-2 c =
     let read = c .before .before .before .take-number .ensures in
     let to = c .before .given .given .1 in
     head-on _ (a .text .now) (number-to (ascii "terms=") 1 97 termCount terms-test form (a .text .now) (a .from) (3 + a .named) read to)
-    (head-end (a .text .now) (number-on (a .text .now) (a .from) read to (start .pre .0)) (start .pre .1) (start .pre .2) (omega (arith, gone-below read to)) (omega arith))
+    (head-end (a .text .now) (number-on (a .text .now) (a .from) read to (start .pre .0)) (start .pre .1) (start .pre .2)
+    (omega (arith, gone-below read to)) (omega arith))
 
 pub head-terms-spec : {M : Type 1} → statement M
 head-terms-spec =

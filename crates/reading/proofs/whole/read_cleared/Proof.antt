@@ -29,7 +29,9 @@ same-length c = search needs
 returns : tie.Need-returns
 returns c =
     let read = c .before .before .before .before .before .before .before .read-lines in
-    let l : length (read .last .1 .0) ≡ 3104 = c .before .before .before .before .before .before .store2 .given ∙ ap length (zeros (c .before .before .before .before .before .before .before .before .before .before .before)) ∙ filled-length 0 3104 [] in
+    let cleared = c .before .before .before .before .before .before .before .before .before .before .before in
+    let l : length (read .last .1 .0) ≡ 3104 =
+    c .before .before .before .before .before .before .store2 .given ∙ ap length (zeros cleared) ∙ filled-length 0 3104 [] in
     cleared-completed (read .ensures) (not-fine (read .result .answer) (c .before .before .before .before .match .keys2))
     (c .before .before .clear2 .ensures ∙ zeroed-whole 3104 _ (omega (arith, l)) ∙ ap (λ n. filled n 0 []) l)
 

@@ -32,7 +32,7 @@ returns c = λ d e.
     let told = c .enum-told .given .1 in
     let t = c .before .before .before .before .take-order .ensures (start .pre .few) (start .pre .short) in
     let k = rw e at (rw told at t) in
-    rw told (record { says = order-bad d (start .args .line) (start .args .text .now) (k .says); low = omega (arith, k .here) })
+    record { came = rw told (record { says = order-bad d (start .args .line) (start .args .text .now) (k .says); low = omega (arith, k .here) }) }
 
 add-t14 : tie.Need-add-t14
 add-t14 c = omega (arith, c .before .before .before .before .before .before .before .before .before .before .before .pre .low)
@@ -45,7 +45,8 @@ returns-2 c = λ d e.
     let start = c .before .before .before .before .before .before .before .before .before .before .before in
     let t = c .before .before .before .before .before .before .take-order .ensures (start .pre .few) (start .pre .short) in
     let k = rw e at (rw (c .before .before .progress .given .1) at t) in
-    record { says = order-short d (start .args .line) (start .args .text .now) (c .before .before .progress .given .0 .1 .0) (k .says) (c .if1 .taken); low = omega arith }
+    let end = c .before .before .progress .given .0 .1 .0 in
+    record { came = record { says = order-short d (start .args .line) (start .args .text .now) end (k .says) (c .if1 .taken); low = omega arith } }
 
 same-length-3 : tie.Need-same-length-3
 same-length-3 c = search needs
@@ -56,12 +57,15 @@ returns-3 c = λ d e.
     let to = c .before .before .progress .given .1 in
     let t = c .before .before .before .before .before .before .take-order .ensures (start .pre .few) (start .pre .short) in
     let k = rw e at (rw to at t) in
-    rw to (record {
-      order = k .order;
-      says = order-whole d (start .args .line) (start .args .text .now) (c .before .before .progress .given .0 .1 .0) (k .says) (c .if1 .left);
-      kept = k .kept;
-      stored = λ s. order-stored d (k .order) s (k .stored);
-    })
+    let end = c .before .before .progress .given .0 .1 .0 in
+    record {
+      came = rw to (record {
+        order = k .order;
+        says = order-whole d (start .args .line) (start .args .text .now) end (k .says) (c .if1 .left);
+        kept = k .kept;
+        stored = λ s. order-stored d (k .order) s (k .stored);
+      });
+    }
 
 pub read-end-spec : {M : Type 1} → statement M
 read-end-spec =

@@ -26,7 +26,8 @@ enum-told c = c .match .keys2
 
 bad-requires : tie.Need-bad-requires
 bad-requires c κs = λ f line e.
-    let h = c .before .before .before .before .before .pre .1 in omega (arith, gone-before (c .before .before .take-foot .ensures .walks) e, h .held .few, h .equated, h .counted)
+    let h = c .before .before .before .before .before .pre .1 in
+    omega (arith, gone-before (c .before .before .take-foot .ensures .walks) e, h .held .few, h .equated, h .counted)
 
 returns : tie.Need-returns
 returns c = λ terms h.

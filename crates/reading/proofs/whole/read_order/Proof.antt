@@ -39,7 +39,7 @@ bad-requires c κs = λ f line e.
     let table = start .args .table in
     let d : Description = record { words = map (nameOf 8) (take (table .named) (table .names)); terms = []; bodies = []; root = 0 } in
     let t = c .before .before .before .before .read-end .ensures d refl in
-    let k = rw e at t in
+    let k = rw e at (t .came) in
     omega (arith, k .low, start .pre .low)
 
 same-length : tie.Need-same-length
@@ -49,7 +49,7 @@ returns : tie.Need-returns
 returns c = λ d h.
     let told = c .before .enum-told2 .given .1 in
     let t = c .before .before .before .before .before .read-end .ensures d (h .named) in
-    let k = rw told at t in
+    let k = rw told at (t .came) in
     ends-here 0 told (omega arith) (k .says) (c .bad .ensures)
 
 same-length-2 : tie.Need-same-length-2
@@ -58,7 +58,7 @@ same-length-2 c = search needs
 returns-2 : tie.Need-returns-2
 returns-2 c = λ d h.
     let t = c .before .before .before .before .read-end .ensures d (h .named) in
-    let k = rw (c .enum-told .given .1) at t in
+    let k = rw (c .enum-told .given .1) at (t .came) in
     rw (← k .says) (record { result = table-read d (k .order) (h .tabled) (k .kept); left = k .stored (h .stored) })
 
 pub read-order-spec : {M : Type 1} → statement M

@@ -31,7 +31,9 @@ slice-relend-prefix-take-terms : tie.Need-slice-relend-prefix-take-terms
 slice-relend-prefix-take-terms c = omega (arith, long (c .before .before .before .before))
 
 slice-aggregate-take-terms-2 : tie.Need-slice-aggregate-take-terms-2
-slice-aggregate-take-terms-2 c = let start = c .before .before .before .before .before in sym (length-take-le 3072 (start .args .store .now) (omega (arith, long start)))
+slice-aggregate-take-terms-2 c =
+    let start = c .before .before .before .before .before in
+    sym (length-take-le 3072 (start .args .store .now) (omega (arith, long start)))
 
 same-length : tie.Need-same-length
 same-length c = search needs

@@ -45,7 +45,10 @@ returns c =
     (c .bad .ensures)
 
 sub-read-foot : tie.Need-sub-read-foot
-sub-read-foot c = let k = rw (c .before .before .progress .given .1) at (c .before .before .before .before .before .before .read-part .ensures .walks) in k .within
+sub-read-foot c =
+    let part = c .before .before .before .before .before .before .read-part .ensures in
+    let k = rw (c .before .before .progress .given .1) at (part .walks) in
+    k .within
 
 part-read-foot-start : tie.Need-part-read-foot-start
 part-read-foot-start c = sub-read-foot c
