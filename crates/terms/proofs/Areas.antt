@@ -102,7 +102,8 @@ laid-words : (base p : ℕ) (work : List ℕ) (new rest : List ℕ) → base ≤
     → take (p - base + length new) (drop base (take p work ++ (new ++ rest))) ≡ take (p - base) (drop base work) ++ new
 laid-words base p work new rest h k =
     let front : length (take p work) ≡ p = length-take p work ∙ min-eq-left k in
-    let e : drop base (take p work ++ (new ++ rest)) ≡ drop base (take p work) ++ (new ++ rest) = drop-append-le base (take p work) (new ++ rest) (omega arith) in
+    let e : drop base (take p work ++ (new ++ rest)) ≡ drop base (take p work) ++ (new ++ rest) = drop-append-le base (take p work) (new ++ rest)
+    (omega arith) in
     let n : length (drop base (take p work)) ≡ p - base = length-drop base (take p work) ∙ ap (λ (m : ℕ). m - base) front in
     let inner : drop base (take p work) ≡ take (p - base) (drop base work) =
     subst (λ (m : ℕ). drop base (take m work) ≡ take (p - base) (drop base work)) (add-sub-of-le h) (part-taken work base (p - base)) in
@@ -111,7 +112,8 @@ laid-words base p work new rest h k =
     (take-append-add (drop base (take p work)) (new ++ rest) (length new)
     ∙ ap₂ {C = List ℕ} _++_ inner (take-append-seam new rest)))
 
-pub laid-more : (base : ℕ) (sets : List (List Label)) (starts starts′ work : List ℕ) (s : List Label) (p : ℕ) (rest : List ℕ) → Laid base (length sets) sets starts work
+pub laid-more : (base : ℕ) (sets : List (List Label)) (starts starts′ work : List ℕ) (s : List Label) (p : ℕ) (rest : List ℕ)
+    → Laid base (length sets) sets starts work
     → p ≡ base + total sets → p ≤ length work → ((i : ℕ) → i ≤ length sets → startIn starts′ i ≡ startIn starts i)
     → startIn starts′ (suc (length sets)) ≡ total sets + length s
     → Laid base (suc (length sets)) (sets ++ (s ∷ [])) starts′ (take p work ++ (map number s ++ rest))
@@ -129,5 +131,6 @@ laid-more base sets starts starts′ work s p rest l e k before last =
     first : (i : ℕ) → (i ≤ length sets) ⊎ (i ≡ suc (length sets)) → startIn starts′ i ≡ total (take i (sets ++ (s ∷ [])))
     first i (inl q) = before i q ∙ l .begins i q ∙ ap total (sym (take-more sets s i q))
     first i (inr q) =
-        let whole : take (suc (length sets)) (sets ++ (s ∷ [])) ≡ sets ++ (s ∷ []) = take-all (suc (length sets)) (sets ++ (s ∷ [])) (omega (arith, length-append sets (s ∷ []))) in
+        let whole : take (suc (length sets)) (sets ++ (s ∷ [])) ≡ sets ++ (s ∷ []) = take-all (suc (length sets)) (sets ++ (s ∷ []))
+        (omega (arith, length-append sets (s ∷ []))) in
         rw (q, whole) (last ∙ sym (total-more sets s))

@@ -22,11 +22,12 @@ use Rattle.places.specs.Laying.{copyBuilt}
 use Rattle.places.specs.Starts.{half, startIn}
 use Rattle.terms.specs.Working.{partly, setOf, Ready, Worked}
 use Rattle.terms.proofs.Shaped.{Settled, leaf-settled, copied-settled, joint-settled}
-use Rattle.terms.proofs.Fitting.{copy-fits, leaf-fits, joint-fits}
+use Rattle.by_shape.proofs.Fitting.{copy-fits, leaf-fits, joint-fits}
 use Rattle.terms.proofs.Settling.{placeOf, roomOf, settled-done, settled-over}
 use Rattle.terms.proofs.Operands.{term-part, term-packs}
 
-module _ (d : Description) (k n : ℕ) (older before this work work′ : List ℕ) (answer : Built) (r : Ready d k n older before this work) (more : n < termCount d) where
+module _ (d : Description) (k n : ℕ) (older before this work work′ : List ℕ) (answer : Built) (r : Ready d k n older before this work)
+    (more : n < termCount d) where
   abbrev pub room : ℕ
   room = roomOf d k n older before this work work′ r
 

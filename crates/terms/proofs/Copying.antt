@@ -9,7 +9,8 @@ use lib.Dec.{T, eqb→eq}
 use lib.ListN.{length}
 use Rattle.meaning.specs.Labels.{Label}
 use Rattle.meaning.specs.Sets.{at, ascending, spread, product}
-use Rattle.meaning.specs.Descriptions.{Description, all, Term, act, tau, delta, ref, sum, cond, choice, ifelse, seq, merge, lmerge, sync, wrap, termCount, equations, termAt, bodyAt}
+use Rattle.meaning.specs.Descriptions.{Description, all, termCount, equations, termAt, bodyAt}
+use Rattle.meaning.specs.Descriptions.{Term, act, tau, delta, ref, sum, cond, choice, ifelse, seq, merge, lmerge, sync, wrap}
 use Rattle.meaning.specs.Legal.{LegalTerm}
 use Rattle.meaning.specs.Rounds.{Shape, leaf, reference, one, either, both, joint, through, shape, made, next, roundSets, equationSets}
 use Rattle.meaning.proofs.Tests.{and-left, and-right}
@@ -68,7 +69,8 @@ module _ (d : Description) (k n : ℕ) (older before this work : List ℕ) (r : 
     two t u h j s =
         (operands t h (and-left (stays before this t) (stays before this u) s), operands u j (and-right (stays before this t) (stays before this u) s))
 
-    same-for : (t : Term) → LegalTerm d n t → T (unchanged (tableOf d .bodies) older before this (shapeFor (termFor n t))) → IsBuilt (shape d t) × SameFor eqs eqs′ sets sets′ (shape d t)
+    same-for : (t : Term) → LegalTerm d n t → T (unchanged (tableOf d .bodies) older before this (shapeFor (termFor n t)))
+        → IsBuilt (shape d t) × SameFor eqs eqs′ sets sets′ (shape d t)
     same-for (act a) l s = absurd s
     same-for tau l s = absurd s
     same-for delta l s = absurd s
@@ -100,15 +102,19 @@ set-stays d (suc j) n older before this work r more s =
     at-body d (roundSets d (suc j)) (round-length d (suc j)) e
     ∙ stays→ d j older before (r .old) (r .lower .begins) (bodyAt d e) (each-below (termCount d) (d .bodies) (r .legal .bodies) e (termCount d) h) b
     ∙ sym (at-body d (roundSets d j) (round-length d j) e))
-    (λ t h b. operand-stays d (suc j) n older before this work r more t h b ∙ sym (partly-round d j n t (omega arith) h)) (termAt d n) (term-legal d all (r .legal) n) s in
+    (λ t h b. operand-stays d (suc j) n older before this work r more t h b ∙ sym (partly-round d j n t (omega arith) h)) (termAt d n)
+    (term-legal d all (r .legal) n) s in
     ap ascending (made-same (equationSets d (suc j)) (equationSets d j) (partly d (suc j) n) (partly d j n) (shape d (termAt d n)) (x .1))
     ∙ sym (round-set d j n more)
 
-pub copy-worked : (d : Description) (k n : ℕ) (older before this work work′ : List ℕ) (r : Built) → Ready d k n older before this work → n < termCount d → stayed d n older before this
+pub copy-worked : (d : Description) (k n : ℕ) (older before this work work′ : List ℕ) (r : Built) → Ready d k n older before this work
+    → n < termCount d → stayed d n older before this
     → Grown (copyBuilt (roomAt (placeIn this n) (leftIn this n) (length work)) (partIn (placeIn this n) 0 before n work)) (placeIn this n) 0 work work′ r
     → Worked d k n work work′ r
 copy-worked d k n older before this work work′ r ready more s g =
-    copy-arm d k n older before this work work′ r ready more (at (roundSets d k) n) (set-stays d k n older before this work ready more s) (before-packs d k n older before this work ready n)
-    (subst (λ (ws : List ℕ). Grown (copyBuilt (roomAt (placeOf d k n) (leftOf d k n) (length work)) ws) (placeOf d k n) 0 work work′ r) (before-part d k n older before this work ready n more)
+    copy-arm d k n older before this work work′ r ready more (at (roundSets d k) n) (set-stays d k n older before this work ready more s)
+    (before-packs d k n older before this work ready n)
+    (subst (λ (ws : List ℕ). Grown (copyBuilt (roomAt (placeOf d k n) (leftOf d k n) (length work)) ws) (placeOf d k n) 0 work work′ r)
+    (before-part d k n older before this work ready n more)
     (subst (λ (x : ℕ). Grown (copyBuilt (roomAt (half + x) (half - x) (length work)) (partIn (half + x) 0 before n work)) (half + x) 0 work work′ r)
     (starts-here d k n older before this work ready) g))

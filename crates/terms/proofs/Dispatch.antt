@@ -9,7 +9,8 @@ use native.Mathlib.Omega.{arith}
 use lib.ListN.{length, getD, length-replicate}
 use lib.Seq.{take-all}
 use Rattle.meaning.specs.Labels.{empty, single}
-use Rattle.meaning.specs.Descriptions.{Description, Order, all, Term, act, tau, delta, ref, sum, cond, choice, ifelse, seq, merge, lmerge, sync, wrap, names, termCount, termAt}
+use Rattle.meaning.specs.Descriptions.{Description, Order, all, names, termCount, termAt}
+use Rattle.meaning.specs.Descriptions.{Term, act, tau, delta, ref, sum, cond, choice, ifelse, seq, merge, lmerge, sync, wrap}
 use Rattle.meaning.specs.Legal.{Each, LegalTerm}
 use Rattle.meaning.specs.Rounds.{shape, equationSets}
 use Rattle.meaning.specs.Limits.{total}
@@ -30,7 +31,8 @@ use Rattle.places.specs.Starts.{half, startIn, partIn, placeIn, leftIn}
 use Rattle.terms.specs.Working.{partly, Ready, Worked}
 use Rattle.shapes.specs.Shaping.{shapeFor}
 use Rattle.places.specs.Laying.{copyBuilt}
-use Rattle.terms.specs.Terms.{newOf, built}
+use Rattle.by_shape.specs.Arms.{newOf}
+use Rattle.terms.specs.Terms.{built}
 use Rattle.terms.proofs.Settling.{placeOf, leftOf}
 use Rattle.terms.proofs.Shaped.{wayWords}
 use Rattle.terms.proofs.Stores.{way-same, words-same}
@@ -53,7 +55,8 @@ each-below m [] h i z k = absurd (omega arith)
 each-below m (x ∷ xs) h zero z k = h .0
 each-below m (x ∷ xs) h (suc i) z k = each-below m xs (h .1) i z (omega arith)
 
-module _ (d : Description) (o : Order) (k n : ℕ) (older before this work work′ : List ℕ) (r : Built) (ready : Ready d k n older before this work) (more : n < termCount d) where
+module _ (d : Description) (o : Order) (k n : ℕ) (older before this work work′ : List ℕ) (r : Built) (ready : Ready d k n older before this work)
+    (more : n < termCount d) where
   abbrev room : ℕ
   room = roomAt (placeOf d k n) (leftOf d k n) (length work)
 
@@ -76,7 +79,8 @@ module _ (d : Description) (o : Order) (k n : ℕ) (older before this work work�
       (subst (λ (w : ℕ). Grown (leafBuilt room w) (placeOf d k n) 0 work work′ r) (sym (number-empty (names d))) g)
   kind delta e l g = none-arm d k n older before this work work′ r ready more (ap (shape d) e) g
   kind (ref x) e l g =
-      reference-copy-arm d k n older before this work work′ r ready more x (each-below (termCount d) (d .bodies) (ready .legal .bodies) x (termCount d) l) (ap (shape d) e)
+      reference-copy-arm d k n older before this work work′ r ready more x
+      (each-below (termCount d) (d .bodies) (ready .legal .bodies) x (termCount d) l) (ap (shape d) e)
       (subst (λ (b : ℕ). Grown (copyBuilt room (partIn (placeOf d k n) 0 before b work)) (placeOf d k n) 0 work work′ r)
       (body-of d x l (ready .legal .equationCount)) g)
   kind (sum t) e l g = one-copy-arm d k n older before this work work′ r ready more t l (ap (shape d) e) g
@@ -94,9 +98,13 @@ module _ (d : Description) (o : Order) (k n : ℕ) (older before this work work�
       (subst (λ (way : Way). Wrapped way (wayWords (names d) op)) (way-same d o n t more (ready .legal .termsCount .1) narrow op)
       (subst (Wrapped (wayFor (operatorFor n op))) (words-same d o n t more (ready .legal .termsCount .1) narrow op e (l .1)) g))
 
-  pub kind-worked : Grown (built (roomAt (placeIn this n) (leftIn this n) (length work)) (placeIn this n) (storeOf d o) (tableOf d .bodies) before this work (partIn (placeIn this n) 0 before n work) (shapeFor (termFor n (termAt d n)))) (placeIn this n) 0 work work′ r
+  pub kind-worked : Grown
+      (built (roomAt (placeIn this n) (leftIn this n) (length work)) (placeIn this n) (storeOf d o) (tableOf d .bodies) before this work
+      (partIn (placeIn this n) 0 before n work) (shapeFor (termFor n (termAt d n)))) (placeIn this n) 0 work work′ r
       → Worked d k n work work′ r
   kind-worked g =
       kind (termAt d n) refl (term-legal d all (ready .legal) n)
-      (subst (λ (x : ℕ). Grown (built (roomAt (half + x) (half - x) (length work)) (half + x) (storeOf d o) (tableOf d .bodies) before this work (partIn (half + x) 0 before n work) (shapeFor (termFor n (termAt d n)))) (half + x) 0 work work′ r)
+      (subst (λ (x : ℕ). Grown
+      (built (roomAt (half + x) (half - x) (length work)) (half + x) (storeOf d o) (tableOf d .bodies) before this work
+      (partIn (half + x) 0 before n work) (shapeFor (termFor n (termAt d n)))) (half + x) 0 work work′ r)
       (starts-here d k n older before this work ready) g)

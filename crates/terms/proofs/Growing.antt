@@ -35,13 +35,14 @@ use Rattle.growth.specs.Ways.{throughBuilt}
 use Rattle.shapes.specs.Making.{eitherBuilt, bothBuilt}
 use Rattle.places.specs.Starts.{partIn, half}
 use Rattle.places.specs.Laying.{copyBuilt}
-use Rattle.terms.specs.Terms.{newOf, madeOr, twoGrown}
+use Rattle.by_shape.specs.Arms.{newOf, madeOr, twoGrown}
 use Rattle.shapes.specs.Adding.{eitherAdded, jointAdded, bothAdded, wholeOf, addedOf}
 use Rattle.terms.specs.Working.{partly, Ready, Worked}
 use Rattle.terms.proofs.Settling.{placeOf, roomOf}
 use Rattle.terms.proofs.Operands.{partly-round, round-set, round-ascending, before-part, before-packs, term-part, term-packs, term-ascends}
-use Rattle.terms.proofs.Shaped.{Settled, wayOf, wayWords, Shut, same-settled, settled-next, copied-settled, copy-added, product-added, through-added, either-settled, both-settled}
-use Rattle.terms.proofs.Fitting.{through-grown-fits, two-grown-fits}
+use Rattle.terms.proofs.Shaped.{Settled, wayOf, wayWords, Shut, same-settled, settled-next, copied-settled}
+use Rattle.terms.proofs.Shaped.{copy-added, product-added, through-added, either-settled, both-settled}
+use Rattle.by_shape.proofs.Fitting.{through-grown-fits, two-grown-fits}
 use Rattle.terms.proofs.Arms.{arm, shaped, copy-arm}
 
 -- What is fresh among the numbers of labels, whatever the order: numbers of labels of the newer list, and of all that the older
@@ -175,12 +176,15 @@ module _ (A′ A B′ B : List Label) (x : New A′ A) (y : New B′ B) where
       split : Sum (λ a. a ∈ A) (λ b. b ∈ B) c → c ∈ (product (y .list) A ++ (product (x .list) B ++ M))
       split z = elim (x .back (z .left) (z .inLeft)) [
         | inl k ↦ behind (product (y .list) A) (product (x .list) B ++ M) c
-            (front (product (x .list) B) M c (in-product (x .list) B c (record { left = z .left; right = z .right; inLeft = k; inRight = z .inRight; adds = z .adds })))
+            (front (product (x .list) B) M c
+            (in-product (x .list) B c (record { left = z .left; right = z .right; inLeft = k; inRight = z .inRight; adds = z .adds })))
         | inr k ↦ elim (y .back (z .right) (z .inRight)) [
           | inl l ↦ front (product (y .list) A) (product (x .list) B ++ M) c
-              (sum-turned A (y .list) c (in-product A (y .list) c (record { left = z .left; right = z .right; inLeft = z .inLeft; inRight = l; adds = z .adds })))
+              (sum-turned A (y .list) c
+              (in-product A (y .list) c (record { left = z .left; right = z .right; inLeft = z .inLeft; inRight = l; adds = z .adds })))
           | inr l ↦ behind (product (y .list) A) (product (x .list) B ++ M) c
-              (behind (product (x .list) B) M c (w c (in-product A′ B′ c (record { left = z .left; right = z .right; inLeft = k; inRight = l; adds = z .adds }))))
+              (behind (product (x .list) B) M c
+              (w c (in-product A′ B′ c (record { left = z .left; right = z .right; inLeft = k; inRight = l; adds = z .adds }))))
         ]
       ]
 
@@ -199,20 +203,24 @@ module _ (names room : ℕ) where
   either-more : (F G M : List Label) → AllPack names F → AllPack names G → AllPack names M
       → Settled names room (G ++ (F ++ M)) (eitherAdded room (map number F) (map number G) (map number (ascending M)))
   either-more F G M p q r =
-      settled-next names room (F ++ M) (G ++ (F ++ M)) (throughBuilt room Copy [] (map number F) (map number (ascending M))) (throughBuilt room Copy [] (map number G))
+      settled-next names room (F ++ M) (G ++ (F ++ M)) (throughBuilt room Copy [] (map number F) (map number (ascending M)))
+      (throughBuilt room Copy [] (map number G))
       (behind G (F ++ M)) (copy-added names room [] F M p r) (λ x. copy-added names room [] G (F ++ M) q x)
 
   joint-more : names ≤ 12 → (F A G B M : List Label) → AllPack names F → AllPack names A → AllPack names G → AllPack names B → AllPack names M
-      → Settled names room (product G A ++ (product F B ++ M)) (jointAdded room (map number F) (map number A) (map number G) (map number B) (map number (ascending M)))
+      → Settled names room (product G A ++ (product F B ++ M))
+      (jointAdded room (map number F) (map number A) (map number G) (map number B) (map number (ascending M)))
   joint-more few F A G B M p q p′ q′ r =
       settled-next names room (product F B ++ M) (product G A ++ (product F B ++ M)) (multiplied room (map number F) (map number B) (map number (ascending M)))
       (multiplied room (map number G) (map number A)) (behind (product G A) (product F B ++ M)) (product-added names room few F B M p q′ r)
       (λ x. product-added names room few G A (product F B ++ M) p′ q x)
 
   both-more : names ≤ 12 → (F A G B M : List Label) → AllPack names F → AllPack names A → AllPack names G → AllPack names B → AllPack names M
-      → Settled names room (product G A ++ (product F B ++ (G ++ (F ++ M)))) (bothAdded room (map number F) (map number A) (map number G) (map number B) (map number (ascending M)))
+      → Settled names room (product G A ++ (product F B ++ (G ++ (F ++ M))))
+      (bothAdded room (map number F) (map number A) (map number G) (map number B) (map number (ascending M)))
   both-more few F A G B M p q p′ q′ r =
-      settled-next names room (G ++ (F ++ M)) (product G A ++ (product F B ++ (G ++ (F ++ M)))) (eitherAdded room (map number F) (map number G) (map number (ascending M)))
+      settled-next names room (G ++ (F ++ M)) (product G A ++ (product F B ++ (G ++ (F ++ M))))
+      (eitherAdded room (map number F) (map number G) (map number (ascending M)))
       (jointAdded room (map number F) (map number A) (map number G) (map number B))
       (λ a m. behind (product G A) (product F B ++ (G ++ (F ++ M))) a (behind (product F B) (G ++ (F ++ M)) a m))
       (either-more F G M p p′ r) (λ x. joint-more few F A G B (G ++ (F ++ M)) p q p′ q′ x)
@@ -225,20 +233,24 @@ module _ (names room : ℕ) (few : names ≤ 12) where
   through-grown : (o : Operator) → LegalOperator names o → (L N : List Label) → AllPack names L → AllPack names N → AllPack names (spread (image names o) L)
       → Within (spread (image names o) L) (spread (image names o) N)
       → Settled names room (spread (image names o) N)
-      (next (copyBuilt room (map number (ascending (spread (image names o) L))) []) (throughBuilt room (wayOf o) (wayWords names o) (fresh (map number L) (map number N))))
+      (next (copyBuilt room (map number (ascending (spread (image names o) L))) [])
+      (throughBuilt room (wayOf o) (wayWords names o) (fresh (map number L) (map number N))))
   through-grown o h L N p q r w =
       let x = new-labels names L N p q in
       let f = image names o in
       let step = throughBuilt room (wayOf o) (wayWords names o) (map number (x .list)) in
       rw (x .is)
       (grown names room (spread f L) (spread f N) step r w
-      (same-settled names room (spread f (x .list) ++ spread f L) (spread f N) (step (map number (ascending (spread f L)))) (spread-there L N x f w) (spread-back L N x f)
+      (same-settled names room (spread f (x .list) ++ spread f L) (spread f N) (step (map number (ascending (spread f L)))) (spread-there L N x f w)
+      (spread-back L N x f)
       (through-added names room few o h (x .list) (spread f L) (new-packs L N x q) r (shut-image names o h L))))
 
-  module _ (A′ A B′ B : List Label) (p′ : AllPack names A′) (p : AllPack names A) (q′ : AllPack names B′) (q : AllPack names B) (up : ascending A ≡ A) (also : ascending B ≡ B) where
+  module _ (A′ A B′ B : List Label) (p′ : AllPack names A′) (p : AllPack names A) (q′ : AllPack names B′) (q : AllPack names B) (up : ascending A ≡ A)
+      (also : ascending B ≡ B) where
     either-grown : AllPack names (A′ ++ B′) → Within (A′ ++ B′) (A ++ B)
         → Settled names room (A ++ B) (next (copyBuilt room (map number (ascending (A′ ++ B′))) [])
-        (madeOr (eitherBuilt room (map number A) (map number B)) (eitherAdded room (fresh (map number A′) (map number A)) (fresh (map number B′) (map number B)))))
+        (madeOr (eitherBuilt room (map number A) (map number B))
+        (eitherAdded room (fresh (map number A′) (map number A)) (fresh (map number B′) (map number B)))))
     either-grown r w =
         let x = new-labels names A′ A p′ p in
         let y = new-labels names B′ B q′ q in
@@ -290,7 +302,8 @@ module _ (names room : ℕ) (few : names ≤ 12) (sums : Bool) (eqs old sets : L
       → Within (made [] old (two sums t u)) (made eqs sets (two sums t u))
       → Settled names room (made eqs sets (two sums t u)) (next (copyBuilt room (map number (ascending (made [] old (two sums t u)))) [])
       (madeOr (wholeOf sums room (map number (at sets t)) (map number (at sets u)))
-      (addedOf sums room (fresh (map number (at old t)) (map number (at sets t))) (map number (at sets t)) (fresh (map number (at old u)) (map number (at sets u))) (map number (at sets u)))))
+      (addedOf sums room (fresh (map number (at old t)) (map number (at sets t))) (map number (at sets t))
+      (fresh (map number (at old u)) (map number (at sets u))) (map number (at sets u)))))
   two-grown p′ p q′ q up also = elim sums [
     | true ↦ both-grown names room few (at old t) (at sets t) (at old u) (at sets u) p′ p q′ q up also
     | false ↦ either-grown names room few (at old t) (at sets t) (at old u) (at sets u) p′ p q′ q up also
@@ -310,7 +323,8 @@ was-made d (suc j) n more s none looks e =
     ∙ ap ascending (made-same (equationSets d j) [] (partly d j n) (roundSets d (suc j)) s
     (looks (equationSets d j) (partly d j n) (λ t h. partly-round d j n t (omega arith) h)))
 
-module _ (d : Description) (k n : ℕ) (older before this work work′ : List ℕ) (answer : Built) (r : Ready d k n older before this work) (more : n < termCount d) where
+module _ (d : Description) (k n : ℕ) (older before this work work′ : List ℕ) (answer : Built) (r : Ready d k n older before this work)
+    (more : n < termCount d) where
   abbrev room : ℕ
   room = roomOf d k n older before this work work′ r
 
@@ -354,7 +368,8 @@ module _ (d : Description) (k n : ℕ) (older before this work work′ : List �
         (round-grows d k n a (in-old a m)))
 
   pub through-grown-arm : (op : Operator) (t : ℕ) → t < n → LegalOperator (names d) op → shape d (termAt d n) ≡ through (image (names d) op) t
-      → Grown (λ s. next (copyBuilt room old s) (throughBuilt room (wayOf op) (wayWords (names d) op) (newOf (placeOf d k n) before this work t))) (placeOf d k n) 0 work work′ answer
+      → Grown (λ s. next (copyBuilt room old s) (throughBuilt room (wayOf op) (wayWords (names d) op) (newOf (placeOf d k n) before this work t)))
+      (placeOf d k n) 0 work work′ answer
       → Worked d k n work work′ answer
   unfolding spread
   through-grown-arm op t h l e g =
@@ -390,7 +405,8 @@ module _ (d : Description) (k n : ℕ) (older before this work work′ : List �
       (shaped d k n older before this work work′ answer r more s (twoGrown sums room (placeOf d k n) before this work old t u []) e
       (rw (old-is s none looks e, was-part t left, now-part t left, was-part u right, now-part u right)
       (two-grown (names d) room (r .legal .nameCount .1) sums (equationSets d k) (roundSets d k) (partly d k n) t u
-      (was-packs t) (now-packs t left) (was-packs u) (now-packs u right) (now-ascends t) (now-ascends u) (old-packs s none looks e) (old-within s none looks e))))
+      (was-packs t) (now-packs t left) (was-packs u) (now-packs u right) (now-ascends t) (now-ascends u) (old-packs s none looks e)
+      (old-within s none looks e))))
 
   -- A set that is that of another term, or of an equation's body.
   pub one-copy-arm : (t : ℕ) → t < n → shape d (termAt d n) ≡ one t

@@ -82,7 +82,8 @@ module _ (d : Description) (k n : ℕ) (older before this work : List ℕ) (r : 
   pub term-part : (i : ℕ) → i < n
       → partBefore (half + total (partly d k n)) (half + startIn this i) (half + startIn this (suc i)) work ≡ map number (at (partly d k n) i)
   term-part i h =
-      part-before (half + total (partly d k n)) half n (partly d k n) this work (r .upper) (omega arith) i (half + startIn this i) (half + startIn this (suc i)) h refl refl
+      part-before (half + total (partly d k n)) half n (partly d k n) this work (r .upper) (omega arith) i (half + startIn this i)
+      (half + startIn this (suc i)) h refl refl
 
   pub term-packs : n ≤ termCount d → (i : ℕ) → i < n → AllPack (names d) (at (partly d k n) i)
   term-packs h i less = packed-sets (names d) (partly d k n) i (r .fewer) (subst (Full (names d)) (sym (partly-round d k n i h less)) (round-full d (suc k) i))

@@ -73,19 +73,24 @@ module _ (d : Description) (k n : ℕ) (older before this work work′ : List �
   fits : half + total (partly d k n) + length (map number (setOf d k n)) ≤ length work
   fits = omega (arith, next-fits d k n (t .fewer), length-map (setOf d k n) number, r .room)
 
-  same-words : work′ ≡ take (half + total (partly d k n)) work ++ (map number (setOf d k n) ++ drop (half + total (partly d k n) + length (map number (setOf d k n))) work)
-  same-words = t .words ∙ ap (λ (m : ℕ). take (half + total (partly d k n)) work ++ (map number (setOf d k n) ++ drop (half + total (partly d k n) + m) work)) (sym (length-map (setOf d k n) number))
+  same-words : work′ ≡ take (half + total (partly d k n)) work ++
+      (map number (setOf d k n) ++ drop (half + total (partly d k n) + length (map number (setOf d k n))) work)
+  same-words = t .words
+      ∙ ap (λ (m : ℕ). take (half + total (partly d k n)) work ++ (map number (setOf d k n) ++ drop (half + total (partly d k n) + m) work))
+      (sym (length-map (setOf d k n) number))
 
   pub term-kept : Kept work work′
   term-kept = rw same-words (record {
     long = laid-long (half + total (partly d k n)) (map number (setOf d k n)) work fits;
-    rest = laid-behind (half + total (partly d k n)) (map number (setOf d k n)) work fits whole (omega (arith, next-fits d k n (t .fewer), length-map (setOf d k n) number));
+    rest = laid-behind (half + total (partly d k n)) (map number (setOf d k n)) work fits whole
+        (omega (arith, next-fits d k n (t .fewer), length-map (setOf d k n) number));
   })
 
   lower-stays : Laid 0 (termCount d) (roundSets d k) before work′
   lower-stays =
       laid-kept 0 (termCount d) (roundSets d k) before work work′
-      (rw same-words (laid-front (half + total (partly d k n)) (map number (setOf d k n)) work fits (0 + total (roundSets d k)) (omega (arith, at-most (roundSets d k) (r .few)))))
+      (rw same-words (laid-front (half + total (partly d k n)) (map number (setOf d k n)) work fits (0 + total (roundSets d k))
+      (omega (arith, at-most (roundSets d k) (r .few)))))
       (r .lower)
 
   begins-set : (i : ℕ) → i ≤ length (partly d k n) → startIn (set this (n + 1) (startIn this n + count)) i ≡ startIn this i
@@ -94,7 +99,8 @@ module _ (d : Description) (k n : ℕ) (older before this work work′ : List �
   last-set : startIn (set this (n + 1) (startIn this n + count)) (suc (length (partly d k n))) ≡ total (partly d k n) + length (setOf d k n)
   last-set =
       let e : suc (length (partly d k n)) ≡ n + 1 = omega (arith, length-worked d (equationSets d k) n) in
-      let b : startIn this n ≡ total (partly d k n) = r .upper .begins n (le-refl n) ∙ ap total (take-all n (partly d k n) (omega (arith, length-worked d (equationSets d k) n))) in
+      let b : startIn this n ≡ total (partly d k n) = r .upper .begins n (le-refl n)
+      ∙ ap total (take-all n (partly d k n) (omega (arith, length-worked d (equationSets d k) n))) in
       rw e (start-set this (n + 1) (startIn this n + count) starts (omega (arith, t .size, next-fits d k n (t .fewer))) ∙ ap₂ _+_ b (t .size))
 
   pub ready-next : Ready d k (suc n) older before (set this (n + 1) (startIn this n + count)) work′
@@ -106,9 +112,13 @@ module _ (d : Description) (k n : ℕ) (older before this work work′ : List �
         lower = lower-stays;
         upper = subst (λ (sets : List (List Label)). Laid half (suc n) sets (set this (n + 1) (startIn this n + count)) work′) (sym (partly-more d k n))
             (subst (λ (w : List ℕ). Laid half (suc n) (partly d k n ++ (setOf d k n ∷ [])) (set this (n + 1) (startIn this n + count)) w) (sym (t .words))
-            (subst (λ (m : ℕ). Laid half (suc m) (partly d k n ++ (setOf d k n ∷ [])) (set this (n + 1) (startIn this n + count)) (take (half + total (partly d k n)) work ++ (map number (setOf d k n) ++ drop (half + total (partly d k n) + length (setOf d k n)) work))) (length-worked d (equationSets d k) n)
+            (subst (λ (m : ℕ). Laid half (suc m) (partly d k n ++ (setOf d k n ∷ [])) (set this (n + 1) (startIn this n + count))
+            (take (half + total (partly d k n)) work ++
+            (map number (setOf d k n) ++ drop (half + total (partly d k n) + length (setOf d k n)) work))) (length-worked d (equationSets d k) n)
             (laid-more half (partly d k n) this (set this (n + 1) (startIn this n + count)) work (setOf d k n) (half + total (partly d k n))
-            (drop (half + total (partly d k n) + length (setOf d k n)) work) (subst (λ (m : ℕ). Laid half m (partly d k n) this work) (sym (length-worked d (equationSets d k) n)) (r .upper)) refl (omega (arith, fits)) begins-set last-set)));
+            (drop (half + total (partly d k n) + length (setOf d k n)) work)
+            (subst (λ (m : ℕ). Laid half m (partly d k n) this work) (sym (length-worked d (equationSets d k) n)) (r .upper)) refl
+            (omega (arith, fits)) begins-set last-set)));
         few = r .few;
         fewer = t .fewer;
       }

@@ -128,4 +128,5 @@ module _ (d : Description) (k n : ℕ) (older before this work work′ : List �
           | yes l ↦ inr (inl l)
           | no l ↦ inr (inr (let a = at-most (partly d k n) (r .fewer) in omega (arith, roomy)))
         ]
-        which (inr y) = inl (long (setOf d k n) (y .label) (in-ascending (made (equationSets d k) (partly d k n) (shape d (termAt d n))) (y .label) .1 (y .there)) (y .long))
+        which (inr y) = inl (long (setOf d k n) (y .label)
+            (in-ascending (made (equationSets d k) (partly d k n) (shape d (termAt d n))) (y .label) .1 (y .there)) (y .long))

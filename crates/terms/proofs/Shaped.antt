@@ -110,7 +110,8 @@ module _ (names room : ℕ) where
       is : united room (map number (ascending s)) (map number (ascending t)) ≡ united room (map number s) (map number t)
       is = ap₂ (λ (l m : List Label). united room (map number l) (map number m)) up also
 
-      together : ((united room (map number (ascending s)) (map number (ascending t)) ≡ done (map number (ascending (s ++ t)))) × (length (ascending (s ++ t)) ≤ room))
+      together : ((united room (map number (ascending s)) (map number (ascending t)) ≡ done (map number (ascending (s ++ t)))) ×
+          (length (ascending (s ++ t)) ≤ room))
           ⊎ ((united room (map number (ascending s)) (map number (ascending t)) ≡ stopped (replicate room 0)) × (room < length (ascending (s ++ t))))
           → Settled names room (s ++ t) (eitherBuilt room (map number s) (map number t) [])
       together (inl x) = inl (record { built = sym is ∙ x .0; packs = λ a m. elim (in-append a s t .0 m) [ inl k ↦ p a k | inr k ↦ q a k ] })

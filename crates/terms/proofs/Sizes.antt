@@ -25,7 +25,8 @@ pub size-of : (n : ℕ) (sets : List (List Label)) (starts : List ℕ) → Begin
 size-of n sets starts b i h = b (suc i) h ∙ total-take sets i ∙ ap (λ (m : ℕ). m + length (at sets i)) (sym (b i (omega arith)))
 
 -- A set that has as many labels as in the round before is the same.
-pub same-size : (d : Description) (k i : ℕ) → length (at (roundSets d (suc k)) i) ≡ length (at (roundSets d k) i) → at (roundSets d (suc k)) i ≡ at (roundSets d k) i
+pub same-size : (d : Description) (k i : ℕ) → length (at (roundSets d (suc k)) i) ≡ length (at (roundSets d k) i)
+    → at (roundSets d (suc k)) i ≡ at (roundSets d k) i
 same-size d k i e =
     let back = once-count (at (roundSets d k) i) (at (roundSets d (suc k)) i) (once-round d k i) (round-grows d k i) .1 (omega arith) in
     ascending-unique (at (roundSets d (suc k)) i) (at (roundSets d k) i) (round-ascends d (suc k) i) (round-ascends d k i) back (round-grows d k i)
@@ -34,11 +35,13 @@ module _ (n : ℕ) (sets : List (List Label)) (starts : List ℕ) (b : Begins n 
   pub size-is : (i : ℕ) → i < n → sizeAt starts i ≡ length (at sets i)
   size-is i h = let e = size-of n sets starts b i h in omega arith
 
-module _ (d : Description) (k : ℕ) (before this : List ℕ) (p : Begins (termCount d) (roundSets d k) before) (q : Begins (termCount d) (roundSets d (suc k)) this) where
+module _ (d : Description) (k : ℕ) (before this : List ℕ) (p : Begins (termCount d) (roundSets d k) before)
+    (q : Begins (termCount d) (roundSets d (suc k)) this) where
   pub stays→ : (i : ℕ) → i < termCount d → T (stays before this i) → at (roundSets d (suc k)) i ≡ at (roundSets d k) i
   stays→ i h t =
       same-size d k i
-      (sym (size-is (termCount d) (roundSets d (suc k)) this q i h) ∙ eqb→eq (sizeAt this i) (sizeAt before i) t ∙ size-is (termCount d) (roundSets d k) before p i h)
+      (sym (size-is (termCount d) (roundSets d (suc k)) this q i h) ∙ eqb→eq (sizeAt this i) (sizeAt before i) t
+      ∙ size-is (termCount d) (roundSets d k) before p i h)
 
   pub →stays : (i : ℕ) → i < termCount d → at (roundSets d (suc k)) i ≡ at (roundSets d k) i → T (stays before this i)
   →stays i h e =

@@ -36,7 +36,8 @@ module _ (term : Term) (store bodies : List ℕ) (n : ℕ) (older before this wo
   term-worked g d o k e f b more ready = by (unchanged (tableOf d .bodies) older before this (shapeFor (termFor n (D.termAt d n)))) refl (rw (f, b, e) at g)
     where
       by : (t : Bool) → unchanged (tableOf d .bodies) older before this (shapeFor (termFor n (D.termAt d n))) ≡ t
-          → Grown (renewed t (copyBuilt room old) (built room at (storeOf d o) (tableOf d .bodies) before this work old (shapeFor (termFor n (D.termAt d n))))) at 0 work work′ r
+          → Grown (renewed t (copyBuilt room old)
+          (built room at (storeOf d o) (tableOf d .bodies) before this work old (shapeFor (termFor n (D.termAt d n))))) at 0 work work′ r
           → Worked d k n work work′ r
       by true u x = copy-worked d k n older before this work work′ r ready more (subst (λ (t : Bool). T t) (sym u) tt) x
       by false u x = kind-worked d o k n older before this work work′ r ready more x

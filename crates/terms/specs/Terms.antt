@@ -2,46 +2,24 @@
 -- that a limit is passed, is `term-worked` in `proofs/Worked.antt`.
 -- Assumes nothing.
 use mathlib.Core.Bool.{Bool, true, false}
-use mathlib.Core.List.{List, [], _∷_}
+use mathlib.Core.List.{List}
 use Prim.Native.Nat.{ℕ}
 use lib.ListN.{length, getD}
 use Rattle.labels.specs.Packing.{code}
 use Rattle.table.specs.declared.Term.{Term}
-use Rattle.table.specs.declared.Operator.{Operator}
 use Rattle.sets.specs.declared.Built.{Built}
 use Rattle.sets.specs.Parts.{roomAt}
-use Rattle.sets.specs.Building.{Building, done, next, Grown}
+use Rattle.sets.specs.Building.{Building, done, Grown}
 use Rattle.shapes.specs.declared.Shape.{Shape}
 use Rattle.shapes.specs.declared.Shape.the-variants.{Empty, Leaf, Body, One, Two, Joint, Through}
 use Rattle.shapes.specs.Shaping.{shapeFor}
 use Rattle.shapes.specs.Steady.{unchanged}
-use Rattle.growth.specs.Fresh.{fresh}
-use Rattle.growth.specs.Ways.{wayFor, wordsFor, throughBuilt}
 use Rattle.shapes.specs.Making.{leafBuilt, jointBuilt}
-use Rattle.shapes.specs.Adding.{wholeOf, addedOf}
+use Rattle.by_shape.specs.Arms.{twoGrown, throughGrown}
 use Rattle.places.specs.Starts.{half, partIn, placeIn, leftIn}
 use Rattle.places.specs.Laying.{copyBuilt}
 
--- The labels of a term's set that the round before did not have.
-abbrev pub newOf : ℕ → (before this work : List ℕ) → ℕ → List ℕ
-newOf at before this work t = fresh (partIn at 0 before t work) (partIn at half this t work)
-
--- A set that was empty is made whole; one that was not is added to.
-abbrev pub madeOr : (first more : List ℕ → Building) → List ℕ → Building
-madeOr first more [] = first []
-madeOr first more (w ∷ s) = more (w ∷ s)
-
 -- What is built for each shape of term, of which `old` is the set in the round before.
-abbrev pub twoGrown : (sums : Bool) (room at : ℕ) (before this work old : List ℕ) → ℕ → ℕ → List ℕ → Building
-twoGrown sums room at before this work old t u s =
-    next (copyBuilt room old s)
-    (madeOr (wholeOf sums room (partIn at half this t work) (partIn at half this u work))
-    (addedOf sums room (newOf at before this work t) (partIn at half this t work) (newOf at before this work u) (partIn at half this u work)))
-
-abbrev pub throughGrown : (room at : ℕ) (store before this work old : List ℕ) → Operator → ℕ → List ℕ → Building
-throughGrown room at store before this work old o t s =
-    next (copyBuilt room old s) (throughBuilt room (wayFor o) (wordsFor store o) (newOf at before this work t))
-
 abbrev pub built : (room at : ℕ) (store bodies before this work old : List ℕ) → Shape → List ℕ → Building
 built room at store bodies before this work old Empty = done
 built room at store bodies before this work old (Leaf label) = leafBuilt room (code label)

@@ -1,7 +1,7 @@
 // The set of a term in a round: worked out from the sets that stand in the work area, or copied from the round before.
-mod building;
+mod choosing;
 
-use crate::building::work_out;
+use crate::choosing::work_out;
 use places::laying::lay;
 use places::starts::left_of;
 use places::starts::part_at;

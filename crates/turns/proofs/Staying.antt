@@ -26,7 +26,8 @@ use Rattle.terms.proofs.Areas.{length-flat}
 use Rattle.terms.proofs.Passing.{at-most}
 use Rattle.terms.proofs.Sizes.{stays→, →stays}
 
-module _ (d : Description) (k : ℕ) (before this : List ℕ) (p : Begins (termCount d) (roundSets d k) before) (q : Begins (termCount d) (roundSets d (suc k)) this) where
+module _ (d : Description) (k : ℕ) (before this : List ℕ) (p : Begins (termCount d) (roundSets d k) before)
+    (q : Begins (termCount d) (roundSets d (suc k)) this) where
   all-stay→ : (bs : List ℕ) → Each (λ x. x < termCount d) bs → T (allStay before this bs) → map (at (roundSets d (suc k))) bs ≡ map (at (roundSets d k)) bs
   unfolding allStay
   all-stay→ [] h t = refl
@@ -38,7 +39,8 @@ module _ (d : Description) (k : ℕ) (before this : List ℕ) (p : Begins (termC
   unfolding allStay
   →all-stay [] h e = tt
   →all-stay (x ∷ bs) h e =
-      and-both (stays before this x) (allStay before this bs) (→stays d k before this p q x (h .0) (ap (λ (l : List (List Label)). getD l 0 []) e)) (→all-stay bs (h .1) (ap tail e))
+      and-both (stays before this x) (allStay before this bs) (→stays d k before this p q x (h .0) (ap (λ (l : List (List Label)). getD l 0 []) e))
+      (→all-stay bs (h .1) (ap tail e))
 
   pub stable-if : Each (λ x. x < termCount d) (d .bodies) → T (allStay before this (d .bodies)) → Stable d k
   stable-if h t = all-stay→ (d .bodies) h t
@@ -47,7 +49,8 @@ module _ (d : Description) (k : ℕ) (before this : List ℕ) (p : Begins (termC
   unstable-if h n e = n (→all-stay (d .bodies) h e)
 
 -- The upper half copied down.
-pub between-lowered : (d : Description) (k count : ℕ) (older before this work now work′ : List ℕ) → Between d k older before work → RoundDone d k before this work now
+pub between-lowered : (d : Description) (k count : ℕ) (older before this work now work′ : List ℕ) → Between d k older before work
+    → RoundDone d k before this work now
     → (Stable d k → ⊥) → count ≡ total (roundSets d (suc k)) → work′ ≡ take count (drop half now) ++ drop count now → Between d (suc k) before this work′
 between-lowered d k count older before this work now work′ b r unstable c e =
     let fits : total (roundSets d (suc k)) ≤ 2048 = at-most (roundSets d (suc k)) (r .few) in
@@ -67,7 +70,8 @@ between-lowered d k count older before this work now work′ b r unstable c e =
       unstable = λ j h s. elim (decLt j k) [ yes l ↦ b .unstable j l s | no n ↦ unstable (subst (λ (i : ℕ). Stable d i) (omega arith) s) ];
     }
 
-pub kept-lowered : (count : ℕ) (now work′ : List ℕ) → count ≤ 2048 → half + count ≤ length now → work′ ≡ take count (drop half now) ++ drop count now → Kept now work′
+pub kept-lowered : (count : ℕ) (now work′ : List ℕ) → count ≤ 2048 → half + count ≤ length now → work′ ≡ take count (drop half now) ++ drop count now
+    → Kept now work′
 kept-lowered count now work′ h l e =
     let size : length (take count (drop half now)) ≡ count = length-take count (drop half now) ∙ min-eq-left (omega (arith, length-drop half now)) in
     let k : count + (whole - count) ≡ whole = omega arith in

@@ -40,7 +40,8 @@ unfolding roundSets next
 round-done d k n older before this work work′ r e kept =
     let whole-round : partly d k n ≡ roundSets d (suc k) = ap (worked d (equationSets d k)) e in
     record {
-      upper = subst (λ (m : ℕ). Laid half m (roundSets d (suc k)) this work′) e (subst (λ (sets : List (List Label)). Laid half n sets this work′) whole-round (r .upper));
+      upper = subst (λ (m : ℕ). Laid half m (roundSets d (suc k)) this work′) e
+          (subst (λ (sets : List (List Label)). Laid half n sets this work′) whole-round (r .upper));
       few = subst (λ (sets : List (List Label)). T (over sets) → ⊥) whole-round (r .fewer);
       kept = kept;
     }

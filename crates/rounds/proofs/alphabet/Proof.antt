@@ -38,8 +38,9 @@ same-length-3 c = search needs
 
 returns-3 : tie.Need-returns-3
 returns-3 c =
-    let most = c .before .before .before .before .before .before .before .before .before .before .before .before .before .before .before .before .if1 .left in
-    let reached = rw (c .before .before .before .before .before .before .before .before .before .before .found .given .1) at (c .before .before .before .before .before .before .before .before .before .before .before .before .before .before .until-stable .ensures) in
+    let after = c .before .before .before .before .before .before .before .before .before .before in
+    let most = after .before .before .before .before .before .before .if1 .left in
+    let reached = rw (after .found .given .1) at (after .before .before .before .before .until-stable .ensures) in
     answered-listed most reached (c .before .before .before .before .before .before .listing .ensures) (c .before .before .clear .ensures)
 
 pub alphabet-spec : {M : Type 1} → statement M

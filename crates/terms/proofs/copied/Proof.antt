@@ -20,7 +20,11 @@ same-length : tie.Need-same-length
 same-length c = search needs
 
 returns : tie.Need-returns
-returns c = rw (c .before .before .before .before .before .part-at .ensures, c .before .before .before .before .place-of .ensures, c .before .before .before .left-of .ensures) at (c .before .before .lay .ensures)
+returns c = rw (
+  c .before .before .before .before .before .part-at .ensures,
+  c .before .before .before .before .place-of .ensures,
+  c .before .before .before .left-of .ensures,
+) at (c .before .before .lay .ensures)
 
 pub copied-spec : {M : Type 1} → statement M
 copied-spec =

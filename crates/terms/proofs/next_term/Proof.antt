@@ -18,7 +18,8 @@ same-length : tie.Need-same-length
 same-length c = search needs
 
 returns : tie.Need-returns
-returns c = rw (sym (rw (c .before .before .before .before .before .before .shape-of .ensures) at (c .before .before .before .before .before .unchanged .ensures)) ∙ c .before .before .before .before .if1 .taken) (c .before .before .copied .ensures)
+returns c = rw (sym (rw (c .before .before .before .before .before .before .shape-of .ensures) at
+    (c .before .before .before .before .before .unchanged .ensures)) ∙ c .before .before .before .before .if1 .taken) (c .before .before .copied .ensures)
 
 work-out-requires : tie.Need-work-out-requires
 work-out-requires c κs = tt
@@ -27,7 +28,10 @@ same-length-2 : tie.Need-same-length-2
 same-length-2 c = search needs
 
 returns-2 : tie.Need-returns-2
-returns-2 c = rw (sym (rw (c .before .before .before .before .before .before .shape-of .ensures) at (c .before .before .before .before .before .unchanged .ensures)) ∙ c .before .before .before .before .if1 .left) (rw (c .before .before .before .before .before .before .shape-of .ensures) at (c .before .before .work-out .ensures))
+returns-2 c = rw (sym
+    (rw (c .before .before .before .before .before .before .shape-of .ensures) at (c .before .before .before .before .before .unchanged .ensures))
+    ∙ c .before .before .before .before .if1 .left)
+    (rw (c .before .before .before .before .before .before .shape-of .ensures) at (c .before .before .work-out .ensures))
 
 pub next-term-spec : {M : Type 1} → statement M
 next-term-spec =

@@ -46,10 +46,11 @@ part-at-requires c κs = search needs
 
 conclude-requires : tie.Need-conclude-requires
 conclude-requires c κs =
-    let turned = c .before .before .before .before .before .turn-on in
-    let tested = c .before .before .before .before .before .before .before .before .before .before .before .before .before .before .fits2 in
-    let fits = rw (not-false (tested .result) (c .before .before .before .before .before .before .before .before .before .before .before .before .before .if1 .left)) at (tested .ensures) in
-    let end = suc (c .before .before .before .before .before .before .before .before .before .before .before .before .before .before .before .before .before .args .table .root) in
+    let after = c .before .before .before .before .before in
+    let turned = after .turn-on in
+    let tested = after .before .before .before .before .before .before .before .before .before .fits2 in
+    let fits = rw (not-false (tested .result) (after .before .before .before .before .before .before .before .before .if1 .left)) at (tested .ensures) in
+    let end = suc (after .before .before .before .before .before .before .before .before .before .before .before .before .args .table .root) in
     record {
       room = omega (arith, turned .kept .1 .1 .1 .1 .1 .1 .0, fits .0);
       end = rw (c .before .part-at .ensures) (omega (arith, start-low (turned .last .1 .1 .1 .1 .0) end, start-low (turned .last .1 .1 .1 .1 .1 .0) end));
@@ -60,9 +61,10 @@ same-length c = search needs
 
 returns-2 : tie.Need-returns-2
 returns-2 c =
-    let turned = c .before .before .before .before .before .before .before .before .turn-on in
-    let tested = c .before .before .before .before .before .before .before .before .before .before .before .before .before .before .before .before .before .fits2 in
-    let fits = rw (not-false (tested .result) (c .before .before .before .before .before .before .before .before .before .before .before .before .before .before .before .before .if1 .left)) at (tested .ensures) in
+    let after = c .before .before .before .before .before .before .before .before in
+    let turned = after .turn-on in
+    let tested = after .before .before .before .before .before .before .before .before .before .fits2 in
+    let fits = rw (not-false (tested .result) (after .before .before .before .before .before .before .before .before .if1 .left)) at (tested .ensures) in
     let concluded = rw (c .before .before .before .before .part-at .ensures) at (c .before .before .conclude .ensures) in
     reached-last (fits .0) (turned .kept .1 .1 .1 .1 .1 .1 .0) (turned .result) (turned .ensures) concluded
 

@@ -34,10 +34,14 @@ enter-requires : tie.Need-enter-requires Inv-loop μ-loop
 enter-requires c κs = let inv = c .before .before .before .before .before .before .before .before .before .loop .inv in omega (arith, inv .few, inv .size)
 
 same-length : tie.Need-same-length Inv-loop μ-loop
-same-length c = c .before .before .before .enter .kept .0 ∙ c .before .before .before .before .before .before .before .before .before .before .before .before .before .loop .inv .size ∙ sym (c .before .before .before .before .before .before .before .before .before .before .before .before .before .before .before .before .before .before .before .before .before .pre .size)
+same-length c =
+    let turn = c .before .before .before .before .before .before .before .before .before .before .before .before .before in
+    c .before .before .before .enter .kept .0 ∙ turn .loop .inv .size ∙ sym (turn .before .before .before .before .before .before .before .before .pre .size)
 
 same-length-2 : tie.Need-same-length-2 Inv-loop μ-loop
-same-length-2 c = c .before .before .before .before .before .before .before .next-term .kept .1 .1 .1 .1 .1 .1 .1 .0 ∙ c .before .before .before .before .before .before .before .before .before .before .before .before .before .loop .inv .long
+same-length-2 c =
+    let worked = c .before .before .before .before .before .before .before in
+    worked .next-term .kept .1 .1 .1 .1 .1 .1 .1 .0 ∙ worked .before .before .before .before .before .before .loop .inv .long
 
 returns : tie.Need-returns Inv-loop μ-loop
 returns c =
@@ -75,5 +79,6 @@ returns-2 c = progress-end (c .before .loop .inv) (omega arith)
 pub pass-spec : {M : Type 1} → statement M
 pass-spec =
     tie.close
-    (tie.spec Inv-loop μ-loop loop-holds mul-unpack shared-slice-read-unpack unpack-requires next-term-requires enter-requires same-length same-length-2 returns add-n loop-less loop-again same-length-3
+    (tie.spec Inv-loop μ-loop loop-holds mul-unpack shared-slice-read-unpack unpack-requires next-term-requires enter-requires
+    same-length same-length-2 returns add-n loop-less loop-again same-length-3
     same-length-4 returns-2)

@@ -53,10 +53,11 @@ same-length-2 c = search needs
 
 returns-2 : tie.Need-returns-2
 returns-2 c =
-    let a = c .before .before .before .before .before .before .before .before .before .before .args in
+    let start = c .before .before .before .before .before .before .before .before .before .before in
     let brought = c .before .before .before .before .before .before .bring in
-    let left = length (brought .last .0) - (a .set .to - a .set .from) in
-    settled-set (c .before .before .before .before .before .before .before .before .before .before .pre) refl (omega arith) (brought .ensures) left (c .before .before .clear2 .ensures) refl (omega (arith, brought .kept .0))
+    let cleared = c .before .before .clear2 .ensures in
+    let left = length (brought .last .0) - (start .args .set .to - start .args .set .from) in
+    settled-set (start .pre) refl (omega arith) (brought .ensures) left cleared refl (omega (arith, brought .kept .0))
 
 pub settle-spec : {M : Type 1} → statement M
 settle-spec =

@@ -1,8 +1,8 @@
--- `terms::building::of_one` meets its contract.
+-- `by_shape::of_one` meets its contract.
 -- Assumes nothing.
 use borrow.Author.Needs.{needs}
-use Rattle.terms.proofs.building.of_one.Statement.{statement}
-use Rattle.terms.proofs.building.of_one.Tie as tie
+use Rattle.by_shape.proofs.of_one.Statement.{statement}
+use Rattle.by_shape.proofs.of_one.Tie as tie
 
 part-at-requires : tie.Need-part-at-requires
 part-at-requires c κs = tt

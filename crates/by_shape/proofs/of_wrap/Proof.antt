@@ -1,4 +1,4 @@
--- `terms::building::of_wrap` meets its contract: the set of the round before, then what the new labels give.
+-- `by_shape::of_wrap` meets its contract: the set of the round before, then what the new labels give.
 -- Assumes nothing.
 use Prim.Native.Nat.{ℕ}
 use mathlib.Core.List.{List}
@@ -10,10 +10,10 @@ use Rattle.places.specs.Starts.{half, partOf, partIn}
 use Rattle.places.specs.Laying.{copyBuilt}
 use Rattle.shapes.proofs.Sequence.{first-large, steady-way}
 use Rattle.shapes.specs.Adding.{newFrom}
-use Rattle.terms.proofs.Onto.{copy-last}
+use Rattle.by_shape.proofs.Onto.{copy-last}
 use borrow.Author.Needs.{needs}
-use Rattle.terms.proofs.building.of_wrap.Statement.{statement}
-use Rattle.terms.proofs.building.of_wrap.Tie as tie
+use Rattle.by_shape.proofs.of_wrap.Statement.{statement}
+use Rattle.by_shape.proofs.of_wrap.Tie as tie
 
 of-one-requires : tie.Need-of-one-requires
 of-one-requires c κs = tt
@@ -30,7 +30,8 @@ same-length c = search needs
 returns : tie.Need-returns
 returns c =
     let a = c .before .before .before .before .before .before .before .before .before .before .args in
-    first-large (a .at) 0 (copyBuilt (roomAt (a .at) (a .most) (length (a .work .now))) (partIn (a .at) 0 (a .before .now) (a .n) (a .work .now))) _ (a .work .now) _ (rw (c .enum-told .given .1) at (c .before .before .before .before .of-one .ensures))
+    first-large (a .at) 0 (copyBuilt (roomAt (a .at) (a .most) (length (a .work .now))) (partIn (a .at) 0 (a .before .now) (a .n) (a .work .now))) _
+    (a .work .now) _ (rw (c .enum-told .given .1) at (c .before .before .before .before .of-one .ensures))
 
 growth-of-requires : tie.Need-growth-of-requires
 growth-of-requires c κs = tt
@@ -47,7 +48,9 @@ returns-2 c =
     let g : Growth = (record { known = partOf 0 (a .before .now) (a .t); part = partOf half (a .this .now) (a .t) }) in
     copy-last (a .at) (a .most) _ (partIn (a .at) 0 (a .before .now) (a .n) (a .work .now))
     (λ (m : ℕ) (ls : List ℕ). throughBuilt m (wayFor (a .operator)) (wordsFor (a .store .now) (a .operator)) (newFrom g ls)) (a .work .now) _ _ _
-    (rw (c .before .before .before .before .before .before .old .given .1) at (c .before .before .before .before .before .before .before .before .before .before .of-one .ensures)) (rw (c .before .before .before .before .growth-of .ensures) at (c .before .before .wrapped .ensures))
+    (rw (c .before .before .before .before .before .before .old .given .1) at
+    (c .before .before .before .before .before .before .before .before .before .before .of-one .ensures))
+    (rw (c .before .before .before .before .growth-of .ensures) at (c .before .before .wrapped .ensures))
     (steady-way g (wayFor (a .operator)) (wordsFor (a .store .now) (a .operator)))
 
 pub of-wrap-spec : {M : Type 1} → statement M

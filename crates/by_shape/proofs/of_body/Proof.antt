@@ -1,8 +1,8 @@
--- `terms::building::of_body` meets its contract.
+-- `by_shape::of_body` meets its contract.
 -- Assumes nothing.
 use borrow.Author.Needs.{needs}
-use Rattle.terms.proofs.building.of_body.Statement.{statement}
-use Rattle.terms.proofs.building.of_body.Tie as tie
+use Rattle.by_shape.proofs.of_body.Statement.{statement}
+use Rattle.by_shape.proofs.of_body.Tie as tie
 
 body-of-requires : tie.Need-body-of-requires
 body-of-requires c κs = search needs

@@ -22,7 +22,7 @@ use Rattle.shapes.specs.Making.{leafBuilt, eitherBuilt, jointBuilt, bothBuilt}
 use Rattle.growth.specs.Ways.{throughBuilt}
 use Rattle.places.specs.Laying.{fitted, copyBuilt}
 use Rattle.shapes.specs.Adding.{eitherAdded, jointAdded, bothAdded, wholeOf, addedOf}
-use Rattle.terms.specs.Terms.{madeOr}
+use Rattle.by_shape.specs.Arms.{madeOr}
 use Rattle.places.proofs.Filling.{length-zeros}
 
 module _ (room : ℕ) where
@@ -85,7 +85,8 @@ module _ (room : ℕ) where
   joint-stays newA a newB b s l = stays-next (multiplied room newA b s) (multiplied room newB a) (product-stays newA b s l) (product-stays newB a)
 
   both-stays : (newA a newB b : List ℕ) → Stays (bothAdded room newA a newB b)
-  both-stays newA a newB b s l = stays-next (eitherAdded room newA newB s) (jointAdded room newA a newB b) (either-stays newA newB s l) (joint-stays newA a newB b)
+  both-stays newA a newB b s l = stays-next (eitherAdded room newA newB s) (jointAdded room newA a newB b) (either-stays newA newB s l)
+      (joint-stays newA a newB b)
 
   pub through-grown-fits : (old : List ℕ) (way : Way) (list new : List ℕ) → length (next (copyBuilt room old []) (throughBuilt room way list new) .set) ≤ room
   through-grown-fits old way list new = stays-next (copyBuilt room old []) (throughBuilt room way list new) (copy-fits old) (through-stays way list new)

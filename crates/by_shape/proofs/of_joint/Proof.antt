@@ -1,8 +1,8 @@
--- `terms::building::of_joint` meets its contract
+-- `by_shape::of_joint` meets its contract
 -- Assumes nothing.
 use borrow.Author.Needs.{needs}
-use Rattle.terms.proofs.building.of_joint.Statement.{statement}
-use Rattle.terms.proofs.building.of_joint.Tie as tie
+use Rattle.by_shape.proofs.of_joint.Statement.{statement}
+use Rattle.by_shape.proofs.of_joint.Tie as tie
 
 part-at-requires : tie.Need-part-at-requires
 part-at-requires c κs = tt
@@ -17,7 +17,8 @@ same-length : tie.Need-same-length
 same-length c = search needs
 
 returns : tie.Need-returns
-returns c = rw (c .before .before .before .before .before .part-at .ensures, c .before .before .before .before .part-at2 .ensures) at (c .before .before .add-product .ensures)
+returns c = rw (c .before .before .before .before .before .part-at .ensures, c .before .before .before .before .part-at2 .ensures) at
+    (c .before .before .add-product .ensures)
 
 pub of-joint-spec : {M : Type 1} → statement M
 of-joint-spec =

@@ -14,11 +14,12 @@ use Rattle.sets.proofs.Steps.{Steady, grown-as, next-holds, built-holds}
 use Rattle.places.specs.Laying.{copyBuilt}
 use Rattle.shapes.proofs.Makings.{nothing-grown}
 use Rattle.shapes.proofs.Sequence.{then-last}
-use Rattle.terms.specs.Terms.{madeOr}
-use Rattle.terms.proofs.Fitting.{copy-fits}
+use Rattle.by_shape.specs.Arms.{madeOr}
+use Rattle.by_shape.proofs.Fitting.{copy-fits}
 
 module _ (at most n : ℕ) (old : List ℕ) (second : ℕ → List ℕ → List ℕ → Building) (before now : List ℕ) (r : Built) (after : List ℕ)
-    (x : Grown (copyBuilt (roomAt at most (length before)) old) at 0 before now (Holds n)) (y : Grown (second (roomAt at most (length now)) (take at now)) at n now after r) where
+    (x : Grown (copyBuilt (roomAt at most (length before)) old) at 0 before now (Holds n))
+    (y : Grown (second (roomAt at most (length now)) (take at now)) at n now after r) where
   abbrev room : ℕ
   room = roomAt at most (length before)
 
@@ -46,9 +47,12 @@ module _ (at most n : ℕ) (old : List ℕ) (second : ℕ → List ℕ → List 
       grown-as (λ s. goes-on copy first (second room (take at before)) (λ e. some (size ∙ e))) (copy-last steady)
 
 -- where there was none
-pub whole-last : (at most n : ℕ) (old : List ℕ) (second : ℕ → List ℕ → List ℕ → Building) (more : List ℕ → Building) (before now : List ℕ) (r : Built) (after : List ℕ) → n ≡ 0
-    → Grown (copyBuilt (roomAt at most (length before)) old) at 0 before now (Holds n) → Grown (second (roomAt at most (length now)) (take at now)) at 0 now after r
-    → Grown (λ s. next (copyBuilt (roomAt at most (length before)) old s) (madeOr (second (roomAt at most (length before)) (take at before)) more)) at 0 before after r
+pub whole-last : (at most n : ℕ) (old : List ℕ) (second : ℕ → List ℕ → List ℕ → Building) (more : List ℕ → Building) (before now : List ℕ) (r : Built)
+    (after : List ℕ) → n ≡ 0
+    → Grown (copyBuilt (roomAt at most (length before)) old) at 0 before now (Holds n)
+    → Grown (second (roomAt at most (length now)) (take at now)) at 0 now after r
+    → Grown (λ s. next (copyBuilt (roomAt at most (length before)) old s) (madeOr (second (roomAt at most (length before)) (take at before)) more)) at
+    0 before after r
 whole-last at most n old second more before now r after none x y =
     let room = roomAt at most (length before) in
     let copy = copyBuilt room old (setAt at 0 before) in

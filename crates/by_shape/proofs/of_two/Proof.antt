@@ -1,4 +1,4 @@
--- `terms::building::of_two` meets its contract: the set of the round before, then what is added to it, or all where there was none.
+-- `by_shape::of_two` meets its contract: the set of the round before, then what is added to it, or all where there was none.
 -- Assumes nothing.
 use native.Mathlib.Omega.{arith}
 use Prim.Native.Nat.{ℕ}
@@ -10,10 +10,10 @@ use Rattle.places.specs.Starts.{half, partOf, partIn}
 use Rattle.places.specs.Laying.{copyBuilt}
 use Rattle.shapes.specs.Adding.{wholeOf, wordsIn}
 use Rattle.shapes.proofs.Sequence.{first-large, addTwo, steady-two}
-use Rattle.terms.proofs.Onto.{whole-last, more-last}
+use Rattle.by_shape.proofs.Onto.{whole-last, more-last}
 use borrow.Author.Needs.{needs}
-use Rattle.terms.proofs.building.of_two.Statement.{statement}
-use Rattle.terms.proofs.building.of_two.Tie as tie
+use Rattle.by_shape.proofs.of_two.Statement.{statement}
+use Rattle.by_shape.proofs.of_two.Tie as tie
 
 of-one-requires : tie.Need-of-one-requires
 of-one-requires c κs = tt
@@ -30,7 +30,8 @@ same-length c = search needs
 returns : tie.Need-returns
 returns c =
     let a = c .before .before .before .before .before .before .before .before .before .args in
-    first-large (a .at) 0 (copyBuilt (roomAt (a .at) (a .most) (length (a .work .now))) (partIn (a .at) 0 (a .before .now) (a .n) (a .work .now))) _ (a .work .now) _ (rw (c .enum-told .given .1) at (c .before .before .before .before .of-one .ensures))
+    first-large (a .at) 0 (copyBuilt (roomAt (a .at) (a .most) (length (a .work .now))) (partIn (a .at) 0 (a .before .now) (a .n) (a .work .now))) _
+    (a .work .now) _ (rw (c .enum-told .given .1) at (c .before .before .before .before .of-one .ensures))
 
 growth-of-requires : tie.Need-growth-of-requires
 growth-of-requires c κs = tt
@@ -49,8 +50,12 @@ returns-2 c =
     let a = c .before .before .before .before .before .before .before .before .before .before .before .before .before .before .before .before .before .args in
     let g : Growth = (record { known = partOf 0 (a .before .now) (a .t); part = partOf half (a .this .now) (a .t) }) in
     let h : Growth = (record { known = partOf 0 (a .before .now) (a .u); part = partOf half (a .this .now) (a .u) }) in
-    whole-last (a .at) (a .most) _ (partIn (a .at) 0 (a .before .now) (a .n) (a .work .now)) (λ (m : ℕ) (ls : List ℕ). wholeOf (a .sums) m (wordsIn (g .part) ls) (wordsIn (h .part) ls)) _ (a .work .now) _ _ _ (omega arith)
-    (rw (c .before .before .before .before .before .before .before .before .old .given .1) at (c .before .before .before .before .before .before .before .before .before .before .before .before .of-one .ensures)) (rw (c .before .before .before .before .before .before .growth-of .ensures, c .before .before .before .before .before .growth-of2 .ensures) at (c .before .before .whole .ensures))
+    whole-last (a .at) (a .most) _ (partIn (a .at) 0 (a .before .now) (a .n) (a .work .now))
+    (λ (m : ℕ) (ls : List ℕ). wholeOf (a .sums) m (wordsIn (g .part) ls) (wordsIn (h .part) ls)) _ (a .work .now) _ _ _ (omega arith)
+    (rw (c .before .before .before .before .before .before .before .before .old .given .1) at
+    (c .before .before .before .before .before .before .before .before .before .before .before .before .of-one .ensures))
+    (rw (c .before .before .before .before .before .before .growth-of .ensures, c .before .before .before .before .before .growth-of2 .ensures) at
+    (c .before .before .whole .ensures))
 
 add-two-requires : tie.Need-add-two-requires
 add-two-requires c κs = search needs
@@ -64,7 +69,10 @@ returns-3 c =
     let g : Growth = (record { known = partOf 0 (a .before .now) (a .t); part = partOf half (a .this .now) (a .t) }) in
     let h : Growth = (record { known = partOf 0 (a .before .now) (a .u); part = partOf half (a .this .now) (a .u) }) in
     more-last (a .at) (a .most) _ (partIn (a .at) 0 (a .before .now) (a .n) (a .work .now)) (addTwo (a .sums) g h) (a .work .now) _ _ _
-    (rw (c .before .before .before .before .before .before .before .before .old .given .1) at (c .before .before .before .before .before .before .before .before .before .before .before .before .of-one .ensures)) (rw (c .before .before .before .before .before .before .growth-of .ensures, c .before .before .before .before .before .growth-of2 .ensures) at (c .before .before .add-two .ensures)) _ (omega arith) (steady-two (a .sums) g h)
+    (rw (c .before .before .before .before .before .before .before .before .old .given .1) at
+    (c .before .before .before .before .before .before .before .before .before .before .before .before .of-one .ensures))
+    (rw (c .before .before .before .before .before .before .growth-of .ensures, c .before .before .before .before .before .growth-of2 .ensures) at
+    (c .before .before .add-two .ensures)) _ (omega arith) (steady-two (a .sums) g h)
 
 pub of-two-spec : {M : Type 1} → statement M
 of-two-spec =

@@ -1,9 +1,9 @@
--- `terms::building::work_out` meets its contract: one case for each shape.
+-- `terms::choosing::work_out` meets its contract: one case for each shape.
 -- Assumes nothing.
 use borrow.Author.Needs.{needs}
 use Rattle.shapes.proofs.Makings.{nothing-grown}
-use Rattle.terms.proofs.building.work_out.Statement.{statement}
-use Rattle.terms.proofs.building.work_out.Tie as tie
+use Rattle.terms.proofs.choosing.work_out.Statement.{statement}
+use Rattle.terms.proofs.choosing.work_out.Tie as tie
 
 place-of-requires : tie.Need-place-of-requires
 place-of-requires c κs = tt
@@ -57,37 +57,61 @@ same-length : tie.Need-same-length
 same-length c = c .before .before .leaf .kept .0
 
 returns-2 : tie.Need-returns-2
-returns-2 c = rw (c .before .before .before .before .before .shape .given .1) (rw (c .before .before .before .before .before .before .before .before .place-of .ensures, c .before .before .before .before .before .before .before .left-of .ensures) at (c .before .before .leaf .ensures))
+returns-2 c = rw (c .before .before .before .before .before .shape .given .1)
+    (rw (
+      c .before .before .before .before .before .before .before .before .place-of .ensures,
+      c .before .before .before .before .before .before .before .left-of .ensures,
+    ) at (c .before .before .leaf .ensures))
 
 same-length-2 : tie.Need-same-length-2
 same-length-2 c = c .before .before .of-body .kept .0
 
 returns-3 : tie.Need-returns-3
-returns-3 c = rw (c .before .before .before .before .before .shape2 .given .1) (rw (c .before .before .before .before .before .before .before .before .place-of .ensures, c .before .before .before .before .before .before .before .left-of .ensures) at (c .before .before .of-body .ensures))
+returns-3 c = rw (c .before .before .before .before .before .shape2 .given .1)
+    (rw (
+      c .before .before .before .before .before .before .before .before .place-of .ensures,
+      c .before .before .before .before .before .before .before .left-of .ensures,
+    ) at (c .before .before .of-body .ensures))
 
 same-length-3 : tie.Need-same-length-3
 same-length-3 c = c .before .before .of-one .kept .0
 
 returns-4 : tie.Need-returns-4
-returns-4 c = rw (c .before .before .before .before .before .shape3 .given .1) (rw (c .before .before .before .before .before .before .before .before .place-of .ensures, c .before .before .before .before .before .before .before .left-of .ensures) at (c .before .before .of-one .ensures))
+returns-4 c = rw (c .before .before .before .before .before .shape3 .given .1)
+    (rw (
+      c .before .before .before .before .before .before .before .before .place-of .ensures,
+      c .before .before .before .before .before .before .before .left-of .ensures,
+    ) at (c .before .before .of-one .ensures))
 
 same-length-4 : tie.Need-same-length-4
 same-length-4 c = c .before .before .of-two .kept .0
 
 returns-5 : tie.Need-returns-5
-returns-5 c = rw (c .before .before .before .before .before .shape4 .given .1) (rw (c .before .before .before .before .before .before .before .before .place-of .ensures, c .before .before .before .before .before .before .before .left-of .ensures) at (c .before .before .of-two .ensures))
+returns-5 c = rw (c .before .before .before .before .before .shape4 .given .1)
+    (rw (
+      c .before .before .before .before .before .before .before .before .place-of .ensures,
+      c .before .before .before .before .before .before .before .left-of .ensures,
+    ) at (c .before .before .of-two .ensures))
 
 same-length-5 : tie.Need-same-length-5
 same-length-5 c = c .before .before .of-joint .kept .0
 
 returns-6 : tie.Need-returns-6
-returns-6 c = rw (c .before .before .before .before .before .shape5 .given .1) (rw (c .before .before .before .before .before .before .before .before .place-of .ensures, c .before .before .before .before .before .before .before .left-of .ensures) at (c .before .before .of-joint .ensures))
+returns-6 c = rw (c .before .before .before .before .before .shape5 .given .1)
+    (rw (
+      c .before .before .before .before .before .before .before .before .place-of .ensures,
+      c .before .before .before .before .before .before .before .left-of .ensures,
+    ) at (c .before .before .of-joint .ensures))
 
 same-length-6 : tie.Need-same-length-6
 same-length-6 c = c .before .before .of-wrap .kept .0
 
 returns-7 : tie.Need-returns-7
-returns-7 c = rw (c .before .before .before .before .before .shape6 .given .1) (rw (c .before .before .before .before .before .before .before .before .place-of .ensures, c .before .before .before .before .before .before .before .left-of .ensures) at (c .before .before .of-wrap .ensures))
+returns-7 c = rw (c .before .before .before .before .before .shape6 .given .1)
+    (rw (
+      c .before .before .before .before .before .before .before .before .place-of .ensures,
+      c .before .before .before .before .before .before .before .left-of .ensures,
+    ) at (c .before .before .of-wrap .ensures))
 
 pub work-out-spec : {M : Type 1} → statement M
 work-out-spec =

@@ -1,0 +1,3 @@
+-- What is built for each shape of term.
+-- newOf, madeOr, twoGrown, throughGrown
+pub mod Arms
