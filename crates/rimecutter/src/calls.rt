@@ -25,6 +25,7 @@ fn too_short(work: usize, answer: usize) -> bool
     work < WORK_WORDS || answer < ANSWER_WORDS
 }
 
+// Apart from `respond`, whose proof would else have a case more and longer ways back to what was read.
 fn from_rounds(found: rounds::Answer) -> Answer
     ensures { λ r. ⌜ r ≡ answerFor found ⌝ }
 {
