@@ -35,7 +35,7 @@ use Rattle.places.specs.Starts.{whole}
 use Rattle.terms.proofs.Operands.{packed-sets}
 use Rattle.turns.specs.declared.Found.{Found}
 use Rattle.turns.specs.declared.Found.the-variants as F
-use Rattle.turns.specs.Settling.{alone}
+use Rattle.keeping.specs.Settling.{alone}
 use Rattle.turns.specs.Endings.{foundOf, labelsOf, Reached}
 use Rattle.rounds.specs.declared.Answer.{Answer}
 use Rattle.rounds.specs.declared.Answer.the-variants as A

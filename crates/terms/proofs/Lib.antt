@@ -1,4 +1,6 @@
 -- Laws of sets laid one behind the other, and of what is built for a term: that it is the term's set, or passes a limit.
+-- simple-none, simple-built: the shapes that join no sets, and the others
+pub mod Choices
 -- laid-part, laid-kept, laid-more: sets laid one behind the other; total-take, total-part, total-more: how many labels they have
 pub mod Areas
 -- ready-next, term-kept, next-fits: from term to term; kept-self, kept-trans: what an area keeps; at-most: sets within the limits

@@ -19,6 +19,16 @@ use Rattle.by_shape.specs.Arms.{twoGrown, throughGrown}
 use Rattle.places.specs.Starts.{half, partIn, placeIn, leftIn}
 use Rattle.places.specs.Laying.{copyBuilt}
 
+-- What is built for a shape that joins no sets: nothing, a label, or a set as it stands elsewhere. The other shapes get nothing here.
+abbrev pub simple : (room at : ℕ) (bodies before this work : List ℕ) → Shape → List ℕ → Building
+simple room at bodies before this work Empty = done
+simple room at bodies before this work (Leaf label) = leafBuilt room (code label)
+simple room at bodies before this work (Body e) = copyBuilt room (partIn at 0 before (getD bodies e 0) work)
+simple room at bodies before this work (One t) = copyBuilt room (partIn at half this t work)
+simple room at bodies before this work (Two t u sums) = done
+simple room at bodies before this work (Joint t u) = done
+simple room at bodies before this work (Through o t) = done
+
 -- What is built for each shape of term, of which `old` is the set in the round before.
 abbrev pub built : (room at : ℕ) (store bodies before this work old : List ℕ) → Shape → List ℕ → Building
 built room at store bodies before this work old Empty = done

@@ -7,7 +7,5 @@ pub mod Staying
 pub mod Progress
 -- turned-start, -step, -large, -stable, -end: the loop of `turn_on`; cut-all: the order `all` cuts nothing away
 pub mod Rounding
--- bringing-start, -step, -end: the loop of `bring`; settled-none, settled-set: the set alone in the work area
-pub mod Bringing
 -- reached-unfit, reached-last: the promise of `until_stable`; reached-unique: it settles all
 pub mod Reaches

@@ -25,12 +25,13 @@ use Rattle.sets.specs.Parts.{part}
 use Rattle.places.specs.Starts.{half, whole, startIn, partOf}
 use Rattle.places.proofs.Beginnings.{start-low}
 use Rattle.terms.proofs.Areas.{laid-part}
+use Rattle.keeping.specs.Settling.{alone}
 use Rattle.turns.specs.declared.Found.{Found}
 use Rattle.turns.specs.declared.Found.the-variants as F
 use Rattle.turns.specs.declared.stages.Counts.{Counts}
 use Rattle.turns.specs.declared.stages.Last.{Last}
 use Rattle.turns.specs.declared.stages.Last.the-variants as L
-use Rattle.turns.specs.Settling.{alone, Concluded}
+use Rattle.turns.specs.Settling.{Concluded}
 use Rattle.turns.specs.Stages.{Describes, LastMade}
 use Rattle.turns.specs.Endings.{foundOf, labelsOf, Fitting, Reached}
 

@@ -14,10 +14,10 @@ use Rattle.meaning.specs.Answers.{Outcome, tooLarge, listed, answer}
 use Rattle.table.specs.declared.Table.{Table}
 use Rattle.table.specs.Encoded.{storeOf, tableOf}
 use Rattle.places.specs.Starts.{whole}
+use Rattle.keeping.specs.Settling.{alone}
 use Rattle.turns.specs.declared.Found.{Found}
 use Rattle.turns.specs.declared.Found.the-variants.{TooLarge, At}
 use Rattle.turns.specs.declared.stages.Counts.{Counts}
-use Rattle.turns.specs.Settling.{alone}
 
 -- An outcome as the code finds it, and its labels.
 abbrev pub foundOf : Outcome → Found

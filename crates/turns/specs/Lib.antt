@@ -3,7 +3,7 @@
 pub mod Passes
 -- a round and what follows it, the last round
 pub mod Stages
--- a set alone in the work area
+-- what is left of the last round
 pub mod Settling
 -- what the rounds of a description come to
 pub mod Endings

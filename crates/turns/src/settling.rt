@@ -1,44 +1,11 @@
-// The root's set at the start of the work area, with 0 behind it.
+// What is left of the last round: the root's set at the start of the work area.
 use crate::Found;
 use crate::stages::Last;
+use keeping::settle;
 use places::HALF;
 use sets::Part;
 use table::areas::clear;
-ghost use mathlib.Core.Path.{_≡_};
-ghost use mathlib.Core.List.{_++_};
-ghost use Prim.Native.Nat.{_+_, _≤_};
-ghost use lib.ListN.{length, take, drop};
-ghost use Rattle.turns.specs.Settling.{Within, Settled, Concluded};
-
-// Words from a place on are copied to the start. None is read after it was written, since each goes to where an earlier one stood.
-fn bring(work: &mut [u64], from: usize, count: usize)
-    requires { ⌜ from + count ≤ length (now work) ⌝ }
-    ensures { λ r. ⌜ now (work .exit) ≡ take count (drop from (now (work .entry))) ++ drop count (now (work .entry)) ⌝ }
-{
-    let mut i = 0;
-    while i < count {
-        work[i] = work[from + i];
-        i += 1;
-    }
-}
-
-// A set is brought to the start, and every other word that is used is set to 0; how many words the set has is
-// returned.
-fn settle(work: &mut [u64], set: Part) -> usize
-    requires { ⌜ Within set (now work) ⌝ }
-    ensures { λ r. ⌜ Settled set (now (work .entry)) (now (work .exit)) r ⌝ }
-{
-    let from = set.from;
-    let to = set.to;
-    if to <= from {
-        clear(work, 2 * HALF);
-        return 0;
-    }
-    let count = to - from;
-    bring(work, from, count);
-    clear(&mut work[count..], 2 * HALF - count);
-    count
-}
+ghost use Rattle.turns.specs.Settling.{Within, Concluded};
 
 // What the last round came to: the root's set left alone, or nothing where a limit is passed.
 pub fn conclude(last: Last, root: Part, work: &mut [u64]) -> Found

@@ -33,8 +33,9 @@ same-length-2 c = search needs
 returns-2 : tie.Need-returns-2
 returns-2 c =
     let stable = c .before .before .before .before .before .last .given in
-    let settled = c .before .before .settle .ensures in
-    rw (stable .1) (ap (At (stable .0 .0)) (settled .count), settled .words)
+    let start = c .before .before .before .before .before .before .before .before in
+    let settled = c .before .before .settle .ensures .within (start .pre .room) (start .pre .end) in
+    rw (stable .1) (ap (At (stable .0 .0)) (settled .0), settled .1)
 
 pub conclude-spec : {M : Type 1} → statement M
 conclude-spec =

@@ -1,20 +1,23 @@
 -- Words brought to the start of the work area, and 0 behind them.
 -- Assumes nothing.
 use mathlib.Core.Path.{_≡_, refl, sym, ap, ap₂, subst, _∙_, _≡⟨_⟩_, _∎}
+use mathlib.Core.Logic.{_⊎_, inl, inr}
 use mathlib.Core.List.{List, [], _∷_, _++_, append-nil}
 use Prim.Native.Nat.{ℕ, suc, _+_, _-_, _≤_, _<_, zero-le}
 use native.Mathlib.Nat.{zero-add}
 use native.Mathlib.Numerals.{add-one}
 use native.Mathlib.Omega.{arith}
+use native.Mathlib.Decide.{decLt}
 use lib.ListN.{length, getD, set, take, drop, replicate, length-drop, length-set, drop-of-length-le}
 use lib.Seq.{paste-zero, paste-suc, take-all, take-at, drop-at, drop-drop, length-slice, length-take-le, getD-append-add, getD-drop}
+use Rattle.meaning.proofs.Alike.{alike}
 use Rattle.table.specs.Areas.{zeroed}
 use Rattle.table.proofs.Zeroed.{zeroed-front}
 use Rattle.sets.specs.declared.Part.{Part}
 use Rattle.sets.specs.Parts.{part}
 use Rattle.places.specs.Starts.{whole}
 use Rattle.places.proofs.Copies.{part-taken}
-use Rattle.turns.specs.Settling.{alone, Within, Settled}
+use Rattle.keeping.specs.Settling.{alone, Settled}
 
 -- So many words brought.
 abbrev brought : List ℕ → ℕ → ℕ → List ℕ
@@ -61,18 +64,33 @@ none : (l : List ℕ) → length l ≡ 0 → l ≡ []
 none [] e = refl
 none (x ∷ l) e = absurd (omega arith)
 
--- A part without words, and one that is brought.
+-- A part that is not within what is used; one without words; one that is brought.
+pub record Within (p : Part) (work : List ℕ) : Type 0 where
+  pub room : whole ≤ length work
+  pub end : p .to ≤ whole
+
+pub settled-outside : {p : Part} {work : List ℕ} → (length work < whole) ⊎ (whole < p .to) → Settled p work work 0
+settled-outside h =
+    record {
+      outside = λ x. (refl, refl);
+      within = λ room end. absurd (elim h [ inl a ↦ (omega arith) | inr a ↦ (omega arith) ]);
+    }
+
 module _ {p : Part} {work : List ℕ} (u : Within p work) where
+  settled-within : {work′ : List ℕ} {r : ℕ} → r ≡ p .to - p .from → work′ ≡ alone (wordsIn p work) work → Settled p work work′ r
+  settled-within e w =
+      record {
+        outside = λ x. absurd (elim x [ inl a ↦ omega (arith, u .room) | inr a ↦ omega (arith, u .end) ]);
+        within = λ room end. (e, w);
+      }
+
   size : length (wordsIn p work) ≡ p .to - p .from
   size = length-slice (p .from) (p .to) work (omega (arith, u .room, u .end))
 
   pub settled-none : {work′ : List ℕ} → p .to ≤ p .from → work′ ≡ zeroed whole work → Settled p work work′ 0
   settled-none h e =
       let empty : wordsIn p work ≡ [] = none (wordsIn p work) (size ∙ omega arith) in
-      record {
-        count = omega arith;
-        words = e ∙ zeroed-front whole work (u .room) ∙ ap (λ (s : List ℕ). alone s work) (sym empty);
-      }
+      settled-within (omega arith) (e ∙ zeroed-front whole work (u .room) ∙ ap (λ (s : List ℕ). alone s work) (sym empty))
 
   module _ {count : ℕ} {now : List ℕ} (c : count ≡ p .to - p .from) (h : p .from < p .to) (b : now ≡ brought work (p .from) count) where
     now-root : now ≡ wordsIn p work ++ drop count work
@@ -109,11 +127,25 @@ module _ {p : Part} {work : List ℕ} (u : Within p work) where
         let none : drop k (drop count now) ≡ [] = drop-of-length-le (drop count now) end in
         let after : behind ++ drop k (drop count now) ≡ zeroed (whole - count) (drop count work) =
         ap (λ (l : List ℕ). behind ++ l) none ∙ append-nil behind ∙ z ∙ ap (zeroed (whole - count)) lent in
-        record {
-          count = c;
-          words =
-              work′
-              ≡⟨ w ⟩ take count now ++ (behind ++ drop k (drop count now))
-              ≡⟨ ap₂ (λ (a b : List ℕ). a ++ b) front after ⟩ root ++ zeroed (whole - count) (drop count work)
-              ≡⟨ ap (λ (l : List ℕ). root ++ l) cleared ⟩ alone root work ∎;
-        }
+        let words : work′ ≡ alone root work =
+        work′
+        ≡⟨ w ⟩ take count now ++ (behind ++ drop k (drop count now))
+        ≡⟨ ap₂ (λ (a b : List ℕ). a ++ b) front after ⟩ root ++ zeroed (whole - count) (drop count work)
+        ≡⟨ ap (λ (l : List ℕ). root ++ l) cleared ⟩ alone root work ∎ in
+        settled-within c words
+
+-- What is promised settles the count and every word.
+pub settled-unique : {p : Part} {work work₁ work₂ : List ℕ} {r₁ r₂ : ℕ}
+    → Settled p work work₁ r₁
+    → Settled p work work₂ r₂
+    → (r₁ ≡ r₂) × (work₁ ≡ work₂)
+settled-unique {p} {work} a b = elim (decLt (length work) whole) [
+  | yes h ↦ both (a .outside (inl h)) (b .outside (inl h))
+  | no h ↦ elim (decLt whole (p .to)) [
+    | yes l ↦ both (a .outside (inr l)) (b .outside (inr l))
+    | no l ↦ both (a .within (omega arith) (omega arith)) (b .within (omega arith) (omega arith))
+  ]
+]
+  where
+    both : {r₁ r₂ r : ℕ} {w₁ w₂ w : List ℕ} → (r₁ ≡ r) × (w₁ ≡ w) → (r₂ ≡ r) × (w₂ ≡ w) → (r₁ ≡ r₂) × (w₁ ≡ w₂)
+    both x y = (alike (x .0) (y .0), alike (x .1) (y .1))

@@ -1,10 +1,10 @@
--- `turns::settling::bring` meets its contract: the words are put one after the other, and none is read after it was written.
+-- `keeping::bring` meets its contract: the words are put one after the other, and none is read after it was written.
 -- Assumes nothing.
 use Prim.Native.Nat.{_-_}
 use native.Mathlib.Omega.{arith}
-use Rattle.turns.proofs.Bringing.{Bringing, bringing-start, bringing-step, bringing-end}
-use Rattle.turns.proofs.settling.bring.Statement.{statement}
-use Rattle.turns.proofs.settling.bring.Tie as tie
+use Rattle.keeping.proofs.Bringing.{Bringing, bringing-start, bringing-step, bringing-end}
+use Rattle.keeping.proofs.bring.Statement.{statement}
+use Rattle.keeping.proofs.bring.Tie as tie
 
 abbrev Inv-loop : tie.InvT-loop
 Inv-loop work₀ from count i₀ work i = Bringing work₀ from count work i

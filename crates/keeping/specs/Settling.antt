@@ -1,0 +1,18 @@
+-- A set at the start of the work area, with 0 behind it.
+-- Assumes nothing.
+use mathlib.Core.Path.{_≡_}
+use mathlib.Core.Logic.{_⊎_}
+use mathlib.Core.List.{List, _++_}
+use Prim.Native.Nat.{ℕ, _-_, _≤_, _<_}
+use lib.ListN.{length, drop, replicate}
+use Rattle.sets.specs.declared.Part.{Part}
+use Rattle.sets.specs.Parts.{part}
+use Rattle.places.specs.Starts.{whole}
+
+-- 0 behind it as far as words are used, and the further words as they were
+abbrev pub alone : (set work : List ℕ) → List ℕ
+alone set work = set ++ (replicate (whole - length set) 0 ++ drop whole work)
+
+pub record Settled (p : Part) (work work′ : List ℕ) (r : ℕ) : Type 0 where
+  pub outside : (length work < whole) ⊎ (whole < p .to) → (r ≡ 0) × (work′ ≡ work)
+  pub within : whole ≤ length work → p .to ≤ whole → (r ≡ p .to - p .from) × (work′ ≡ alone (part (p .from) (p .to) work) work)
