@@ -11,19 +11,19 @@ use borrow.Author.Tests.{leb-true}
 use Rattle.ways.specs.declared.Way.{Way}
 use Rattle.ways.specs.declared.Way.the-variants.{Copy}
 use Rattle.sets.specs.Building.{Building, goesOn, next}
-use Rattle.merging.specs.Multiplying.{row, multiplied}
+use Rattle.products.specs.Multiplying.{row, multiplied}
 use Rattle.ways.specs.Imaging.{imaged}
 use Rattle.merging.specs.Joining.{joined, fitting, united}
-use Rattle.sets.specs.Comparing.{ascent}
+use Rattle.parts.specs.Comparing.{ascent}
 use Rattle.sets.proofs.Steps.{Steady, steady-each, steady-enter}
-use Rattle.merging.proofs.Products.{steady-row}
+use Rattle.products.proofs.Products.{steady-row}
 use Rattle.ways.proofs.Images.{steady-imaged}
-use Rattle.shapes.specs.Making.{leafBuilt, eitherBuilt, jointBuilt, bothBuilt}
-use Rattle.growth.specs.Ways.{throughBuilt}
-use Rattle.places.specs.Laying.{fitted, copyBuilt}
-use Rattle.shapes.specs.Adding.{eitherAdded, jointAdded, bothAdded, wholeOf, addedOf}
+use Rattle.composing.specs.Making.{leafBuilt, eitherBuilt, jointBuilt, bothBuilt}
+use Rattle.growth.specs.Fresh.{throughBuilt}
+use Rattle.transfers.specs.Laying.{fitted, copyBuilt}
+use Rattle.composing.specs.Adding.{eitherAdded, jointAdded, bothAdded, wholeOf, addedOf}
 use Rattle.by_shape.specs.Arms.{madeOr}
-use Rattle.places.proofs.Filling.{length-zeros}
+use Rattle.transfers.proofs.Filling.{length-zeros}
 
 module _ (room : ℕ) where
   pub leaf-fits : (w : ℕ) → length (leafBuilt room w [] .set) ≤ room

@@ -8,12 +8,12 @@ use native.Mathlib.Omega.{arith}
 use lib.ListN.{length, take}
 use Rattle.sets.specs.declared.Built.{Built}
 use Rattle.sets.specs.declared.Built.the-variants.{Holds}
-use Rattle.sets.specs.Parts.{setAt, laid, roomAt}
+use Rattle.parts.specs.Parts.{setAt, laid, roomAt}
 use Rattle.sets.specs.Building.{Building, answerOf, goesOn, next, Grown}
 use Rattle.sets.proofs.Steps.{Steady, grown-as, next-holds, built-holds}
-use Rattle.places.specs.Laying.{copyBuilt}
-use Rattle.shapes.proofs.Makings.{nothing-grown}
-use Rattle.shapes.proofs.Sequence.{then-last}
+use Rattle.transfers.specs.Laying.{copyBuilt}
+use Rattle.composing.proofs.Makings.{nothing-grown}
+use Rattle.composing.proofs.Sequence.{then-last}
 use Rattle.by_shape.specs.Arms.{madeOr}
 use Rattle.by_shape.proofs.Fitting.{copy-fits}
 

@@ -3,13 +3,13 @@
 use mathlib.Core.Bool.{Bool}
 use mathlib.Core.List.{List, [], _∷_}
 use Prim.Native.Nat.{ℕ}
-use Rattle.table.specs.declared.Operator.{Operator}
+use Rattle.slots.specs.declared.Operator.{Operator}
 use Rattle.sets.specs.Building.{Building, next}
-use Rattle.growth.specs.Fresh.{fresh}
-use Rattle.growth.specs.Ways.{wayFor, wordsFor, throughBuilt}
-use Rattle.shapes.specs.Adding.{wholeOf, addedOf}
+use Rattle.growth.specs.Fresh.{fresh, throughBuilt}
+use Rattle.wrapping.specs.Ways.{wayFor, wordsFor}
+use Rattle.composing.specs.Adding.{wholeOf, addedOf}
 use Rattle.places.specs.Starts.{half, partIn}
-use Rattle.places.specs.Laying.{copyBuilt}
+use Rattle.transfers.specs.Laying.{copyBuilt}
 
 -- The labels of a term's set that the round before did not have.
 abbrev pub newOf : ℕ → (before this work : List ℕ) → ℕ → List ℕ

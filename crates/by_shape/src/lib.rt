@@ -1,21 +1,21 @@
 // The set of a term by its shape, laid at a place: worked out from the sets of its operands, which stand before it in this round's
 // half, or from that of an equation's body in the round before.
-use growth::operators::wrapped;
-use merging::multiplying::add_product;
-use places::laying::lay;
+use composing::adding::add_two;
+use composing::making::whole;
+use parts::Target;
 use places::starts::growth_of;
 use places::starts::part_at;
+use products::multiplying::add_product;
 use sets::Built;
-use sets::Target;
-use shapes::adding::add_two;
-use shapes::making::whole;
 use shapes::sameness::body_of;
-use table::Operator;
+use slots::Operator;
+use transfers::laying::lay;
+use wrapping::operators::wrapped;
 ghost use lib.ListN.{length, getD};
-ghost use Rattle.sets.specs.Parts.{roomAt};
+ghost use Rattle.parts.specs.Parts.{roomAt};
 ghost use Rattle.sets.specs.Building.{Grown};
-ghost use Rattle.places.specs.Laying.{copyBuilt};
-ghost use Rattle.shapes.specs.Making.{jointBuilt};
+ghost use Rattle.transfers.specs.Laying.{copyBuilt};
+ghost use Rattle.composing.specs.Making.{jointBuilt};
 ghost use Rattle.places.specs.Starts.{baseOf, partIn};
 ghost use Rattle.by_shape.specs.Arms.{twoGrown, throughGrown};
 
@@ -71,15 +71,15 @@ pub fn of_two(
         at 0 (now (work .entry)) (now (work .exit)) r ⌝ }
 {
     let old = of_one(work, before, n, false, at, most);
-    let Built::Holds(count) = old else {
+    let Built::Holds(len) = old else {
         return Built::TooLarge;
     };
     let a = growth_of(before, this, t);
     let b = growth_of(before, this, u);
-    if count == 0 {
+    if len == 0 {
         return whole(work, a.part, b.part, sums, at, most);
     }
-    add_two(work, a, b, sums, at, count, most)
+    add_two(work, a, b, sums, Target { at, len, most })
 }
 
 // The products of two sets.
@@ -119,9 +119,9 @@ pub fn of_wrap(
         at 0 (now (work .entry)) (now (work .exit)) r ⌝ }
 {
     let old = of_one(work, before, n, false, at, most);
-    let Built::Holds(count) = old else {
+    let Built::Holds(len) = old else {
         return Built::TooLarge;
     };
     let set = growth_of(before, this, t);
-    wrapped(work, store, operator, set, at, count, most)
+    wrapped(work, store, operator, set, Target { at, len, most })
 }

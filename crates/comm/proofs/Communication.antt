@@ -22,8 +22,8 @@ use Rattle.meaning.proofs.Sorted.{Within}
 use Rattle.meaning.proofs.Members.{in-append, in-ascending, in-spread, in-spread→, in-map, in-map→}
 use Rattle.meaning.proofs.Operators.{in-applied, in-applied→, length-replaced, fewer-left}
 use Rattle.labels.specs.Packing.{packed}
-use Rattle.labels.proofs.Stored.{ruleLabels}
-use Rattle.labels.proofs.Meant.{Packs, packs-small, inside-number, difference-number, sum-number}
+use Rattle.areas.proofs.Entries.{ruleLabels}
+use Rattle.labels.proofs.Refinement.{Packs, packs-small, inside-number, difference-number, sum-number}
 use Rattle.sets.specs.declared.Inserted.{Inserted}
 use Rattle.sets.specs.declared.Inserted.the-variants.{Full, Present, Added}
 use Rattle.sets.specs.declared.Offer.the-variants.{Next}

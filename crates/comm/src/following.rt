@@ -2,8 +2,8 @@
 // before the next rule. A label that was there already is followed, or being followed, so that each label of the result is
 // followed once, whatever the order of the applications.
 use crate::rules::offer;
+use areas::rows::labels_in;
 use labels::Label;
-use labels::packing::labels_in;
 use parts::Target;
 use parts::placing::reach;
 use sets::Built;
@@ -12,7 +12,8 @@ use sets::Offer;
 use sets::inserting::insert;
 ghost use Prim.Native.Nat.{_-_, _≤_};
 ghost use lib.ListN.{length};
-ghost use Rattle.labels.specs.Packing.{held, code};
+ghost use Rattle.areas.specs.Rows.{held};
+ghost use Rattle.labels.specs.Packing.{code};
 ghost use Rattle.sets.specs.Building.{GrownAt};
 ghost use Rattle.comm.specs.Following.{closed, eachRule};
 ghost use Rattle.comm.specs.Rules.{exchangesIn};

@@ -1,15 +1,16 @@
 // Rules of comm in a list of labels: each is two labels, its left side and that of the one action on its right.
+use areas::rows::read_label;
 use labels::Label;
 use labels::Sum;
 use labels::bags::difference;
 use labels::bags::inside;
 use labels::bags::sum;
-use labels::packing::read_label;
 use sets::Offer;
 ghost use mathlib.Core.Path.{_≡_};
 ghost use Prim.Native.Nat.{_+_, _<_};
 ghost use lib.ListN.{length, getD};
-ghost use Rattle.labels.specs.Packing.{held, code};
+ghost use Rattle.areas.specs.Rows.{held};
+ghost use Rattle.labels.specs.Packing.{code};
 ghost use Rattle.comm.specs.Rules.{exchangeOf};
 
 // What the rule whose left side is the i-th label makes of a label.

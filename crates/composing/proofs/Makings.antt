@@ -11,13 +11,13 @@ use lib.ListN.{length}
 use lib.Seq.{paste-zero}
 use Rattle.sets.specs.declared.Built.{Built}
 use Rattle.sets.specs.declared.Built.the-variants.{TooLarge, Holds}
-use Rattle.sets.specs.Parts.{setAt, laid, partBefore, roomAt}
+use Rattle.parts.specs.Parts.{setAt, laid, partBefore, roomAt}
 use Rattle.sets.specs.Building.{Building, done, answerOf, Grown}
-use Rattle.merging.specs.Multiplying.{row, multiplied}
+use Rattle.products.specs.Multiplying.{row, multiplied}
 use Rattle.merging.specs.Joining.{joined, fitting, united}
-use Rattle.sets.specs.Comparing.{ascent}
+use Rattle.parts.specs.Comparing.{ascent}
 use Rattle.sets.proofs.Steps.{Steady, steady-each, Going, going-last, grown-as, next-holds, next-large, built-holds}
-use Rattle.merging.proofs.Products.{steady-row}
+use Rattle.products.proofs.Products.{steady-row}
 use Rattle.sets.proofs.Walking.{part-stays}
 use Rattle.composing.specs.Making.{bothBuilt}
 

@@ -8,13 +8,13 @@ use native.Mathlib.Omega.{arith}
 use lib.ListN.{length, take}
 use Rattle.sets.specs.declared.Built.{Built}
 use Rattle.sets.specs.declared.Built.the-variants.{TooLarge, Holds}
-use Rattle.sets.specs.declared.Target.{Target}
+use Rattle.parts.specs.declared.Target.{Target}
 use Rattle.ways.specs.declared.Way.{Way}
 use Rattle.ways.specs.declared.Way.the-variants.{Copy}
-use Rattle.sets.specs.Parts.{setAt, laid, part, roomAt}
+use Rattle.parts.specs.Parts.{setAt, laid, part, roomAt}
 use Rattle.sets.specs.Building.{Building, answerOf, next, each, Grown, GrownAt}
 use Rattle.ways.specs.Imaging.{imaged}
-use Rattle.sets.proofs.Laid.{length-setAt, take-laid}
+use Rattle.parts.proofs.Laid.{length-setAt, take-laid}
 use Rattle.sets.proofs.Steps.{Steady, steady-each, steady-next, Going, going-last, grown-as, next-holds, next-large, built-holds}
 use Rattle.ways.proofs.Images.{steady-imaged}
 use Rattle.places.specs.declared.Growth.{Growth}

@@ -4,13 +4,13 @@ use mathlib.Core.Bool.{Bool, true, false}
 use mathlib.Core.List.{List, []}
 use Prim.Native.Nat.{ℕ}
 use Rattle.ways.specs.declared.Way.the-variants.{Copy}
-use Rattle.sets.specs.Parts.{part, wordsOf}
+use Rattle.parts.specs.Parts.{part, wordsOf}
 use Rattle.sets.specs.Building.{Building, next, each, GrownAt}
-use Rattle.merging.specs.Multiplying.{row, multiplied}
+use Rattle.products.specs.Multiplying.{row, multiplied}
 use Rattle.ways.specs.Imaging.{imaged}
 use Rattle.sets.specs.declared.Built.{Built}
-use Rattle.sets.specs.declared.Part.{Part}
-use Rattle.sets.specs.declared.Target.{Target}
+use Rattle.parts.specs.declared.Part.{Part}
+use Rattle.parts.specs.declared.Target.{Target}
 use Rattle.places.specs.declared.Growth.{Growth}
 use Rattle.growth.specs.declared.Giving.{Giving}
 use Rattle.growth.specs.declared.Giving.the-variants.{Through, Times}

@@ -3,7 +3,7 @@
 use mathlib.Core.List.{List}
 use Prim.Native.Nat.{ℕ}
 use Rattle.sets.specs.Building.{Building, next, enter}
-use Rattle.merging.specs.Multiplying.{multiplied}
+use Rattle.products.specs.Multiplying.{multiplied}
 use Rattle.merging.specs.Joining.{united}
 
 abbrev pub leafBuilt : ℕ → ℕ → List ℕ → Building

@@ -1,9 +1,9 @@
 // What the new labels of two sets add to a set.
 use growth::Giving;
 use growth::growing::add_new;
+use parts::Target;
 use places::Growth;
 use sets::Built;
-use sets::Target;
 use ways::Way;
 ghost use lib.ListN.{take};
 ghost use Rattle.sets.specs.Building.{GrownAt};

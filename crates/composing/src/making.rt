@@ -1,17 +1,18 @@
 // The set of a term, built at a place of the work area from parts that stand before it, by the shape of the term.
 use labels::Label;
 use merging::joining::union;
-use merging::multiplying::add_product;
+use parts::Part;
+use parts::Target;
+use products::multiplying::add_product;
 use sets::Built;
 use sets::Inserted;
-use sets::Part;
-use sets::Target;
 use sets::inserting::insert;
 ghost use lib.ListN.{length};
-ghost use Rattle.labels.specs.Packing.{held, code};
-ghost use Rattle.sets.specs.Parts.{roomAt};
+ghost use Rattle.areas.specs.Rows.{held};
+ghost use Rattle.labels.specs.Packing.{code};
+ghost use Rattle.parts.specs.Parts.{roomAt};
 ghost use Rattle.sets.specs.Building.{Grown};
-ghost use Rattle.sets.specs.Parts.{wordsOf};
+ghost use Rattle.parts.specs.Parts.{wordsOf};
 ghost use Rattle.composing.specs.Making.{leafBuilt};
 ghost use Rattle.composing.specs.Adding.{wholeOf};
 

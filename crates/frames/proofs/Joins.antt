@@ -14,8 +14,9 @@ use Rattle.faults.specs.declared.Fault as F
 use Rattle.grammar.specs.Reading.{Taken, taken, faulty, takeNumber, nameCount, equationCount, termCount, takeName, takeBody}
 use Rattle.grammar.specs.Reading.{Cut, cut, noLine, firstLine, Walk, reached, halted, walk, afterLine, lineWalk, oneLine, lines}
 use Rattle.grammar.specs.Reading.{Whole, fromOrder, fromRoot, fromBodies, fromTerms, fromCounts, fromNames, wholeText}
-use Rattle.sections.specs.declared.Progress.the-variants.{To, Bad}
-use Rattle.sections.proofs.Walking.{later, later-to, later-bad, gone-to, gone-bad, room-there}
+use Rattle.textlines.specs.declared.Progress.the-variants.{To, Bad}
+use Rattle.textlines.proofs.Walks.{gone-to, gone-bad}
+use Rattle.textlines.proofs.Sequences.{later, later-to, later-bad, room-there}
 use Rattle.frames.specs.Heads.{Heading, headTerms, headEquations, headNames, headText}
 use Rattle.frames.specs.Feet.{Footing, withBodies, footRoot, footText, FootRead}
 use Rattle.frames.specs.declared.feet.Foot.{Foot}

@@ -16,10 +16,10 @@ use Rattle.grammar.specs.Text.{Past, past, stuck}
 use Rattle.grammar.specs.Forms.{countLine}
 use Rattle.grammar.specs.Reading.{takenIf, formed, takeNumber, nameCount, equationCount, termCount}
 use Rattle.grammar.specs.Reading.{Cut, cut, noLine, firstLine, Walk, reached, halted, afterLine, lineWalk, oneLine}
-use Rattle.sections.specs.Lines.{between, NumberTo}
-use Rattle.sections.specs.declared.Progress.{Progress}
-use Rattle.sections.specs.declared.Progress.the-variants.{To, Bad}
-use Rattle.sections.proofs.Walking.{gone-to, gone-within, gone-bad, rest-lent, rest-length}
+use Rattle.textlines.specs.Lines.{between, NumberTo}
+use Rattle.textlines.specs.declared.Progress.{Progress}
+use Rattle.textlines.specs.declared.Progress.the-variants.{To, Bad}
+use Rattle.textlines.proofs.Walks.{gone-to, gone-within, gone-bad, rest-lent, rest-length}
 
 module _ (key : Text) (f g : ℕ → Bool) (same : (n : ℕ) → f n ≡ g n) (x : Fault) (line : ℕ) where
   pub other-test : (s : Text) → oneLine (takeNumber key f x) line s ≡ oneLine (takeNumber key g x) line s

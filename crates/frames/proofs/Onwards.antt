@@ -14,10 +14,12 @@ use Rattle.table.specs.Encoded.{filled}
 use Rattle.faults.specs.CodedFaults.{faultOf}
 use Rattle.faults.specs.declared.Fault as F
 use Rattle.grammar.specs.Reading.{takeName, Walk, reached, halted, walk, lines}
-use Rattle.sections.specs.Walks.{Padded, inRoom, Section}
-use Rattle.sections.specs.declared.Progress.{Progress}
-use Rattle.sections.specs.declared.Progress.the-variants.{To, Bad}
-use Rattle.sections.proofs.Walking.{gone-to, gone-within, gone-bad, rest-lent, rest-length, later-to, later-bad, room-there}
+use Rattle.textlines.specs.Walks.{inRoom}
+use Rattle.sections.specs.Arrays.{Padded, Section}
+use Rattle.textlines.specs.declared.Progress.{Progress}
+use Rattle.textlines.specs.declared.Progress.the-variants.{To, Bad}
+use Rattle.textlines.proofs.Walks.{gone-to, gone-within, gone-bad, rest-lent, rest-length}
+use Rattle.textlines.proofs.Sequences.{later-to, later-bad, room-there}
 use Rattle.frames.specs.Heads.{Heading, headingOf, noHead, Named, HeadWalks}
 use Rattle.frames.specs.Feet.{Footing, BodiesLaid, FootWalks}
 use Rattle.frames.specs.declared.heads.Head.{Head}

@@ -10,11 +10,11 @@ use Rattle.meaning.proofs.Alike.{alike}
 use Rattle.table.specs.Decoded.{nameOf}
 use Rattle.table.specs.Encoded.{filled, wordOf}
 use Rattle.grammar.specs.Reading.{Walk}
-use Rattle.sections.specs.Walks.{walkOf}
-use Rattle.sections.specs.declared.Progress.{Progress}
-use Rattle.sections.specs.declared.Progress.the-variants.{To, Bad}
-use Rattle.sections.proofs.Taking.{words-back, taken-fit}
-use Rattle.sections.proofs.Uniqueness.{Telling, walk-unique}
+use Rattle.textlines.specs.Walks.{walkOf}
+use Rattle.textlines.specs.declared.Progress.{Progress}
+use Rattle.textlines.specs.declared.Progress.the-variants.{To, Bad}
+use Rattle.sections.proofs.NameLines.{words-back, taken-fit}
+use Rattle.textlines.proofs.Uniqueness.{Telling, walk-unique}
 use Rattle.frames.specs.Heads.{Heading, headingOf, noHead, Named, HeadTo, HeadAt, HeadRead, headText}
 use Rattle.frames.specs.Feet.{Footing, BodiesLaid, FootRead}
 use Rattle.frames.specs.declared.heads.Head.{Head}

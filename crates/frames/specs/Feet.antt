@@ -9,9 +9,10 @@ use Rattle.meaning.specs.Bytes.{Text, ascii}
 use Rattle.meaning.specs.Answers.{range}
 use Rattle.table.specs.Encoded.{filled}
 use Rattle.grammar.specs.Reading.{takeNumber, takeBody, Walk, reached, walk, oneLine, lines}
-use Rattle.sections.specs.declared.Progress.{Progress}
-use Rattle.sections.specs.declared.Progress.the-variants.{To, Bad}
-use Rattle.sections.specs.Walks.{Walks, Padded, inRoom}
+use Rattle.textlines.specs.declared.Progress.{Progress}
+use Rattle.textlines.specs.declared.Progress.the-variants.{To, Bad}
+use Rattle.textlines.specs.Walks.{Walks, inRoom}
+use Rattle.sections.specs.Arrays.{Padded}
 use Rattle.frames.specs.declared.feet.Foot.{Foot}
 
 -- What the lines say.

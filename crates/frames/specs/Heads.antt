@@ -11,9 +11,9 @@ use Rattle.table.specs.Encoded.{filled}
 use Rattle.faults.specs.CodedFaults.{faultOf}
 use Rattle.faults.specs.declared.Fault as F
 use Rattle.grammar.specs.Reading.{takeNumber, nameCount, equationCount, termCount, takeName, Walk, reached, halted, walk, oneLine, lines}
-use Rattle.sections.specs.declared.Progress.{Progress}
-use Rattle.sections.specs.declared.Progress.the-variants.{To, Bad}
-use Rattle.sections.specs.Walks.{Padded}
+use Rattle.textlines.specs.declared.Progress.{Progress}
+use Rattle.textlines.specs.declared.Progress.the-variants.{To, Bad}
+use Rattle.sections.specs.Arrays.{Padded}
 use Rattle.frames.specs.declared.heads.Head.{Head}
 
 -- What the lines say: the names, and how many equations and terms there are.

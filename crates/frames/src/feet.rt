@@ -2,12 +2,12 @@
 ghost use mathlib.Core.Path.{_≡_};
 ghost use Prim.Native.Nat.{_≤_};
 ghost use lib.ListN.{length, take, drop};
-ghost use Rattle.sections.specs.Walks.{Padded};
+ghost use Rattle.sections.specs.Arrays.{Padded};
 ghost use Rattle.frames.specs.Feet.{FootWalks, FootRead, footRoot};
 use faults::Fault;
-use sections::Progress;
 use sections::bodies::take_bodies;
-use sections::lines::take_number;
+use textlines::Progress;
+use textlines::take_number;
 
 // The root is the number of the progress; the bodies are in their array with 0 behind them, all 0 after a bad line.
 pub struct Foot {

@@ -6,9 +6,9 @@ ghost use lib.ListN.{length, take, drop};
 ghost use Rattle.table.specs.Decoded.{nameOf};
 ghost use Rattle.frames.specs.Heads.{noHead, Named, HeadWalks, HeadRead, headNames, headEquations, headTerms};
 use faults::Fault;
-use sections::Progress;
-use sections::lines::take_number;
 use sections::names::take_names;
+use textlines::Progress;
+use textlines::take_number;
 
 // The names are in their array with 0 behind them; after a bad line all is 0 but how far reading came.
 pub struct Head {

@@ -14,15 +14,15 @@ use lib.Seq.{take-take, slice-cons, slice-empty}
 use Rattle.meaning.specs.Rounds.{pick}
 use Rattle.sets.specs.declared.Built.{Built}
 use Rattle.sets.specs.declared.Built.the-variants.{TooLarge, Holds}
-use Rattle.sets.specs.declared.Target.{Target}
-use Rattle.sets.specs.Parts.{part, setAt, laid, partBefore, wordsOf, roomAt, reachOf}
+use Rattle.parts.specs.declared.Target.{Target}
+use Rattle.parts.specs.Parts.{part, setAt, laid, partBefore, wordsOf, roomAt, reachOf}
 use Rattle.sets.specs.Building.{Building, done, next, answerOf, each, Grown}
-use Rattle.merging.specs.Multiplying.{row}
-use Rattle.sets.proofs.Laid.{setAt-reach}
+use Rattle.products.specs.Multiplying.{row}
+use Rattle.parts.proofs.Laid.{setAt-reach, part-end}
 use Rattle.sets.proofs.Steps.{Steady, Going, going-start, going-length, going-end, going-as, going-holds, going-large, grown-as}
-use Rattle.merging.proofs.Products.{steady-row}
+use Rattle.products.proofs.Products.{steady-row}
 use Rattle.ways.proofs.Images.{steady-imaged}
-use Rattle.sets.proofs.Walking.{part-end, part-stays}
+use Rattle.sets.proofs.Walking.{part-stays}
 use Rattle.places.specs.declared.Growth.{Growth}
 use Rattle.growth.specs.declared.Giving.{Giving}
 use Rattle.growth.specs.declared.Giving.the-variants.{Through, Times}

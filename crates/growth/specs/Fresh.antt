@@ -5,12 +5,12 @@ use mathlib.Core.List.{List, [], _∷_}
 use Prim.Native.Nat.{ℕ, _-_, _≤_}
 use lib.Dec.{eqb}
 use lib.ListN.{length}
-use Rattle.sets.specs.Parts.{part, wordsOf}
+use Rattle.parts.specs.Parts.{part, wordsOf}
 use Rattle.sets.specs.Building.{Building, each, GrownAt}
-use Rattle.merging.specs.Multiplying.{row}
+use Rattle.products.specs.Multiplying.{row}
 use Rattle.ways.specs.Imaging.{imaged}
 use Rattle.sets.specs.declared.Built.{Built}
-use Rattle.sets.specs.declared.Target.{Target}
+use Rattle.parts.specs.declared.Target.{Target}
 use Rattle.ways.specs.declared.Way.{Way}
 use Rattle.places.specs.declared.Growth.{Growth}
 use Rattle.growth.specs.declared.Giving.{Giving}

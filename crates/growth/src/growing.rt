@@ -1,21 +1,21 @@
 // What labels that are new since the round before give goes into a set. Sets only grow, so that one as it was and as it is are
 // gone through side by side, and what was there then is passed over.
 use crate::Giving;
-use labels::packing::read_label;
+use areas::rows::read_label;
 use labels::packing::same;
-use merging::multiplying::add_product;
+use parts::Part;
+use parts::Target;
+use parts::placing::end_before;
+use parts::placing::reach;
 use places::Growth;
+use products::multiplying::add_product;
 use sets::Built;
-use sets::Part;
-use sets::Target;
-use sets::placing::end_before;
-use sets::placing::reach;
 use ways::imaging::add_image;
 ghost use mathlib.Core.Path.{_≡_};
 ghost use mathlib.Core.Bool.{_&&_};
 ghost use lib.Dec.{ltb, eqb};
 ghost use lib.ListN.{getD};
-ghost use Rattle.sets.specs.Parts.{wordsOf};
+ghost use Rattle.parts.specs.Parts.{wordsOf};
 ghost use Rattle.growth.specs.Fresh.{Ends, freshIn, newIn, Gives};
 
 // What the labels of a part give.

@@ -1,7 +1,7 @@
 // What new labels give: the labels of a set that the round before did not have, through an operator or as sums with another set.
 pub mod growing;
 
-use sets::Part;
+use parts::Part;
 use ways::Way;
 
 // What labels give: what a way makes of each, or the sum of each with each label of a part.

@@ -11,12 +11,12 @@ use native.Mathlib.Decide.{decLt}
 use lib.ListN.{length, getD, set, take, drop, replicate, length-drop, length-set, drop-of-length-le}
 use lib.Seq.{paste-zero, paste-suc, take-all, take-at, drop-at, drop-drop, length-slice, length-take-le, getD-append-add, getD-drop}
 use Rattle.meaning.proofs.Alike.{alike}
-use Rattle.table.specs.Areas.{zeroed}
-use Rattle.table.proofs.Zeroed.{zeroed-front}
-use Rattle.sets.specs.declared.Part.{Part}
-use Rattle.sets.specs.Parts.{part}
+use Rattle.areas.specs.Areas.{zeroed}
+use Rattle.areas.proofs.Zeroed.{zeroed-front}
+use Rattle.parts.specs.declared.Part.{Part}
+use Rattle.parts.specs.Parts.{part}
 use Rattle.places.specs.Starts.{whole}
-use Rattle.places.proofs.Copies.{part-taken}
+use Rattle.transfers.proofs.Copies.{part-taken}
 use Rattle.keeping.specs.Settling.{alone, Settled}
 
 -- So many words brought.

@@ -5,8 +5,8 @@ use mathlib.Core.Logic.{_⊎_}
 use mathlib.Core.List.{List, _++_}
 use Prim.Native.Nat.{ℕ, _-_, _≤_, _<_}
 use lib.ListN.{length, drop, replicate}
-use Rattle.sets.specs.declared.Part.{Part}
-use Rattle.sets.specs.Parts.{part}
+use Rattle.parts.specs.declared.Part.{Part}
+use Rattle.parts.specs.Parts.{part}
 use Rattle.places.specs.Starts.{whole}
 
 -- 0 behind it as far as words are used, and the further words as they were

@@ -1,7 +1,7 @@
 // A set kept alone in the work area: at its start, with 0 behind it.
+use areas::clear;
+use parts::Part;
 use places::HALF;
-use sets::Part;
-use table::areas::clear;
 ghost use mathlib.Core.Path.{_≡_};
 ghost use mathlib.Core.List.{_++_};
 ghost use Prim.Native.Nat.{_+_, _≤_};

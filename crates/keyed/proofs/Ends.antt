@@ -14,7 +14,7 @@ use Rattle.words.specs.declared.Step.{Step}
 use Rattle.words.specs.declared.Step.the-variants.{To, Stuck}
 use Rattle.words.proofs.Steps.{stops, goes, restAt, rest-drop, went-on, stays-on}
 use Rattle.keyed.specs.Lines.{pastEnd, endedFrom}
-use Rattle.forms.proofs.Operands.{ended-none, ended-some}
+use Rattle.tails.proofs.Operands.{ended-none, ended-some}
 
 -- a value with nothing after it
 abbrev pub last-with : {A : Type 0} → A → Text → Past A

@@ -10,18 +10,18 @@ use Rattle.table.specs.declared.Order.the-variants.{All, Only}
 use Rattle.grammar.specs.Text.{Past, past, stuck, onward, sameText, literal, ended}
 use Rattle.grammar.specs.Forms.{OrderLine, all, only, Parts, orderLine}
 use Rattle.grammar.specs.Faults.{orderFault, labelSaid}
-use Rattle.lists.specs.Entries.{labelEntry}
+use Rattle.entries.specs.Entries.{labelEntry}
 use Rattle.lists.specs.Lists.{wholeList, over, ListRead}
-use Rattle.forms.specs.Terms.{Allow}
+use Rattle.tails.specs.Wraps.{Allow}
 use Rattle.keyed.specs.Orders.{OrderTaken, OrderDue, onlyThese}
 use Rattle.faults.specs.declared.Found.the-variants.{Fine}
 use Rattle.keyed.specs.declared.OrderStep.{OrderStep}
-use Rattle.lists.specs.declared.Said as C
-use Rattle.lists.specs.declared.SaidStep.{SaidStep}
-use Rattle.lists.specs.declared.SaidStep.the-variants as S
-use Rattle.lists.specs.declared.ListKind.the-variants.{Labels}
-use Rattle.forms.proofs.Operands.{ended-none, ended-some, over-nothing}
-use Rattle.forms.proofs.Wraps.{wrap-stuck, wrap-went, listed-faults, listed-words}
+use Rattle.entries.specs.declared.Said as C
+use Rattle.entries.specs.declared.SaidStep.{SaidStep}
+use Rattle.entries.specs.declared.SaidStep.the-variants as S
+use Rattle.entries.specs.declared.ListKind.the-variants.{Labels}
+use Rattle.tails.proofs.Operands.{ended-none, ended-some, over-nothing}
+use Rattle.tails.proofs.WrapLines.{wrap-stuck, wrap-went, listed-faults, listed-words}
 
 abbrev after-labels : List Parts → Text → Past OrderLine
 after-labels ls q = onward (ended q) (λ _ p. past (only ls) p)

@@ -12,7 +12,7 @@ use Rattle.grammar.specs.Forms.{orderLine}
 use Rattle.grammar.specs.Faults.{orderSaid, orderFault}
 use Rattle.faults.specs.declared.Found.the-variants.{Fine}
 use Rattle.lists.specs.Lists.{over}
-use Rattle.forms.proofs.Uniqueness.{Seen, took, stopped, Took, Meets, seen-unique}
+use Rattle.tails.proofs.Uniqueness.{Seen, took, stopped, Took, Meets, seen-unique}
 use Rattle.keyed.specs.Orders.{OrderRead, OrderAnswer}
 use Rattle.keyed.specs.declared.OrderStep.{OrderStep}
 use Rattle.keyed.specs.declared.OrderStep.the-variants as O

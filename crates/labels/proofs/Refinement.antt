@@ -11,7 +11,7 @@ use lib.Dec.{T, leb, ltb, lit<}
 use lib.ListN.{length, replicate}
 use Rattle.meaning.specs.Labels.{Label, count, size, number, labelOf, single, plus, inside, minus}
 use Rattle.meaning.proofs.Bags.{number-plus, number-minus, size-plus}
-use Rattle.meaning.proofs.Digits.{Small, small}
+use Rattle.meaning.proofs.Digits.{Small, size→small}
 use Rattle.labels.specs.declared.Sum.the-variants.{Over, Of}
 use Rattle.labels.specs.Packing.{packed}
 use Rattle.meaning.specs.Rounds.{pick}
@@ -25,7 +25,7 @@ pub record Packs (names : ℕ) (a : Label) : Type 0 where
   pub few : size a ≤ 31
 
 pub packs-small : {names : ℕ} {a : Label} → Packs names a → Small a
-packs-small {names} {a} p = small a (p .few)
+packs-small {names} {a} p = size→small a (p .few)
 
 -- A label with zeros for the names that it lacks.
 unfoldable pub padded : ℕ → Label → Label

@@ -7,9 +7,9 @@ use types.Run.{OneOf, miss}
 use denote.Enum.Declared.{tagOf}
 use Rattle.meaning.specs.Descriptions as D
 use Rattle.table.specs.Terms.{bareTerm}
-use Rattle.table.proofs.Term as TermType
-use Rattle.table.specs.declared.Term.{Term}
-use Rattle.table.specs.declared.Term.the-variants.{Delta, Tau, Act, Ref, Sum, Cond, Choice, IfElse, Seq, Merge, LMerge, Sync, Wrap}
+use Rattle.slots.proofs.Term as TermType
+use Rattle.slots.specs.declared.Term.{Term}
+use Rattle.slots.specs.declared.Term.the-variants.{Delta, Tau, Act, Ref, Sum, Cond, Choice, IfElse, Seq, Merge, LMerge, Sync, Wrap}
 use Rattle.grammar.specs.Faults.{operandsFit}
 
 pub fit-other : (x : Term) (terms : List D.Term) → OneOf (0 ∷ 1 ∷ 2 ∷ 3 ∷ 4 ∷ 5 ∷ 6 ∷ 7 ∷ 8 ∷ 9 ∷ 10 ∷ 12 ∷ []) (tagOf TermType.the-type x)

@@ -3,7 +3,7 @@
 use Prim.Native.Nat.{ℕ}
 use Rattle.meaning.specs.Descriptions.{Term}
 use Rattle.table.specs.Terms.{bareTerm}
-use Rattle.table.specs.Packed.{wordTerm}
+use Rattle.slots.specs.Packing.{wordTerm}
 
 abbrev pub bareSlot : ℕ → Term
 bareSlot w = bareTerm (wordTerm w)

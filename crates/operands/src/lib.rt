@@ -13,8 +13,8 @@ use faults::Fault;
 use faults::Found;
 use faults::found_unless;
 use faults::worse_of;
-use table::Term;
-use table::packing::unpack;
+use slots::Term;
+use slots::packing::unpack;
 
 fn both_below(t: usize, u: usize, n: usize) -> bool
     ensures { λ r. ⌜ r ≡ bothBelow n t u ⌝ }

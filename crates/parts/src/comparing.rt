@@ -1,10 +1,10 @@
 // How far a part ascends.
 use crate::Part;
 use crate::placing::end_before;
+use areas::rows::read_label;
 use labels::packing::below;
-use labels::packing::read_label;
 ghost use mathlib.Core.Path.{_≡_};
-ghost use Rattle.labels.specs.Packing.{held};
+ghost use Rattle.areas.specs.Rows.{held};
 ghost use Rattle.parts.specs.Parts.{partBefore, wordsOf};
 ghost use Rattle.parts.specs.Comparing.{ascent};
 

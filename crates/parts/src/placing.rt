@@ -1,10 +1,10 @@
 // Where parts lie in the slice, and how much room there is.
 use crate::MOST_LABELS;
-use labels::packing::labels_in;
+use areas::rows::labels_in;
 ghost use mathlib.Core.Path.{_≡_};
 ghost use Prim.Native.Nat.{min};
 ghost use lib.ListN.{length};
-ghost use Rattle.labels.specs.Packing.{held};
+ghost use Rattle.areas.specs.Rows.{held};
 ghost use Rattle.parts.specs.Parts.{roomAt, reachOf};
 
 // The smaller of two numbers.

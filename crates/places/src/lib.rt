@@ -2,7 +2,7 @@
 pub mod sameness;
 pub mod starts;
 
-use sets::Part;
+use parts::Part;
 
 // The middle of what is used of the work area: so many labels all sets may have together.
 pub const HALF: usize = 2048;

@@ -1,7 +1,7 @@
 // Where the sets of terms begin, counted from the start of their half of the work area, and where they stand.
 use crate::Growth;
 use crate::HALF;
-use sets::Part;
+use parts::Part;
 ghost use mathlib.Core.Path.{_≡_};
 ghost use Prim.Native.Nat.{suc};
 ghost use Rattle.places.specs.Starts.{baseOf, startIn, partOf, growthIn, placeIn, leftIn};

@@ -14,7 +14,7 @@ use Rattle.labels.specs.declared.Sum.the-variants.{Over, Of}
 use Rattle.labels.specs.Packing.{packed}
 use Rattle.meaning.specs.Rounds.{pick}
 use Rattle.labels.specs.Bags.{sumOf}
-use Rattle.labels.proofs.Meant.{Packs, sum-number}
+use Rattle.labels.proofs.Refinement.{Packs, sum-number}
 use Rattle.sets.specs.declared.Built.{Built}
 use Rattle.parts.specs.declared.Part.{Part}
 use Rattle.parts.specs.Parts.{wordsOf, roomAt}

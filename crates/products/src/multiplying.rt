@@ -1,15 +1,16 @@
 // The product of two parts: every sum of a label of the one and a label of the other.
+use areas::rows::read_label;
 use labels::Label;
 use labels::Sum;
 use labels::bags::sum;
-use labels::packing::read_label;
 use parts::Part;
 use parts::Target;
 use parts::placing::end_before;
 use parts::placing::reach;
 use sets::Built;
 use sets::inserting::enter;
-ghost use Rattle.labels.specs.Packing.{held, code};
+ghost use Rattle.areas.specs.Rows.{held};
+ghost use Rattle.labels.specs.Packing.{code};
 ghost use Rattle.parts.specs.Parts.{wordsOf};
 ghost use Rattle.sets.specs.Building.{GrownAt, enter, taken, summed};
 ghost use Rattle.products.specs.Multiplying.{row, multiplied};

@@ -15,7 +15,7 @@ use Rattle.table.specs.declared.Order.{Order}
 use Rattle.table.specs.declared.Table.{Table}
 use Rattle.table.specs.Decoded.{nameOf}
 use Rattle.table.specs.Encoded.{filled, wordOf, slotsFrom, termsWords, orderWords, orderFor, tableOf, storeOf}
-use Rattle.table.proofs.Filled.{filled-length, filled-two}
+use Rattle.table.proofs.Filled.{length-filled, filled-two}
 use Rattle.faults.specs.CodedFaults.{faultOf}
 use Rattle.faults.specs.declared.Fault.{Fault}
 use Rattle.faults.specs.declared.Fault.the-variants.{Form, Name, Range, Amount, Operand}
@@ -23,11 +23,11 @@ use Rattle.lists.specs.Lists.{over}
 use Rattle.words.proofs.Rests.{rest-cons}
 use Rattle.grammar.specs.Reading.{takeOrder, Walk, reached, halted, walk, oneLine, Reading, read, badLine}
 use Rattle.grammar.specs.Reading.{Whole, fromOrder, fromBodies, fromTerms, wholeText, described}
-use Rattle.sections.specs.Walks.{Padded}
-use Rattle.sections.specs.declared.Progress.{Progress}
-use Rattle.sections.specs.declared.Progress.the-variants.{Bad}
-use Rattle.sections.proofs.Walking.{padded-length}
-use Rattle.sections.proofs.Taking.{words-back, taken-fit}
+use Rattle.sections.specs.Arrays.{Padded}
+use Rattle.textlines.specs.declared.Progress.{Progress}
+use Rattle.textlines.specs.declared.Progress.the-variants.{Bad}
+use Rattle.sections.proofs.Arrays.{padded-length}
+use Rattle.sections.proofs.NameLines.{words-back, taken-fit}
 use Rattle.frames.specs.Heads.{Named, headText}
 use Rattle.frames.specs.Feet.{footText}
 use Rattle.frames.proofs.Joins.{withRoot, head-joins, foot-joins}
@@ -92,13 +92,13 @@ module _ (n : ℕ) (front ws : List ℕ) {store : List ℕ} (l : length front �
   behind = rw s (drop-at front (filled 32 0 []) n l)
 
   size : length store - n ≡ 32
-  size = let e = filled-length {A = ℕ} 0 32 [] in rw (s, length-append) (omega arith)
+  size = let e = length-filled {A = ℕ} 0 32 [] in rw (s, length-append) (omega arith)
 
   pub words-stored : {after : List ℕ} → after ≡ over ws (take (length store - n) (drop n store)) → take n store ++
       (after ++ drop (length store - n) (drop n store)) ≡ front ++ filled 32 0 ws
   words-stored q =
       let b : take n store ≡ front = rw s (take-at front (filled 32 0 []) n l) in
-      let e = filled-length {A = ℕ} 0 32 [] in
+      let e = length-filled {A = ℕ} 0 32 [] in
       let f : length (filled {A = ℕ} 32 0 []) ≤ 32 = omega arith in
       let z : drop 32 (filled {A = ℕ} 32 0 []) ≡ [] = drop-of-length-le (filled 32 0 []) f in
       let y : take 32 (filled {A = ℕ} 32 0 []) ≡ filled 32 0 [] = take-all 32 (filled 32 0 []) f in
@@ -108,7 +108,7 @@ pub order-stored : (d : D.Description) (o : D.Order) {store after : List ℕ} �
     → after ≡ over (orderWords o) (take (length store - 3072) (drop 3072 store))
     → take 3072 store ++ (after ++ drop (length store - 3072) (drop 3072 store)) ≡ storeOf d o
 unfolding storeOf
-order-stored d o s q = words-stored 3072 (filled 3072 0 (termsWords (d .terms))) (orderWords o) (filled-length 0 3072 (termsWords (d .terms))) s q
+order-stored d o s q = words-stored 3072 (filled 3072 0 (termsWords (d .terms))) (orderWords o) (length-filled 0 3072 (termsWords (d .terms))) s q
 
 -- What is returned of a text that is read.
 pub table-read : (d : D.Description) (o : D.Order) {t : Table} {x : Order} → t ≡ tableOf d → x ≡ orderFor o
@@ -118,10 +118,10 @@ table-read d o e q = rw (e, q)
 -- A store that is all 0, in two parts.
 module _ (n m k : ℕ) {store : List ℕ} (s : store ≡ filled n 0 []) (e : n ≡ m + k) where
   pub front-free : take m store ≡ filled m 0 []
-  front-free = rw (s, filled-two {A = ℕ} 0 n m k e) (take-at (filled m 0 []) (filled k 0 []) m (filled-length 0 m []))
+  front-free = rw (s, filled-two {A = ℕ} 0 n m k e) (take-at (filled m 0 []) (filled k 0 []) m (length-filled 0 m []))
 
   pub rest-free : drop m store ≡ filled k 0 []
-  rest-free = rw (s, filled-two {A = ℕ} 0 n m k e) (drop-at (filled m 0 []) (filled k 0 []) m (filled-length 0 m []))
+  rest-free = rw (s, filled-two {A = ℕ} 0 n m k e) (drop-at (filled m 0 []) (filled k 0 []) m (length-filled 0 m []))
 
 -- The table of what was read before the order.
 same-table : {names names′ bodies bodies′ : List ℕ} {named named′ equations equations′ terms terms′ root : ℕ} {slots slots′ : List ℕ}
@@ -148,6 +148,6 @@ table-held names named count slots terms bodies equations root n s c b few =
 
 pub held-length : {store : List ℕ} (ts : List D.Term) → store ≡ filled 3072 0 (termsWords ts) ++ filled 32 0 [] → length store ≡ 3104
 held-length ts s =
-    let a = filled-length {A = ℕ} 0 3072 (termsWords ts) in
-    let b = filled-length {A = ℕ} 0 32 [] in
+    let a = length-filled {A = ℕ} 0 3072 (termsWords ts) in
+    let b = length-filled {A = ℕ} 0 32 [] in
     rw (s, length-append) (omega arith)

@@ -15,11 +15,11 @@ use Rattle.table.specs.Encoded.{filled, slotsFrom, termsWords, tableOf, orderFo
 use Rattle.faults.specs.CodedFaults.{faultOf}
 use Rattle.faults.specs.declared.Fault as F
 use Rattle.grammar.specs.Reading.{takeTerm, lines, Reading, read, badLine}
-use Rattle.sections.specs.declared.Progress.{Progress}
-use Rattle.sections.specs.declared.Progress.the-variants.{To, Bad}
+use Rattle.textlines.specs.declared.Progress.{Progress}
+use Rattle.textlines.specs.declared.Progress.the-variants.{To, Bad}
 use Rattle.frames.specs.declared.heads.Head.{Head}
 use Rattle.frames.specs.Heads.{Named, headingOf}
-use Rattle.termlines.specs.declared.orders.Ordered.{Ordered}
+use Rattle.orderline.specs.declared.Ordered.{Ordered}
 use Rattle.termlines.specs.declared.terms.Terms.{Terms}
 use Rattle.termlines.specs.Terms.{TermsWalk}
 

@@ -13,20 +13,20 @@ ghost use Rattle.reading.specs.Stored.{refusing, Ended, Completed};
 ghost use Rattle.reading.specs.Parts.{EndRead, Headed, Sized, TermsPart, HeldTerms, Held};
 use crate::Answer;
 use crate::Read;
+use areas::clear;
 use faults::Fault;
 use frames::feet::take_foot;
 use frames::heads::Head;
 use frames::heads::take_head;
-use sections::Progress;
+use orderline::Ordered;
+use orderline::take_order;
 use table::Order;
 use table::STORE_WORDS;
 use table::Table;
-use table::areas::clear;
 use table::empty;
-use termlines::orders::Ordered;
-use termlines::orders::take_order;
 use termlines::terms::Terms;
 use termlines::terms::take_terms;
+use textlines::Progress;
 
 // What is returned of a text that is refused: the answer, with a table of nothing.
 pub fn refused(answer: Answer) -> Read

@@ -17,8 +17,8 @@ use Rattle.meaning.specs.Answers.{Outcome, tooLarge, listed, tooLong, inLine}
 use Rattle.grammar.specs.Reading.{Reading, read, overlong, badLine, readText}
 use Rattle.grammar.proofs.Acceptance.{accepted→}
 use Rattle.table.specs.Encoded.{tableOf, storeOf}
-use Rattle.table.specs.Areas.{zeroed}
-use Rattle.table.proofs.Zeroed.{zeroed-front}
+use Rattle.areas.specs.Areas.{zeroed}
+use Rattle.areas.proofs.Zeroed.{zeroed-front}
 use Rattle.faults.specs.CodedFaults.{faultOf}
 use Rattle.faults.specs.declared.Fault as F
 use Rattle.rimecutter.specs.declared.Answer.{Answer}

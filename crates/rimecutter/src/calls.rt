@@ -5,12 +5,12 @@ ghost use Rattle.rimecutter.specs.Calls.{call, tooShort};
 ghost use Rattle.rimecutter.specs.Answers.{Responded};
 ghost use Rattle.rimecutter.specs.Steps.{answerFor};
 use crate::Answer;
+use areas::clear;
 use reading::read_description;
 use rounds::ANSWER_WORDS;
 use rounds::WORK_WORDS;
 use table::NAMES;
 use table::STORE_WORDS;
-use table::areas::clear;
 
 // What is answered, with the names of the description, packed in words.
 pub struct Response {

@@ -11,11 +11,11 @@ use Rattle.meaning.specs.Descriptions.{Order, all, only}
 use Rattle.meaning.specs.Legal.{LegalOrder}
 use Rattle.meaning.specs.Rounds.{allowed}
 use Rattle.meaning.specs.Answers.{admits, cut}
-use Rattle.labels.proofs.Meant.{Packs}
-use Rattle.sets.proofs.Meant.{AllPack}
+use Rattle.labels.proofs.Refinement.{Packs}
+use Rattle.sets.proofs.Refinement.{AllPack}
 use Rattle.labels.proofs.Sizes.{number-zero}
-use Rattle.ways.proofs.Refinement.{same-test, member-number}
-use Rattle.places.specs.Cutting.{allows, cutWords}
+use Rattle.ways.proofs.Refinement.{eqb-zero, member-number}
+use Rattle.transfers.specs.Cutting.{allows, cutWords}
 use Rattle.terms.proofs.Shaped.{listed-packs}
 
 -- whether an order is `all`, and the words of its list
@@ -31,7 +31,7 @@ allows-number : (n : ℕ) (o : Order) (a : Label) → LegalOrder n o → Packs n
 unfolding allows allowed isTau
 allows-number n all a h p = refl
 allows-number n (only ls) a h p =
-    ap₂ _||_ (sym (same-test (size a) (number a) (number-zero a))) (member-number n a ls p (listed-packs n ls (h .1)))
+    ap₂ _||_ (sym (eqb-zero (size a) (number a) (number-zero a))) (member-number n a ls p (listed-packs n ls (h .1)))
 
 pub cut-number : (n : ℕ) (o : Order) (s : List Label) → LegalOrder n o → AllPack n s → cutWords (isAll o) (listOf o) (map number s) ≡ map number (cut o s)
 unfolding cutWords cut spread

@@ -23,14 +23,14 @@ use Rattle.meaning.proofs.Alike.{alike}
 use Rattle.meaning.proofs.Limits.{over-one, over-some, rounds-bound}
 use Rattle.meaning.proofs.Lengths.{round-full}
 use Rattle.meaning.proofs.Answers.{answer-right}
-use Rattle.sets.proofs.Meant.{AllPack}
+use Rattle.sets.proofs.Refinement.{AllPack}
 use Rattle.table.specs.declared.Table.{Table}
 use Rattle.table.specs.declared.Order.{Order}
-use Rattle.table.specs.Areas.{zeroed}
+use Rattle.areas.specs.Areas.{zeroed}
 use Rattle.table.specs.Encoded.{storeOf, orderFor, tableOf}
 use Rattle.table.proofs.Stored.{order-words}
-use Rattle.table.proofs.Zeroed.{zeroed-front}
-use Rattle.places.specs.Cutting.{put, cutWords, cutInto, whereRoom}
+use Rattle.areas.proofs.Zeroed.{zeroed-front}
+use Rattle.transfers.specs.Cutting.{put, cutWords, cutInto, whereRoom}
 use Rattle.places.specs.Starts.{whole}
 use Rattle.terms.proofs.Operands.{packed-sets}
 use Rattle.turns.specs.declared.Found.{Found}

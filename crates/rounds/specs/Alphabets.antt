@@ -16,7 +16,7 @@ use Rattle.table.specs.declared.Order.{Order}
 use Rattle.table.specs.declared.Order.the-variants.{All, Only}
 use Rattle.table.specs.Decoded.{wordsAt}
 use Rattle.table.specs.Encoded.{storeOf, orderFor, tableOf}
-use Rattle.places.specs.Cutting.{put, cutInto}
+use Rattle.transfers.specs.Cutting.{put, cutInto}
 use Rattle.places.specs.Starts.{whole}
 use Rattle.rounds.specs.declared.Answer.{Answer}
 use Rattle.rounds.specs.declared.Answer.the-variants as A

@@ -1,9 +1,9 @@
 // The alphabet of a table: the root's set, worked out round by round in a lent work area, cut to the order.
-use places::cutting::cut;
+use areas::clear;
 use table::Order;
 use table::Table;
-use table::areas::clear;
 use table::lists::words_of;
+use transfers::cutting::cut;
 use turns::Found;
 use turns::until_stable;
 ghost use Rattle.rounds.specs.Alphabets.{Answered, Listing};

@@ -9,7 +9,7 @@ use lib.ListN.{length, take, drop, set, replicate}
 use lib.Seq.{take-suc-set, length-take-le}
 use Rattle.meaning.specs.Bytes.{Text}
 use Rattle.table.specs.Encoded.{filled}
-use Rattle.table.proofs.Filled.{filled-length, filled-replicate, filled-more}
+use Rattle.table.proofs.Filled.{length-filled, filled-replicate, filled-more}
 use Rattle.faults.specs.CodedFaults.{faultOf}
 use Rattle.faults.specs.declared.Fault as F
 use Rattle.faults.specs.declared.Fault.the-variants.{Form}
@@ -40,7 +40,7 @@ padded-none most = record { padded = filled-replicate 0 most }
 
 module _ {most i : ℕ} {xs : List ℕ} (p : Padded most i xs) where
   pub padded-length : length xs ≡ most
-  padded-length = ap length (p .padded) ∙ filled-length 0 most (take i xs)
+  padded-length = ap length (p .padded) ∙ length-filled 0 most (take i xs)
 
   module _ (x : ℕ) (h : i < most) where
     pub place-more : take i xs ++ (x ∷ []) ≡ take (i + 1) (set xs i x)

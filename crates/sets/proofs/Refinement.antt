@@ -16,7 +16,7 @@ use Rattle.meaning.proofs.Digits.{number-below}
 use Rattle.meaning.proofs.Sorted.{Within, sorted-once, once-count}
 use Rattle.meaning.proofs.Limits.{Long}
 use Rattle.meaning.proofs.Members.{in-append, in-ascending, ascending-ascends, ascending-unique}
-use Rattle.labels.proofs.Meant.{Packs, packs-small}
+use Rattle.labels.proofs.Refinement.{Packs, packs-small}
 use Rattle.sets.specs.Building.{Building, done, goesOn, next, each, enter}
 use Rattle.sets.specs.Inserting.{placedBy, insertNumber}
 use Rattle.sets.proofs.Sorting.{compare-lt, compare-gt, compare-eq, rising-insert, Entering, rising-enter}

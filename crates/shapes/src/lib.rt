@@ -3,7 +3,7 @@ pub mod sameness;
 pub mod shaping;
 
 use labels::Label;
-use table::Operator;
+use slots::Operator;
 
 // What the set of a term is built of, and how: nothing; one label; the set of an equation's body in the round before; the set of a
 // term; those of two terms, with every sum of their labels or without; the sums alone; the set of a term through an operator.

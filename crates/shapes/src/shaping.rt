@@ -2,7 +2,7 @@
 use crate::Shape;
 use labels::bags::single;
 use labels::packing::tau;
-use table::Term;
+use slots::Term;
 ghost use mathlib.Core.Path.{_≡_};
 ghost use Rattle.shapes.specs.Shaping.{shapeFor};
 

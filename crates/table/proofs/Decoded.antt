@@ -10,7 +10,7 @@ use Rattle.meaning.specs.Labels.{Label, number, labelOf}
 use Rattle.meaning.specs.Sets.{Rising}
 use Rattle.meaning.specs.Descriptions as D
 use Rattle.meaning.specs.Legal.{Each, Legal, LegalLabel, LegalPair, LegalRule, LegalOperator, LegalTerm}
-use Rattle.meaning.proofs.Digits.{small, labelOf-number}
+use Rattle.meaning.proofs.Digits.{size→small, labelOf-number}
 use Rattle.meaning.proofs.Least.{term-legal}
 use Rattle.areas.specs.Pairs.{pairsIn}
 use Rattle.areas.proofs.Entries.{pairsIn-pairWords}
@@ -23,7 +23,7 @@ use Rattle.table.proofs.Stored.{term-words, term-of}
 
 -- Entries that are read as they were stored.
 label-back : {names : ℕ} (a : Label) → LegalLabel names a → labelOf names (number a) ≡ a
-label-back a h = ap (λ (m : ℕ). labelOf m (number a)) (sym (h .0)) ∙ labelOf-number a (small a (h .2))
+label-back a h = ap (λ (m : ℕ). labelOf m (number a)) (sym (h .0)) ∙ labelOf-number a (size→small a (h .2))
 
 labels-back : (names : ℕ) (ls : List Label) → Each (LegalLabel names) ls → map (labelOf names) (map number ls) ≡ ls
 labels-back names [] h = refl

@@ -11,11 +11,11 @@ use borrow.Author.Tests.{lt-ltb, le-ltb}
 use Rattle.meaning.specs.Bytes.{Text}
 use Rattle.meaning.specs.Descriptions as D
 use Rattle.meaning.specs.Rounds.{pick}
-use Rattle.table.specs.declared.Term.{Term}
-use Rattle.table.specs.declared.Term.the-variants.{Delta, Tau, Act, Ref, Sum, Cond, Choice, IfElse, Seq, Merge, LMerge, Sync, Wrap}
+use Rattle.slots.specs.declared.Term.{Term}
+use Rattle.slots.specs.declared.Term.the-variants.{Delta, Tau, Act, Ref, Sum, Cond, Choice, IfElse, Seq, Merge, LMerge, Sync, Wrap}
 use Rattle.table.specs.Terms.{IsPlain, bareTerm}
 use Rattle.table.specs.Encoded.{termWords, termFor}
-use Rattle.table.specs.Packed.{plainOf}
+use Rattle.slots.specs.Packing.{plainOf}
 use Rattle.grammar.specs.Text.{Past, past, stuck, onward, ended, starts, literal, number, word}
 use Rattle.grammar.specs.Forms.{Line, plain, acts, space, alone, ofName, ofOne, ofTwo}
 use Rattle.grammar.specs.Faults.{wordsOfFault}

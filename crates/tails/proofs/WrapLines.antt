@@ -8,13 +8,13 @@ use lib.Dec.{eqb}
 use lib.ListN.{length, drop, length-map}
 use borrow.Author.Tests.{ne-eqb}
 use Rattle.meaning.specs.Bytes.{Text, ascii}
-use Rattle.table.specs.declared.Place.{Place}
-use Rattle.table.specs.declared.Operator.{Operator}
-use Rattle.table.specs.declared.Operator.the-variants as O
-use Rattle.table.specs.declared.Term.the-variants.{Wrap}
+use Rattle.slots.specs.declared.Place.{Place}
+use Rattle.slots.specs.declared.Operator.{Operator}
+use Rattle.slots.specs.declared.Operator.the-variants as O
+use Rattle.slots.specs.declared.Term.the-variants.{Wrap}
 use Rattle.table.specs.Encoded.{operatorWords, operatorFor}
 use Rattle.meaning.specs.Rounds.{pick}
-use Rattle.table.specs.Packed.{operatorAt}
+use Rattle.slots.specs.Packing.{operatorAt}
 use Rattle.grammar.specs.Text.{Past, past, stuck, onward, sameText, ended, starts, literal, word}
 use Rattle.grammar.specs.Forms.{Line, wraps, Parts, comma, space, pair, rule, label, labelList, ofList}
 use Rattle.grammar.specs.Faults.{fine, worst, wordsOfFault, labelFault, ruleFault, rulesFault, labelsFault, listFault}

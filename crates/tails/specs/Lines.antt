@@ -5,7 +5,7 @@ use mathlib.Core.List.{List, []}
 use Prim.Native.Nat.{ℕ}
 use lib.ListN.{drop}
 use Rattle.meaning.specs.Bytes.{Text}
-use Rattle.table.specs.declared.Term.{Term}
+use Rattle.slots.specs.declared.Term.{Term}
 use Rattle.table.specs.Encoded.{termWords, termFor}
 use Rattle.grammar.specs.Text.{Past, past, stuck}
 use Rattle.grammar.specs.Forms.{Line}

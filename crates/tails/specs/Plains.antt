@@ -8,9 +8,9 @@ use lib.ListN.{drop}
 use Rattle.meaning.specs.Bytes.{Text}
 use Rattle.meaning.specs.Descriptions as D
 use Rattle.meaning.specs.Rounds.{pick}
-use Rattle.table.specs.Packed.{plainOf}
+use Rattle.slots.specs.Packing.{plainOf}
 use Rattle.table.specs.Terms.{IsPlain, bareTerm}
-use Rattle.table.specs.declared.Term.{Term}
+use Rattle.slots.specs.declared.Term.{Term}
 use Rattle.grammar.specs.Text.{Past, past, stuck}
 use Rattle.grammar.specs.Forms.{Line, plain, alone, ofName, ofOne, ofTwo}
 use Rattle.faults.specs.declared.Found as G

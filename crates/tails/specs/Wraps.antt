@@ -5,8 +5,8 @@ use Prim.Native.Nat.{ℕ, _*_}
 use lib.Dec.{eqb}
 use Rattle.meaning.specs.Bytes.{Text}
 use Rattle.meaning.specs.Rounds.{pick}
-use Rattle.table.specs.Packed.{operatorAt}
-use Rattle.table.specs.declared.Term.the-variants.{Wrap}
+use Rattle.slots.specs.Packing.{operatorAt}
+use Rattle.slots.specs.declared.Term.the-variants.{Wrap}
 use Rattle.grammar.specs.Text.{Past, separated}
 use Rattle.grammar.specs.Forms as F
 use Rattle.grammar.specs.Forms.{Listed, Parts, WordPair, WordRule, comma, wordList, pair, rule, labelList}

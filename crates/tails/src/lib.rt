@@ -8,9 +8,9 @@ ghost use Rattle.tails.specs.Tails.{TailRead};
 use crate::plains::read_plain;
 use crate::wraps::read_wrap;
 use faults::Found;
+use slots::Term;
 use table::NAMES;
 use table::TERMS;
-use table::Term;
 
 // A term with its fault, or the place where the line is stuck.
 pub enum TermStep {

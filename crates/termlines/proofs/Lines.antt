@@ -8,10 +8,10 @@ use lib.ListN.{length, take, drop, set, length-append}
 use Rattle.meaning.specs.Bytes.{Text}
 use Rattle.meaning.specs.Descriptions as D
 use Rattle.meaning.specs.Answers.{form}
-use Rattle.table.specs.declared.Term.{Term}
+use Rattle.slots.specs.declared.Term.{Term}
 use Rattle.table.specs.Decoded.{nameOf}
 use Rattle.table.specs.Encoded.{filled, termWords, termsWords, termFor, slotsFrom}
-use Rattle.table.specs.Packed.{termWord}
+use Rattle.slots.specs.Packing.{termWord}
 use Rattle.table.proofs.Filled.{slots-more, part-free, part-more}
 use Rattle.lists.specs.Lists.{over}
 use Rattle.grammar.specs.Text.{Past, stuck}
@@ -23,9 +23,9 @@ use Rattle.faults.specs.declared.Fault as F
 use Rattle.faults.specs.declared.Fault.the-variants.{Form}
 use Rattle.faults.specs.declared.Found as G
 use Rattle.faults.specs.declared.Found.the-variants.{Fine, Faulty}
-use Rattle.forms.specs.declared.TermStep.{TermStep}
-use Rattle.forms.specs.declared.TermStep.the-variants as T
-use Rattle.forms.specs.declared.TermStep.the-variants.{Stuck}
+use Rattle.tails.specs.declared.TermStep.{TermStep}
+use Rattle.tails.specs.declared.TermStep.the-variants as T
+use Rattle.tails.specs.declared.TermStep.the-variants.{Stuck}
 use Rattle.forms.specs.Terms.{TermTaken, TermAnswer}
 use Rattle.textlines.specs.Lines.{LineEnd}
 use Rattle.textlines.specs.declared.Progress.the-variants.{To, Bad}

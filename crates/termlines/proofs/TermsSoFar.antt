@@ -9,7 +9,7 @@ use Rattle.meaning.specs.Bytes.{Text}
 use Rattle.meaning.specs.Descriptions as D
 use Rattle.table.specs.Decoded.{nameOf}
 use Rattle.table.specs.Encoded.{filled, slotsFrom, termsWords}
-use Rattle.table.proofs.Filled.{filled-length}
+use Rattle.table.proofs.Filled.{length-filled}
 use Rattle.faults.specs.declared.Fault as F
 use Rattle.faults.specs.declared.Fault.the-variants.{Form}
 use Rattle.grammar.specs.Reading.{Taken, Walk, takeTerm, oneLine, lines}
@@ -42,7 +42,7 @@ module _ {slots : List ℕ} {n : ℕ} {store : List ℕ} (after : List ℕ) (h :
   store-short l =
       record {
         within = omega arith;
-        said = λ terms t c at. let s : length store ≡ 3072 = rw (t .stored) (filled-length 0 3072 (termsWords terms)) in absurd (omega arith);
+        said = λ terms t c at. let s : length store ≡ 3072 = rw (t .stored) (length-filled 0 3072 (termsWords terms)) in absurd (omega arith);
       }
 
   pub line-in-store : {text names : List ℕ} {equations : ℕ} (r : Progress) → TermLine text names equations slots n (own n store) after r

@@ -9,7 +9,7 @@ use Rattle.meaning.specs.Descriptions as D
 use Rattle.meaning.specs.Answers.{Fault}
 use Rattle.table.specs.Decoded.{nameOf}
 use Rattle.table.specs.Encoded.{filled, termWords, termFor, slotsFrom, termsWords}
-use Rattle.table.specs.Packed.{termWord}
+use Rattle.slots.specs.Packing.{termWord}
 use Rattle.faults.specs.CodedFaults.{faultOf}
 use Rattle.lists.specs.Lists.{over}
 use Rattle.grammar.specs.Reading.{Walk, reached, halted, oneLine, lines, takeTerm}

@@ -6,10 +6,10 @@ ghost use Rattle.table.specs.Encoded.{filled};
 ghost use Rattle.termlines.specs.Terms.{TermLine, NextTerm, TermsAnswer};
 use faults::Fault;
 use faults::Found;
-use forms::TermStep;
 use forms::terms::read_term;
+use slots::packing::pack;
 use table::TERMS;
-use table::packing::pack;
+use tails::TermStep;
 use textlines::Progress;
 use textlines::line_end;
 

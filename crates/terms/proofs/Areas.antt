@@ -12,9 +12,9 @@ use lib.Seq.{take-all, drop-drop, take-append-add, take-append-le, drop-append-l
 use Rattle.meaning.specs.Labels.{Label, number}
 use Rattle.meaning.specs.Sets.{at}
 use Rattle.meaning.specs.Limits.{total}
-use Rattle.sets.specs.Parts.{part}
+use Rattle.parts.specs.Parts.{part}
 use Rattle.places.specs.Starts.{startIn}
-use Rattle.places.proofs.Copies.{part-taken}
+use Rattle.transfers.proofs.Copies.{part-taken}
 use Rattle.terms.specs.Laid.{flat, Laid}
 
 pub length-flat : (sets : List (List Label)) → length (flat sets) ≡ total sets

@@ -12,13 +12,13 @@ use Rattle.meaning.specs.Sets.{_∈_, at, ascending}
 use Rattle.meaning.specs.Descriptions.{Description, names, termCount, termAt}
 use Rattle.meaning.specs.Rounds.{Shape, leaf, joint, shape, made, equationSets}
 use Rattle.meaning.proofs.Members.{in-ascending}
-use Rattle.labels.proofs.Meant.{Packs}
+use Rattle.labels.proofs.Refinement.{Packs}
 use Rattle.sets.specs.declared.Built.{Built}
-use Rattle.sets.specs.Parts.{partBefore}
+use Rattle.parts.specs.Parts.{partBefore}
 use Rattle.sets.specs.Building.{Building, done, Grown}
-use Rattle.sets.proofs.Meant.{AllPack}
-use Rattle.shapes.specs.Making.{leafBuilt, jointBuilt}
-use Rattle.places.specs.Laying.{copyBuilt}
+use Rattle.sets.proofs.Refinement.{AllPack}
+use Rattle.composing.specs.Making.{leafBuilt, jointBuilt}
+use Rattle.transfers.specs.Laying.{copyBuilt}
 use Rattle.places.specs.Starts.{half, startIn}
 use Rattle.terms.specs.Working.{partly, setOf, Ready, Worked}
 use Rattle.terms.proofs.Shaped.{Settled, leaf-settled, copied-settled, joint-settled}

@@ -10,7 +10,7 @@ use Rattle.sets.specs.Building.{Grown}
 use Rattle.shapes.specs.declared.Shape.{Shape}
 use Rattle.shapes.specs.declared.Shape.the-variants.{Empty, Leaf, Body, One, Two, Joint, Through}
 use Rattle.shapes.proofs.Shape.{the-type}
-use Rattle.shapes.proofs.Makings.{nothing-grown}
+use Rattle.composing.proofs.Makings.{nothing-grown}
 use Rattle.terms.specs.Terms.{simple, built}
 
 -- the shapes that have no arm of their own, by their tags: in `of_simple`, and in `work_out`

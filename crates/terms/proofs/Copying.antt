@@ -20,14 +20,14 @@ use Rattle.meaning.proofs.Outcomes.{Same, SameFor, made-same}
 use Rattle.table.specs.Encoded.{termFor, tableOf}
 use Rattle.table.proofs.Stored.{body-of}
 use Rattle.sets.specs.declared.Built.{Built}
-use Rattle.sets.specs.Parts.{roomAt}
+use Rattle.parts.specs.Parts.{roomAt}
 use Rattle.sets.specs.Building.{Grown}
 use Rattle.places.specs.Starts.{half, partIn, placeIn, leftIn}
 use Rattle.terms.specs.Working.{partly, setOf, Ready, Worked}
 use Rattle.shapes.specs.Shaping.{shapeFor}
 use Rattle.places.specs.Sameness.{sizeAt, stays}
 use Rattle.shapes.specs.Steady.{unchanged}
-use Rattle.places.specs.Laying.{copyBuilt}
+use Rattle.transfers.specs.Laying.{copyBuilt}
 use Rattle.terms.proofs.Sizes.{same-size, size-is, stays→}
 use Rattle.terms.proofs.Operands.{partly-round, round-set, before-part, before-packs}
 use Rattle.terms.proofs.Settling.{placeOf, leftOf}

@@ -20,17 +20,18 @@ use Rattle.meaning.proofs.Least.{term-legal}
 use Rattle.table.specs.Encoded.{operatorFor, termFor, storeOf, tableOf}
 use Rattle.table.proofs.Stored.{body-of}
 use Rattle.labels.proofs.Words.{number-empty}
-use Rattle.labels.proofs.Meant.{Packs, single-number}
+use Rattle.labels.proofs.Refinement.{Packs, single-number}
 use Rattle.sets.specs.declared.Built.{Built}
 use Rattle.ways.specs.declared.Way.{Way}
-use Rattle.sets.specs.Parts.{roomAt}
+use Rattle.parts.specs.Parts.{roomAt}
 use Rattle.sets.specs.Building.{next, Grown}
-use Rattle.shapes.specs.Making.{leafBuilt}
-use Rattle.growth.specs.Ways.{throughBuilt, wayFor}
+use Rattle.composing.specs.Making.{leafBuilt}
+use Rattle.growth.specs.Fresh.{throughBuilt}
+use Rattle.wrapping.specs.Ways.{wayFor}
 use Rattle.places.specs.Starts.{half, startIn, partIn, placeIn, leftIn}
 use Rattle.terms.specs.Working.{partly, Ready, Worked}
 use Rattle.shapes.specs.Shaping.{shapeFor}
-use Rattle.places.specs.Laying.{copyBuilt}
+use Rattle.transfers.specs.Laying.{copyBuilt}
 use Rattle.by_shape.specs.Arms.{newOf}
 use Rattle.terms.specs.Terms.{built}
 use Rattle.terms.proofs.Settling.{placeOf, leftOf}

@@ -23,20 +23,19 @@ use Rattle.meaning.proofs.Made.{sum-grows}
 use Rattle.meaning.proofs.Operators.{in-applied, in-applied→, fewer-left, communicated-self}
 use Rattle.meaning.proofs.Outcomes.{SameFor, made-same}
 use Rattle.meaning.proofs.Growth.{round-grows, round-length, at-body}
-use Rattle.labels.proofs.Meant.{packs-small}
+use Rattle.labels.proofs.Refinement.{packs-small}
 use Rattle.sets.specs.declared.Built.{Built}
 use Rattle.ways.specs.declared.Way.the-variants.{Copy}
 use Rattle.sets.specs.Building.{Building, next, Grown}
-use Rattle.merging.specs.Multiplying.{multiplied}
+use Rattle.products.specs.Multiplying.{multiplied}
 use Rattle.comm.proofs.Communication.{rule-legal}
-use Rattle.sets.proofs.Meant.{AllPack}
-use Rattle.growth.specs.Fresh.{fresh}
-use Rattle.growth.specs.Ways.{throughBuilt}
-use Rattle.shapes.specs.Making.{eitherBuilt, bothBuilt}
+use Rattle.sets.proofs.Refinement.{AllPack}
+use Rattle.growth.specs.Fresh.{fresh, throughBuilt}
+use Rattle.composing.specs.Making.{eitherBuilt, bothBuilt}
 use Rattle.places.specs.Starts.{partIn, half}
-use Rattle.places.specs.Laying.{copyBuilt}
+use Rattle.transfers.specs.Laying.{copyBuilt}
 use Rattle.by_shape.specs.Arms.{newOf, madeOr, twoGrown}
-use Rattle.shapes.specs.Adding.{eitherAdded, jointAdded, bothAdded, wholeOf, addedOf}
+use Rattle.composing.specs.Adding.{eitherAdded, jointAdded, bothAdded, wholeOf, addedOf}
 use Rattle.terms.specs.Working.{partly, Ready, Worked}
 use Rattle.terms.proofs.Settling.{placeOf, roomOf}
 use Rattle.terms.proofs.Operands.{partly-round, round-set, round-ascending, before-part, before-packs, term-part, term-packs, term-ascends}

@@ -18,9 +18,9 @@ use Rattle.meaning.specs.Limits.{total, someLong, someOver, over}
 use Rattle.meaning.proofs.Members.{in-ascending}
 use Rattle.meaning.proofs.Carried.{worked-earlier, worked-last, carried}
 use Rattle.meaning.proofs.Lengths.{Full, round-full}
-use Rattle.meaning.proofs.Limits.{long, over-one, over-some}
-use Rattle.sets.specs.Parts.{part, partBefore}
-use Rattle.sets.proofs.Meant.{AllPack, ascending-same}
+use Rattle.meaning.proofs.Limits.{long→someLong, over-one, over-some}
+use Rattle.parts.specs.Parts.{part, partBefore}
+use Rattle.sets.proofs.Refinement.{AllPack, ascending-same}
 use Rattle.terms.specs.Laid.{Laid}
 use Rattle.places.specs.Starts.{half, startIn}
 use Rattle.terms.specs.Working.{partly, setOf, Ready}
@@ -44,7 +44,7 @@ some-long (s ∷ sets) (suc i) t = over-one s sets (inr (inr (some-long sets i t
 pub packed-sets : (n : ℕ) (sets : List (List Label)) (i : ℕ) → (T (over sets) → ⊥) → Full n (at sets i) → AllPack n (at sets i)
 packed-sets n sets i few full a m = record {
   wide = full a m;
-  few = elim (decLt 31 (size a)) [ yes l ↦ absurd (few (over-some sets (some-long sets i (long (at sets i) a m l)))) | no l ↦ (omega arith) ];
+  few = elim (decLt 31 (size a)) [ yes l ↦ absurd (few (over-some sets (some-long sets i (long→someLong (at sets i) a m l)))) | no l ↦ (omega arith) ];
 }
 
 -- What is worked out stays while more terms are.

@@ -15,12 +15,12 @@ use Rattle.meaning.specs.Rounds.{shape, made, equationSets}
 use Rattle.meaning.specs.Limits.{total, someLong, someOver, over}
 use Rattle.meaning.proofs.Tests.{or-cases}
 use Rattle.meaning.proofs.Members.{in-ascending}
-use Rattle.meaning.proofs.Limits.{long, long→, over-cases, over-one, over-some, over-all}
+use Rattle.meaning.proofs.Limits.{long→someLong, someLong→long, over-cases, over-one, over-some, over-all}
 use Rattle.sets.specs.declared.Built.{Built}
 use Rattle.sets.specs.declared.Built.the-variants.{TooLarge, Holds}
-use Rattle.sets.specs.Parts.{roomAt, laid}
+use Rattle.parts.specs.Parts.{roomAt, laid}
 use Rattle.sets.specs.Building.{Building, pickBuilt, answerOf, Grown}
-use Rattle.sets.proofs.Meant.{TooMuch}
+use Rattle.sets.proofs.Refinement.{TooMuch}
 use Rattle.places.specs.Starts.{half, whole}
 use Rattle.terms.specs.Working.{partly, setOf, Ready, TermDone, TermOver}
 use Rattle.terms.proofs.Areas.{total-more}
@@ -91,7 +91,7 @@ module _ (d : Description) (k n : ℕ) (older before this work work′ : List �
         let l = length-map (setOf d k n) number in
         let few : length (map number (setOf d k n)) ≤ roomOf = subst (λ (b : Building). length (b .set) ≤ roomOf) (x .built) small in
         let short : T (someLong (setOf d k n)) → ⊥ =
-        λ t. let y = long→ (setOf d k n) t in
+        λ t. let y = someLong→long (setOf d k n) t in
         let z = x .packs (y .label) (in-ascending (made (equationSets d k) (partly d k n) (shape d (termAt d n))) (y .label) .0 (y .there)) .few in
         let w = y .long in omega arith in
         let a = at-most (partly d k n) (r .fewer) in (
@@ -128,5 +128,5 @@ module _ (d : Description) (k n : ℕ) (older before this work work′ : List �
           | yes l ↦ inr (inl l)
           | no l ↦ inr (inr (let a = at-most (partly d k n) (r .fewer) in omega (arith, roomy)))
         ]
-        which (inr y) = inl (long (setOf d k n) (y .label)
+        which (inr y) = inl (long→someLong (setOf d k n) (y .label)
             (in-ascending (made (equationSets d k) (partly d k n) (shape d (termAt d n))) (y .label) .1 (y .there)) (y .long))

@@ -17,22 +17,22 @@ use Rattle.meaning.specs.Legal.{Each, LegalLabel, LegalPair, LegalOperator}
 use Rattle.meaning.specs.Rounds.{image, replaced}
 use Rattle.meaning.proofs.Sorted.{Within}
 use Rattle.meaning.proofs.Members.{in-append}
-use Rattle.labels.proofs.Stored.{pairWords, labelWords, ruleLabels}
-use Rattle.labels.proofs.Meant.{Packs}
+use Rattle.areas.proofs.Entries.{pairWords, labelWords, ruleLabels}
+use Rattle.labels.proofs.Refinement.{Packs}
 use Rattle.ways.specs.declared.Way.{Way}
 use Rattle.ways.specs.declared.Way.the-variants.{Copy, Block, Hide, Rename, Comm, Allow}
 use Rattle.sets.specs.Building.{Building, done, stopped, goesOn, next, enter}
-use Rattle.merging.specs.Multiplying.{multiplied}
+use Rattle.products.specs.Multiplying.{multiplied}
 use Rattle.merging.specs.Joining.{united}
-use Rattle.sets.proofs.Meant.{AllPack, ascending-same, TooMuch, too-much-more, Outcome, enter-outcome}
+use Rattle.sets.proofs.Refinement.{AllPack, ascending-same, TooMuch, too-much-more, Outcome, enter-outcome}
 use Rattle.sets.proofs.Outcomes.{Result, Anything}
 use Rattle.merging.proofs.Unions.{union-outcome}
-use Rattle.merging.proofs.Products.{product-outcome}
+use Rattle.products.proofs.Products.{product-outcome}
 use Rattle.ways.proofs.Refinement.{way-outcome, copy-offers, block-offers, hide-offers, rename-offers, allow-offers}
 use Rattle.comm.proofs.Communication.{Closed, closed-moves, comm-outcome}
-use Rattle.shapes.specs.Making.{leafBuilt, eitherBuilt, jointBuilt, bothBuilt}
-use Rattle.growth.specs.Ways.{throughBuilt}
-use Rattle.places.specs.Laying.{fitted, copyBuilt}
+use Rattle.composing.specs.Making.{leafBuilt, eitherBuilt, jointBuilt, bothBuilt}
+use Rattle.growth.specs.Fresh.{throughBuilt}
+use Rattle.transfers.specs.Laying.{fitted, copyBuilt}
 
 -- Built whole, within the room, every label packed; or not built, since there are too many labels or one is too long.
 pub record Fits (names : ℕ) (M : List Label) (b : Building) : Type 0 where

@@ -10,11 +10,11 @@ use Rattle.meaning.specs.Labels.{number}
 use Rattle.meaning.specs.Descriptions.{Description, Order, Rule, Operator, block, hide, rename, comm, allow, wrap, names, termCount, termAt}
 use Rattle.meaning.specs.Legal.{Each, LegalRule, LegalOperator}
 use Rattle.table.specs.Encoded as T
-use Rattle.table.proofs.Decoded.{rules-length, list-stored}
-use Rattle.labels.proofs.Stored.{ruleLabels}
-use Rattle.labels.proofs.Meant.{single-number}
-use Rattle.growth.specs.Exchanging.{exchangeWords, exchangeList}
-use Rattle.growth.specs.Ways.{ruleList, wayFor, wordsFor}
+use Rattle.table.proofs.Decoded.{length-ruleWords, list-stored}
+use Rattle.areas.proofs.Entries.{ruleLabels}
+use Rattle.labels.proofs.Refinement.{single-number}
+use Rattle.wrapping.specs.Exchanging.{exchangeWords, exchangeList}
+use Rattle.wrapping.specs.Ways.{ruleList, wayFor, wordsFor}
 use Rattle.terms.proofs.Shaped.{wayOf, wayWords}
 
 -- The words of rules, as they are stored and as they are taken.
@@ -31,10 +31,10 @@ length-taken n (r ∷ rs) = omega (arith, length-taken n rs)
 
 rule-list : (n : ℕ) → n ≤ 12 → (rs : List Rule) → length rs ≤ 8 → Each (LegalRule n) rs → ruleList (T.ruleWords rs) ≡ ruleLabels n rs
 rule-list n few rs short h =
-    let all : take 16 (T.ruleWords rs) ≡ T.ruleWords rs = take-all 16 (T.ruleWords rs) (omega (arith, rules-length rs)) in
+    let all : take 16 (T.ruleWords rs) ≡ T.ruleWords rs = take-all 16 (T.ruleWords rs) (omega (arith, length-ruleWords rs)) in
     ap (λ (ws : List ℕ). take (length ws) (exchangeList ws)) all
     ∙ ap (λ (ws : List ℕ). take (length (T.ruleWords rs)) (ws ++ replicate (16 - length ws) 0)) (rules-exchanged n few rs h)
-    ∙ take-at (ruleLabels n rs) (replicate (16 - length (ruleLabels n rs)) 0) (length (T.ruleWords rs)) (length-taken n rs ∙ sym (rules-length rs))
+    ∙ take-at (ruleLabels n rs) (replicate (16 - length (ruleLabels n rs)) 0) (length (T.ruleWords rs)) (length-taken n rs ∙ sym (length-ruleWords rs))
 
 module _ (d : Description) (o : Order) (n t : ℕ) (h : n < termCount d) (few : termCount d ≤ 96) (narrow : names d ≤ 12) where
   pub way-same : (op : Operator) → wayFor (T.operatorFor n op) ≡ wayOf op

@@ -7,13 +7,13 @@ use Prim.Native.Nat.{ℕ}
 use lib.Dec.{T}
 use lib.ListN.{length}
 use Rattle.meaning.specs.Descriptions as D
-use Rattle.table.specs.declared.Term.{Term}
+use Rattle.slots.specs.declared.Term.{Term}
 use Rattle.table.specs.Encoded.{termFor, storeOf, tableOf}
 use Rattle.sets.specs.declared.Built.{Built}
-use Rattle.sets.specs.Parts.{roomAt}
+use Rattle.parts.specs.Parts.{roomAt}
 use Rattle.sets.specs.Building.{Grown}
 use Rattle.places.specs.Starts.{partIn, placeIn, leftIn}
-use Rattle.places.specs.Laying.{copyBuilt}
+use Rattle.transfers.specs.Laying.{copyBuilt}
 use Rattle.shapes.specs.Shaping.{shapeFor}
 use Rattle.shapes.specs.Steady.{unchanged}
 use Rattle.terms.specs.Terms.{built, renewed, TermBuilt}

@@ -6,18 +6,18 @@ use mathlib.Core.List.{List}
 use Prim.Native.Nat.{ℕ}
 use lib.ListN.{length, getD}
 use Rattle.labels.specs.Packing.{code}
-use Rattle.table.specs.declared.Term.{Term}
+use Rattle.slots.specs.declared.Term.{Term}
 use Rattle.sets.specs.declared.Built.{Built}
-use Rattle.sets.specs.Parts.{roomAt}
+use Rattle.parts.specs.Parts.{roomAt}
 use Rattle.sets.specs.Building.{Building, done, Grown}
 use Rattle.shapes.specs.declared.Shape.{Shape}
 use Rattle.shapes.specs.declared.Shape.the-variants.{Empty, Leaf, Body, One, Two, Joint, Through}
 use Rattle.shapes.specs.Shaping.{shapeFor}
 use Rattle.shapes.specs.Steady.{unchanged}
-use Rattle.shapes.specs.Making.{leafBuilt, jointBuilt}
+use Rattle.composing.specs.Making.{leafBuilt, jointBuilt}
 use Rattle.by_shape.specs.Arms.{twoGrown, throughGrown}
 use Rattle.places.specs.Starts.{half, partIn, placeIn, leftIn}
-use Rattle.places.specs.Laying.{copyBuilt}
+use Rattle.transfers.specs.Laying.{copyBuilt}
 
 -- What is built for a shape that joins no sets: nothing, a label, or a set as it stands elsewhere. The other shapes get nothing here.
 abbrev pub simple : (room at : ℕ) (bodies before this work : List ℕ) → Shape → List ℕ → Building

@@ -13,7 +13,7 @@ use Rattle.meaning.specs.Descriptions as D
 use Rattle.meaning.specs.Legal.{Legal}
 use Rattle.meaning.specs.Rounds.{shape, made, worked, equationSets, roundSets}
 use Rattle.meaning.specs.Limits.{total, over}
-use Rattle.table.specs.declared.Term.{Term}
+use Rattle.slots.specs.declared.Term.{Term}
 use Rattle.table.specs.Encoded.{termFor, storeOf, tableOf}
 use Rattle.sets.specs.declared.Built.{Built}
 use Rattle.sets.specs.declared.Built.the-variants.{TooLarge, Holds}

@@ -4,13 +4,13 @@ use by_shape::of_joint;
 use by_shape::of_one;
 use by_shape::of_two;
 use by_shape::of_wrap;
+use composing::making::leaf;
 use places::starts::left_of;
 use places::starts::place_of;
 use sets::Built;
 use shapes::Shape;
-use shapes::making::leaf;
 ghost use lib.ListN.{length};
-ghost use Rattle.sets.specs.Parts.{roomAt};
+ghost use Rattle.parts.specs.Parts.{roomAt};
 ghost use Rattle.sets.specs.Building.{Grown};
 ghost use Rattle.terms.specs.Terms.{simple, ShapeBuilt};
 

@@ -2,14 +2,14 @@
 mod choosing;
 
 use crate::choosing::work_out;
-use places::laying::lay;
 use places::starts::left_of;
 use places::starts::part_at;
 use places::starts::place_of;
 use sets::Built;
 use shapes::sameness::unchanged;
 use shapes::shaping::shape_of;
-use table::Term;
+use slots::Term;
+use transfers::laying::lay;
 ghost use Rattle.terms.specs.Terms.{OldLaid, TermBuilt};
 
 // The set of a term as it was in the round before.

@@ -11,9 +11,9 @@ use lib.ListN.{length, take, drop}
 use lib.Seq.{paste-zero, length-slice, take-nil}
 use Rattle.sets.specs.declared.Built.{Built}
 use Rattle.sets.specs.declared.Built.the-variants.{TooLarge, Holds}
-use Rattle.sets.specs.Parts.{part, partBefore, roomAt, laid}
+use Rattle.parts.specs.Parts.{part, partBefore, roomAt, laid}
 use Rattle.sets.specs.Building.{Grown}
-use Rattle.sets.proofs.Walking.{part-end}
+use Rattle.parts.proofs.Laid.{part-end}
 use Rattle.transfers.specs.Laying.{copyBuilt}
 
 pub part-taken : (ls : List ℕ) (from n : ℕ) → part from (from + n) ls ≡ take n (drop from ls)

@@ -1,6 +1,6 @@
 // The root's set, cut to the order.
+use areas::rows::read_label;
 use labels::Label;
-use labels::packing::read_label;
 use ways::imaging::allowed;
 ghost use mathlib.Core.Path.{_≡_};
 ghost use lib.ListN.{length};

@@ -1,11 +1,11 @@
 // A set laid where it is to stand, as it stands elsewhere in the work area.
 use crate::carrying::carry;
+use parts::Part;
+use parts::placing::end_before;
+use parts::placing::room;
 use sets::Built;
-use sets::Part;
-use sets::placing::end_before;
-use sets::placing::room;
 ghost use lib.ListN.{length};
-ghost use Rattle.sets.specs.Parts.{wordsOf, roomAt};
+ghost use Rattle.parts.specs.Parts.{wordsOf, roomAt};
 ghost use Rattle.sets.specs.Building.{Grown};
 ghost use Rattle.transfers.specs.Laying.{copyBuilt};
 

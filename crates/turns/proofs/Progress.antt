@@ -9,7 +9,7 @@ use native.Mathlib.Omega.{arith}
 use lib.ListN.{length, getD, set, length-set}
 use Rattle.meaning.specs.Descriptions as D
 use Rattle.table.specs.Encoded.{storeOf}
-use Rattle.table.specs.Packed.{wordTerm}
+use Rattle.slots.specs.Packing.{wordTerm}
 use Rattle.table.proofs.Stored.{term-of}
 use Rattle.sets.specs.declared.Built.{Built}
 use Rattle.sets.specs.declared.Built.the-variants.{TooLarge, Holds}

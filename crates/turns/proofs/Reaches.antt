@@ -18,10 +18,10 @@ use Rattle.meaning.specs.Rounds.{roundSets}
 use Rattle.meaning.specs.Answers.{Outcome, answer}
 use Rattle.meaning.proofs.Alike.{alike}
 use Rattle.table.specs.declared.Table.{Table}
-use Rattle.table.specs.Areas.{zeroed}
+use Rattle.areas.specs.Areas.{zeroed}
 use Rattle.table.specs.Encoded.{storeOf, tableOf}
-use Rattle.table.proofs.Zeroed.{zeroed-front}
-use Rattle.sets.specs.Parts.{part}
+use Rattle.areas.proofs.Zeroed.{zeroed-front}
+use Rattle.parts.specs.Parts.{part}
 use Rattle.places.specs.Starts.{half, whole, startIn, partOf}
 use Rattle.places.proofs.Beginnings.{start-low}
 use Rattle.terms.proofs.Areas.{laid-part}

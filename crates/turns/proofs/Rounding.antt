@@ -22,12 +22,12 @@ use Rattle.meaning.proofs.Stable.{Stable}
 use Rattle.meaning.proofs.Outcomes.{passed-answer, stable-answer, rounds-so-far}
 use Rattle.table.specs.Encoded.{tableOf}
 use Rattle.table.proofs.Stored.{bodies-of}
-use Rattle.places.specs.Moving.{lowered, loweredIn}
+use Rattle.transfers.specs.Moving.{lowered, loweredIn}
 use Rattle.places.specs.Sameness.{allStay}
 use Rattle.places.specs.Starts.{half, whole, startIn}
-use Rattle.places.proofs.Filling.{length-zeros}
+use Rattle.transfers.proofs.Filling.{length-zeros}
 use Rattle.places.proofs.Beginnings.{start-low, start-zero}
-use Rattle.places.proofs.Lowering.{lowered-all}
+use Rattle.transfers.proofs.Lowering.{lowered-all}
 use Rattle.terms.specs.Laid.{flat, Begins}
 use Rattle.terms.specs.Working.{Kept}
 use Rattle.terms.proofs.Passing.{kept-self, kept-trans}

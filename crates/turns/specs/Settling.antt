@@ -4,9 +4,9 @@ use mathlib.Core.Path.{_≡_}
 use mathlib.Core.List.{List}
 use Prim.Native.Nat.{ℕ, _-_, _≤_}
 use lib.ListN.{length}
-use Rattle.table.specs.Areas.{zeroed}
-use Rattle.sets.specs.declared.Part.{Part}
-use Rattle.sets.specs.Parts.{part}
+use Rattle.areas.specs.Areas.{zeroed}
+use Rattle.parts.specs.declared.Part.{Part}
+use Rattle.parts.specs.Parts.{part}
 use Rattle.places.specs.Starts.{whole}
 use Rattle.keeping.specs.Settling.{alone}
 use Rattle.turns.specs.declared.Found.{Found}

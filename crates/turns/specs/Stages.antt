@@ -15,7 +15,7 @@ use Rattle.meaning.specs.Answers.{tooLarge, listed, answer}
 use Rattle.table.specs.Encoded.{storeOf, tableOf}
 use Rattle.places.specs.Starts.{half, whole, startIn}
 use Rattle.places.specs.Sameness.{allStay}
-use Rattle.places.specs.Moving.{loweredIn}
+use Rattle.transfers.specs.Moving.{loweredIn}
 use Rattle.terms.specs.Laid.{Laid}
 use Rattle.terms.specs.Working.{Kept}
 use Rattle.turns.specs.declared.stages.Counts.{Counts}

@@ -2,7 +2,7 @@
 use places::starts::left_of;
 use places::starts::start_of;
 use sets::Built;
-use table::packing::unpack;
+use slots::packing::unpack;
 use terms::next_term;
 ghost use Prim.Native.Nat.{_+_, _<_};
 ghost use lib.ListN.{length};

@@ -1,10 +1,10 @@
 // What is left of the last round: the root's set at the start of the work area.
 use crate::Found;
 use crate::stages::Last;
+use areas::clear;
 use keeping::settle;
+use parts::Part;
 use places::HALF;
-use sets::Part;
-use table::areas::clear;
 ghost use Rattle.turns.specs.Settling.{Within, Concluded};
 
 // What the last round came to: the root's set left alone, or nothing where a limit is passed.

@@ -1,8 +1,8 @@
 // Round after round, until a limit is passed or the equations' sets stay.
 use crate::passes::pass;
-use places::moving::lower;
 use places::sameness::all_stay;
 use places::starts::start_of;
+use transfers::moving::lower;
 ghost use Prim.Native.Nat.{_≤_};
 ghost use lib.ListN.{length};
 ghost use Rattle.turns.specs.Passes.{Passable};

@@ -17,8 +17,8 @@ use Rattle.meaning.specs.Legal.{Each, LegalPair}
 use Rattle.meaning.proofs.Bags.{size-without, size-renamed, length-without, length-renamed}
 use Rattle.labels.specs.Packing.{packed}
 use Rattle.labels.proofs.Sizes.{number-zero}
-use Rattle.labels.proofs.Stored.{labelWords, pairWords, pairs-read}
-use Rattle.labels.proofs.Meant.{Packs}
+use Rattle.areas.proofs.Entries.{labelWords, pairWords, pairsIn-pairWords}
+use Rattle.labels.proofs.Refinement.{Packs}
 use Rattle.names.proofs.Refinement.{clear-number, without-number, renamed-number}
 use Rattle.sets.specs.declared.Offer.{Offer}
 use Rattle.sets.specs.declared.Offer.the-variants.{Nothing, TooLong, Next}
@@ -73,7 +73,7 @@ pub rename-offers : (names : ℕ) → names ≤ 12 → (ps : List Pair) → Each
 rename-offers names few ps legal left a p =
     let h = size-renamed names (target ps) a 0 in
     let k = p .few in
-    rw (pairs-read ps left, renamed-number names ps a few legal p)
+    rw (pairsIn-pairWords ps left, renamed-number names ps a few legal p)
     (one (renamed names (target ps) a) (record { wide = length-renamed names (target ps) a 0; few = omega arith }))
 
 -- Allow: listed, or tau.

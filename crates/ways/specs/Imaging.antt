@@ -7,9 +7,10 @@ use Prim.Native.Nat.{ℕ}
 use lib.Dec.{eqb}
 use lib.ListN.{getD}
 use Rattle.meaning.specs.Labels.{number, labelOf, clear, without, renamed}
-use Rattle.labels.specs.Packing.{held, packed}
+use Rattle.areas.specs.Rows.{held}
+use Rattle.labels.specs.Packing.{packed}
 use Rattle.labels.specs.Bags.{bag}
-use Rattle.labels.specs.Pairs.{pairsIn}
+use Rattle.areas.specs.Pairs.{pairsIn}
 use Rattle.names.specs.Names.{targets}
 use Rattle.sets.specs.declared.Offer.{Offer}
 use Rattle.sets.specs.declared.Offer.the-variants.{Next}

@@ -1,11 +1,11 @@
 // The labels of a part, copied or through an operator.
 use crate::Way;
+use areas::rows::labels_in;
+use areas::rows::read_label;
 use comm::following::MOST_APPLICATIONS;
 use comm::following::close;
 use labels::Label;
 use labels::NAMES;
-use labels::packing::labels_in;
-use labels::packing::read_label;
 use labels::packing::same;
 use labels::packing::tau;
 use names::clear;
@@ -22,7 +22,8 @@ use sets::inserting::enter;
 ghost use mathlib.Core.Path.{_≡_};
 ghost use Prim.Native.Nat.{_-_, _≤_};
 ghost use lib.ListN.{length};
-ghost use Rattle.labels.specs.Packing.{held, code};
+ghost use Rattle.areas.specs.Rows.{held};
+ghost use Rattle.labels.specs.Packing.{code};
 ghost use Rattle.parts.specs.Parts.{wordsOf};
 ghost use Rattle.sets.specs.Building.{GrownAt, each, taken};
 ghost use Rattle.ways.specs.Imaging.{imaged, listedIn, allowedIn, MapFor, offerOf, depthOf};

@@ -43,11 +43,11 @@ stuck-there e f = e ∙ ap Stuck (sym (f ∙ ap placeOf e))
 
 -- A step taken apart, at the start of a line and at a place in it.
 module _ {A : Type 0} {f : ℕ → A} {line : Text} {r : Step} {due : Past A} (s : Steps f line r due) where
-  pub went : {v next : ℕ} → r ≡ To v next → Stands line next (past (f v) (drop next line)) due
-  went e = rw e at (s .stands)
+  pub steps-to : {v next : ℕ} → r ≡ To v next → Stands line next (past (f v) (drop next line)) due
+  steps-to e = rw e at (s .stands)
 
-  pub stays : {p : ℕ} → r ≡ Stuck p → Stands line p (stuck (drop p line)) due
-  stays e = rw e at (s .stands)
+  pub steps-stuck : {p : ℕ} → r ≡ Stuck p → Stands line p (stuck (drop p line)) due
+  steps-stuck e = rw e at (s .stands)
 
 module _ {A : Type 0} {f : ℕ → A} (form : Text → Past A) (line : Text) (at : ℕ) {r : Step} (h : at ≤ length line)
     (s : Steps f (restAt line at) r (form (restAt line at))) where
@@ -55,16 +55,16 @@ module _ {A : Type 0} {f : ℕ → A} (form : Text → Past A) (line : Text) (at
   there = rw (rest-drop line at h) at s
 
   pub went-on : {v n : ℕ} → r ≡ To v n → Stands line (at + n) (past (f v) (drop (at + n) line)) (form (drop at line))
-  went-on {v} e = shifted (past (f v)) h (went there e)
+  went-on {v} e = shifted (past (f v)) h (steps-to there e)
 
   pub stays-on : {p : ℕ} → r ≡ Stuck p → Stands line (at + p) (stuck (drop (at + p) line)) (form (drop at line))
-  stays-on e = shifted stuck h (stays there e)
+  stays-on e = shifted stuck h (steps-stuck there e)
 
 -- a step that is stuck is the answer of the whole
 pub onward-halted : {A B : Type 0} {f : ℕ → A} {g : ℕ → B} {line : Text} {p : ℕ} {r : Step} {due : Past A} (k : A → Text → Past B)
     → Steps f line r due → r ≡ Stuck p
     → Steps g line r (onward due k)
-onward-halted k s e = record { stands = rw e (stops k (stays s e)) }
+onward-halted k s e = record { stands = rw e (stops k (steps-stuck s e)) }
 
 -- a sign that must stand there
 module _ {B : Type 0} (sign : ℕ) (line : Text) (at : ℕ) (k : Unit {0} → Text → Past B) where

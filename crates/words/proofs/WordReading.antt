@@ -16,7 +16,7 @@ use lib.Seq.{take-suc, getD-drop, append-snoc, length-take-le}
 use Rattle.meaning.specs.Bytes.{Text}
 use Rattle.table.specs.Decoded.{nameOf}
 use Rattle.table.specs.Encoded.{wordOf}
-use Rattle.table.proofs.Packed.{moved-up}
+use Rattle.table.proofs.Shifts.{shift-pow}
 use Rattle.grammar.specs.Text.{Past, past, stuck, onward, isLower, isDigit, wordOn, word}
 use Rattle.words.specs.Steps.{Stands}
 use Rattle.words.proofs.Rests.{rest-cons}
@@ -210,7 +210,7 @@ module _ (line : Text) (at : ℕ) where
     byte-moved b l h =
         let p : 256 ^ bytes ≤ 256 ^ 7 = pow-le-pow-right {n = 256} (lit< tt) {j = 7} (omega arith) in
         let q = byte-fits b l in
-        moved-up 8 b bytes (omega arith)
+        shift-pow 8 b bytes (omega arith)
 
     pub worded-more : (b : ℕ) → b ≡ getD line next 0 → b < 256 → bytes < 8 → next < length line → (isLower b || isDigit b) ≡ true
         → Worded line at (w + (b * 2 ^ (8 * bytes)) % 2 ^ 64) (bytes + 1) (next + 1)

@@ -3,14 +3,14 @@
 use mathlib.Core.List.{List}
 use Prim.Native.Nat.{ℕ}
 use lib.ListN.{length, take}
-use Rattle.table.specs.declared.Operator.{Operator}
-use Rattle.table.specs.declared.Place.{Place}
-use Rattle.table.specs.declared.Operator.the-variants as O
+use Rattle.slots.specs.declared.Operator.{Operator}
+use Rattle.slots.specs.declared.Place.{Place}
+use Rattle.slots.specs.declared.Operator.the-variants as O
 use Rattle.table.specs.Decoded.{wordsAt}
 use Rattle.ways.specs.declared.Way.{Way}
 use Rattle.ways.specs.declared.Way.the-variants.{Block, Hide, Rename, Comm, Allow}
 use Rattle.sets.specs.declared.Built.{Built}
-use Rattle.sets.specs.declared.Target.{Target}
+use Rattle.parts.specs.declared.Target.{Target}
 use Rattle.sets.specs.Building.{GrownAt}
 use Rattle.places.specs.declared.Growth.{Growth}
 use Rattle.growth.specs.Fresh.{newIn, throughBuilt}

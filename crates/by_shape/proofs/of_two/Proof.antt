@@ -4,12 +4,12 @@ use native.Mathlib.Omega.{arith}
 use Prim.Native.Nat.{ℕ}
 use mathlib.Core.List.{List}
 use lib.ListN.{length}
-use Rattle.sets.specs.Parts.{roomAt}
+use Rattle.parts.specs.Parts.{roomAt}
 use Rattle.places.specs.declared.Growth.{Growth}
 use Rattle.places.specs.Starts.{half, partOf, partIn}
-use Rattle.places.specs.Laying.{copyBuilt}
-use Rattle.shapes.specs.Adding.{wholeOf, wordsIn}
-use Rattle.shapes.proofs.Sequence.{first-large, addTwo, steady-two}
+use Rattle.transfers.specs.Laying.{copyBuilt}
+use Rattle.composing.specs.Adding.{wholeOf, wordsIn}
+use Rattle.composing.proofs.Sequence.{first-large, addTwo, steady-two}
 use Rattle.by_shape.proofs.Onto.{whole-last, more-last}
 use borrow.Author.Needs.{needs}
 use Rattle.by_shape.proofs.of_two.Statement.{statement}

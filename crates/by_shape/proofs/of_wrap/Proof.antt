@@ -3,13 +3,14 @@
 use Prim.Native.Nat.{ℕ}
 use mathlib.Core.List.{List}
 use lib.ListN.{length}
-use Rattle.sets.specs.Parts.{roomAt}
-use Rattle.growth.specs.Ways.{throughBuilt, wayFor, wordsFor}
+use Rattle.parts.specs.Parts.{roomAt}
+use Rattle.growth.specs.Fresh.{throughBuilt}
+use Rattle.wrapping.specs.Ways.{wayFor, wordsFor}
 use Rattle.places.specs.declared.Growth.{Growth}
 use Rattle.places.specs.Starts.{half, partOf, partIn}
-use Rattle.places.specs.Laying.{copyBuilt}
-use Rattle.shapes.proofs.Sequence.{first-large, steady-way}
-use Rattle.shapes.specs.Adding.{newFrom}
+use Rattle.transfers.specs.Laying.{copyBuilt}
+use Rattle.composing.proofs.Sequence.{first-large, steady-way}
+use Rattle.composing.specs.Adding.{newFrom}
 use Rattle.by_shape.proofs.Onto.{copy-last}
 use borrow.Author.Needs.{needs}
 use Rattle.by_shape.proofs.of_wrap.Statement.{statement}

@@ -2,7 +2,7 @@
 -- Assumes nothing.
 use mathlib.Core.Path.{refl}
 use Rattle.faults.proofs.Calls.{asks-nothing}
-use Rattle.words.proofs.Steps.{stops, goes, stuck-there, went, stays, arrived, otherwise}
+use Rattle.words.proofs.Steps.{stops, goes, stuck-there, steps-to, steps-stuck, arrived, otherwise}
 use Rattle.entries.proofs.Seen.{said-same, name-faulted}
 use Rattle.entries.proofs.read_name.Statement.{statement}
 use Rattle.entries.proofs.read_name.Tie as tie
@@ -16,14 +16,14 @@ enum-told c = c .match .keys2
 returns : tie.Need-returns
 returns c =
     let read = c .before .before .before in
-    record { stands = stops _ (stays (read .read-word .ensures) (stuck-there (c .before .enum-told .given .1) (c .stuck-at .ensures))) }
+    record { stands = stops _ (steps-stuck (read .read-word .ensures) (stuck-there (c .before .enum-told .given .1) (c .stuck-at .ensures))) }
 
 returns-2 : tie.Need-returns-2
 returns-2 c =
     let named = c .before .before .before in
     let read = named .before .before in
     let a = read .before .before .before .args in
-    let s = went (read .read-word .ensures) (named .name .given .1) in
+    let s = steps-to (read .read-word .ensures) (named .name .given .1) in
     let number = c .before .find-name .ensures in
     record {
       stands =

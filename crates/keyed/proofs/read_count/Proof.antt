@@ -5,7 +5,7 @@ use native.Mathlib.Omega.{arith}
 use Rattle.grammar.specs.Text.{number}
 use Rattle.grammar.specs.Forms.{countLine}
 use Rattle.faults.proofs.Calls.{asks-nothing}
-use Rattle.words.proofs.Steps.{went, onward-halted}
+use Rattle.words.proofs.Steps.{steps-to, onward-halted}
 use Rattle.keyed.proofs.Ends.{item-last, place-fits}
 use Rattle.keyed.proofs.read_count.Statement.{statement}
 use Rattle.keyed.proofs.read_count.Tie as tie
@@ -21,7 +21,7 @@ unfolding countLine
 returns c = onward-halted _ (c .before .before .read-literal .ensures .steps) (c .enum-told .given .1)
 
 part-read-number-start : tie.Need-part-read-number-start
-part-read-number-start c = went (c .before .before .before .read-literal .ensures .steps) (c .before .start .given .1) .within
+part-read-number-start c = steps-to (c .before .before .before .read-literal .ensures .steps) (c .before .start .given .1) .within
 
 sub-read-number : tie.Need-sub-read-number
 sub-read-number c = let w = part-read-number-start c in omega arith
@@ -41,7 +41,7 @@ unfolding countLine
 returns-2 c =
     let started = c .before .before .before .before in
     let a = started .before .before .before .before .before .args in
-    item-last (λ n. n) number (a .key .now) (a .line .now) (went (started .before .before .read-literal .ensures .steps) (started .start .given .1))
+    item-last (λ n. n) number (a .key .now) (a .line .now) (steps-to (started .before .before .read-literal .ensures .steps) (started .start .given .1))
     (c .before .read-number .ensures) (c .at-end .ensures)
 
 pub read-count-spec : {M : Type 1} → statement M

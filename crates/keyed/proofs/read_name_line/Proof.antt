@@ -8,7 +8,7 @@ use Rattle.table.specs.Decoded.{nameOf}
 use Rattle.grammar.specs.Text.{word}
 use Rattle.grammar.specs.Forms.{nameLine}
 use Rattle.faults.proofs.Calls.{asks-nothing}
-use Rattle.words.proofs.Steps.{went, onward-halted}
+use Rattle.words.proofs.Steps.{steps-to, onward-halted}
 use Rattle.keyed.proofs.Ends.{item-last, place-fits}
 use Rattle.keyed.proofs.read_name_line.Statement.{statement}
 use Rattle.keyed.proofs.read_name_line.Tie as tie
@@ -27,7 +27,7 @@ unfolding nameLine
 returns c = onward-halted _ (c .before .before .read-literal .ensures .steps) (c .enum-told .given .1)
 
 part-read-word-start : tie.Need-part-read-word-start
-part-read-word-start c = went (c .before .before .before .read-literal .ensures .steps) (c .before .start .given .1) .within
+part-read-word-start c = steps-to (c .before .before .before .read-literal .ensures .steps) (c .before .start .given .1) .within
 
 sub-read-word : tie.Need-sub-read-word
 sub-read-word c = let w = part-read-word-start c in omega arith
@@ -47,7 +47,7 @@ unfolding nameLine
 returns-2 c =
     let started = c .before .before .before .before in
     let a = started .before .before .before .before .before .args in
-    item-last (nameOf 8) word (ascii "name=") (a .line .now) (went (started .before .before .read-literal .ensures .steps) (started .start .given .1))
+    item-last (nameOf 8) word (ascii "name=") (a .line .now) (steps-to (started .before .before .read-literal .ensures .steps) (started .start .given .1))
     (c .before .read-word .ensures) (c .at-end .ensures)
 
 pub read-name-line-spec : {M : Type 1} → statement M

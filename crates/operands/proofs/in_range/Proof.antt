@@ -7,9 +7,9 @@ use mathlib.Core.List.{List, [], _∷_}
 use Prim.Native.Nat.{ℕ}
 use types.Run.{OneOf, miss}
 use denote.Enum.Declared.{tagOf}
-use Rattle.table.specs.declared.Term.{Term}
-use Rattle.table.specs.declared.Term.the-variants.{Delta, Tau, Act, Ref, Sum, Cond, Choice, IfElse, Seq, Merge, LMerge, Sync, Wrap}
-use Rattle.table.proofs.Term.{the-type}
+use Rattle.slots.specs.declared.Term.{Term}
+use Rattle.slots.specs.declared.Term.the-variants.{Delta, Tau, Act, Ref, Sum, Cond, Choice, IfElse, Seq, Merge, LMerge, Sync, Wrap}
+use Rattle.slots.proofs.Term.{the-type}
 use Rattle.table.specs.Terms.{bareTerm}
 use Rattle.grammar.specs.Faults.{inRange}
 use borrow.Author.Needs.{needs}

@@ -7,9 +7,9 @@ use native.Mathlib.Omega.{arith}
 use lib.ListN.{length-map, List·getD-map, List·getD-eq-default}
 use Rattle.meaning.specs.Descriptions.{delta}
 use Rattle.meaning.specs.Legal.{isMultiAction}
-use Rattle.table.specs.declared.Term.{Term}
+use Rattle.slots.specs.declared.Term.{Term}
 use Rattle.table.specs.Terms.{bareTerm}
-use Rattle.table.specs.Packed.{wordTerm}
+use Rattle.slots.specs.Packing.{wordTerm}
 use Rattle.operands.specs.Slots.{bareSlot}
 use Rattle.faults.proofs.Calls.{asks-nothing}
 use Rattle.operands.proofs.multi_at.Statement.{statement}

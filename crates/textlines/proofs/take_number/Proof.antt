@@ -4,7 +4,7 @@ use mathlib.Core.Path.{sym}
 use native.Mathlib.Omega.{arith}
 use lib.Seq.{length-take-le}
 use Rattle.faults.specs.CodedFaults.{faultOf}
-use Rattle.words.proofs.Steps.{went, stays}
+use Rattle.words.proofs.Steps.{steps-to, steps-stuck}
 use Rattle.faults.proofs.Calls.{asks-nothing}
 use Rattle.textlines.proofs.Walks.{line-lacks, line-there, numberTo-bad}
 use Rattle.textlines.proofs.Numbers.{number-stuck, number-low, number-high, number-between}
@@ -29,7 +29,8 @@ returns-2 c =
     let a = there .before .before .before .before .args in
     numberTo-bad
     (line-there _ (a .line) (there .before .line-end .ensures) (there .if1 .left)
-    (number-stuck (a .key .now) (a .low) (a .below) (faultOf (a .fault)) _ (stays (c .before .before .read-count .ensures) (c .enum-told .given .1) .says)))
+    (number-stuck (a .key .now) (a .low) (a .below) (faultOf (a .fault)) _
+    (steps-stuck (c .before .before .read-count .ensures) (c .enum-told .given .1) .says)))
 
 returns-3 : tie.Need-returns-3
 returns-3 c =
@@ -38,7 +39,7 @@ returns-3 c =
     numberTo-bad
     (line-there _ (a .line) (there .before .line-end .ensures) (there .if1 .left)
     (number-low (a .key .now) (a .low) (a .below) (faultOf (a .fault)) _
-    (went (c .before .before .before .before .read-count .ensures) (c .before .before .step .given .1) .says) (c .if2 .taken)))
+    (steps-to (c .before .before .before .before .read-count .ensures) (c .before .before .step .given .1) .says) (c .if2 .taken)))
 
 returns-4 : tie.Need-returns-4
 returns-4 c =
@@ -47,7 +48,7 @@ returns-4 c =
     numberTo-bad
     (line-there _ (a .line) (there .before .line-end .ensures) (there .if1 .left)
     (number-high (a .key .now) (a .low) (a .below) (faultOf (a .fault)) _
-    (went (c .before .before .before .before .before .read-count .ensures) (c .before .before .before .step .given .1) .says)
+    (steps-to (c .before .before .before .before .before .read-count .ensures) (c .before .before .before .step .given .1) .says)
     (c .before .if2 .left) (c .if3 .taken)))
 
 add-took : tie.Need-add-took
@@ -63,7 +64,7 @@ returns-5 c =
             says =
                 line-there _ (a .line) (there .before .line-end .ensures) (there .if1 .left)
                 (number-between (a .key .now) (a .low) (a .below) (faultOf (a .fault)) _
-                (went (c .before .before .before .before .before .read-count .ensures) (c .before .before .before .step .given .1) .says)
+                (steps-to (c .before .before .before .before .before .read-count .ensures) (c .before .before .before .step .given .1) .says)
                 (c .before .if2 .left) (c .if3 .left));
             within = omega (arith, there .if1 .left);
           };

@@ -20,7 +20,7 @@ use Rattle.comm.proofs.following.+close+follow.Lts-close as close-lts
 use Rattle.comm.proofs.following.follow.Reads as follow
 use Rattle.comm.proofs.following.follow.Kinds as follow-kinds
 use Rattle.comm.proofs.following.+close+follow.Lts-follow as follow-lts
-use Rattle.labels.proofs.packing.labels_in.Reads as labels-in-reads
+use Rattle.areas.proofs.rows.labels_in.Reads as labels-in-reads
 use Rattle.sets.proofs.inserting.insert.Reads as insert-reads
 use Rattle.parts.proofs.placing.reach.Reads as reach-reads
 use Rattle.comm.proofs.rules.offer.Reads as offer-reads

@@ -2,7 +2,7 @@
 -- Assumes nothing.
 use Prim.Native.Nat.{_*_, _+_, _^_, _<_}
 use native.Mathlib.Omega.{arith}
-use Rattle.table.proofs.Packed.{moved-up}
+use Rattle.table.proofs.Shifts.{shift-pow}
 use Rattle.entries.proofs.labels.added.Statement.{statement}
 use Rattle.entries.proofs.labels.added.Tie as tie
 
@@ -28,13 +28,13 @@ add-result : tie.Need-add-result
 add-result c =
     let a = c .before .before .args in
     let r = room c in
-    rw (moved-up 5 (a .times) (a .name) (omega arith)) (omega arith)
+    rw (shift-pow 5 (a .times) (a .name) (omega arith)) (omega arith)
 
 returns-2 : tie.Need-returns-2
 returns-2 c =
     let a = c .before .before .args in
     let r = room c in
-    rw (moved-up 5 (a .times) (a .name) (omega arith), c .enum-told .given .1)
+    rw (shift-pow 5 (a .times) (a .name) (omega arith), c .enum-told .given .1)
 
 pub added-spec : {M : Type 1} → statement M
 added-spec = tie.close (tie.spec enum-told enum-told-2 returns mul-result shl-result add-result returns-2)

@@ -10,7 +10,7 @@ use Rattle.table.specs.Decoded.{nameOf}
 use Rattle.grammar.specs.Text.{onward}
 use Rattle.grammar.specs.Forms.{kinds, ofKind, termLine}
 use Rattle.faults.proofs.Calls.{asks-nothing}
-use Rattle.words.proofs.Steps.{stuck-there, went, stays, stops, become}
+use Rattle.words.proofs.Steps.{stuck-there, steps-to, steps-stuck, stops, become}
 use Rattle.tails.specs.Lines.{LineRead}
 use Rattle.tails.proofs.Operands.{line-become}
 use Rattle.forms.specs.Kinds.{restOf, fartherStep, KindFound}
@@ -32,12 +32,12 @@ returns : tie.Need-returns
 unfolding termLine
 returns c =
     stops (λ _ r. ofKind kinds r)
-    (stays (c .before .before .before .read-literal .ensures .steps) (stuck-there (c .before .enum-told .given .1) (c .stuck-at .ensures)))
+    (steps-stuck (c .before .before .before .read-literal .ensures .steps) (stuck-there (c .before .enum-told .given .1) (c .stuck-at .ensures)))
 
 find-kind-requires : tie.Need-find-kind-requires
 find-kind-requires c κs =
     let read = c .before .before .before in
-    let s = went (read .read-literal .ensures .steps) (c .before .key .given .1) in
+    let s = steps-to (read .read-literal .ensures .steps) (c .before .key .given .1) in
     (omega (arith, key-passed (ascii "term=") (read .before .before .before .before .before .args .line .now) _ (s .within) (s .says)), s .within)
 
 abbrev entry : tie.After-find-kind → tie.Start
@@ -50,7 +50,7 @@ passed : (c : tie.After-find-kind)
 unfolding termLine
 passed c =
     let told = c .before .before in
-    ap (λ d. onward d (λ _ r. ofKind kinds r)) (went (told .before .before .read-literal .ensures .steps) (told .key .given .1) .says)
+    ap (λ d. onward d (λ _ r. ofKind kinds r)) (steps-to (told .before .before .read-literal .ensures .steps) (told .key .given .1) .says)
 
 enum-known-kind : tie.Need-enum-known-kind
 enum-known-kind c = c .match2 .keys1

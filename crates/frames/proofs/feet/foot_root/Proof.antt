@@ -9,7 +9,7 @@ use Rattle.meaning.specs.Answers.{range}
 use Rattle.table.proofs.Filled.{filled-replicate}
 use Rattle.grammar.specs.Reading.{walk}
 use Rattle.faults.proofs.Calls.{asks-nothing}
-use Rattle.sections.proofs.Walking.{gone-before}
+use Rattle.textlines.proofs.Walks.{gone-before}
 use Rattle.frames.specs.Feet.{withBodies}
 use Rattle.frames.proofs.Numbers.{below-test, number-to, number-bad, number-on}
 use Rattle.frames.proofs.Onwards.{foot-bad, foot-end}

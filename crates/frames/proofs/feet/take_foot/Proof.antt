@@ -5,7 +5,7 @@ use mathlib.Core.List.{[]}
 use native.Mathlib.Omega.{arith}
 use Rattle.grammar.specs.Reading.{takeBody, walk, lines}
 use Rattle.faults.proofs.Calls.{asks-nothing}
-use Rattle.sections.proofs.Walking.{gone-to, gone-within, gone-bad, gone-before}
+use Rattle.textlines.proofs.Walks.{gone-to, gone-within, gone-bad, gone-before}
 use Rattle.frames.specs.Feet.{footRoot}
 use Rattle.frames.proofs.Onwards.{foot-bad, walk-inRoom}
 use Rattle.frames.proofs.feet.take_foot.Statement.{statement}

@@ -3,7 +3,7 @@
 use mathlib.Core.Path.{_≡_, refl}
 use native.Mathlib.Omega.{arith}
 use Rattle.faults.proofs.Calls.{asks-nothing}
-use Rattle.sections.proofs.Walking.{gone-before}
+use Rattle.textlines.proofs.Walks.{gone-before}
 use Rattle.frames.proofs.Onwards.{head-bad, head-on, names-to, names-bad, names-on}
 use Rattle.frames.proofs.heads.head_names.Statement.{statement}
 use Rattle.frames.proofs.heads.head_names.Tie as tie

@@ -7,7 +7,7 @@ use Rattle.meaning.specs.Bytes.{ascii}
 use Rattle.meaning.specs.Answers.{form}
 use Rattle.grammar.specs.Reading.{termCount}
 use Rattle.faults.proofs.Calls.{asks-nothing}
-use Rattle.sections.proofs.Walking.{gone-before, gone-below}
+use Rattle.textlines.proofs.Walks.{gone-before, gone-below}
 use Rattle.frames.specs.Heads.{noHead}
 use Rattle.frames.proofs.Numbers.{terms-test, number-to, number-bad, number-on}
 use Rattle.frames.proofs.Onwards.{head-bad, head-on, head-end}

@@ -6,8 +6,8 @@ use Rattle.meaning.specs.Bytes.{ascii}
 use Rattle.meaning.specs.Answers.{form}
 use Rattle.grammar.specs.Reading.{nameCount}
 use Rattle.faults.proofs.Calls.{asks-nothing}
-use Rattle.sections.specs.Lines.{between}
-use Rattle.sections.proofs.Walking.{gone-to, gone-within, gone-bad, gone-before, gone-below}
+use Rattle.textlines.specs.Lines.{between}
+use Rattle.textlines.proofs.Walks.{gone-to, gone-within, gone-bad, gone-before, gone-below}
 use Rattle.frames.specs.Heads.{noHead, headText}
 use Rattle.frames.proofs.Numbers.{other-test, names-test}
 use Rattle.frames.proofs.Onwards.{head-bad, head-on}

@@ -7,10 +7,10 @@ use native.Mathlib.Omega.{arith}
 use lib.ListN.{drop}
 use Rattle.table.specs.Decoded.{nameOf}
 use Rattle.faults.proofs.Calls.{asks-nothing}
-use Rattle.lists.specs.declared.ListKind.the-variants.{Labels}
-use Rattle.lists.specs.Entries.{saidPlace}
+use Rattle.entries.specs.declared.ListKind.the-variants.{Labels}
+use Rattle.entries.specs.Entries.{saidPlace}
 use Rattle.lists.specs.Lists.{wholeList, ListRead}
-use Rattle.lists.proofs.Seen.{said-stuck-there, said-within}
+use Rattle.entries.proofs.Seen.{said-stuck-there, said-within}
 use Rattle.lists.proofs.Listed.{list-there}
 use Rattle.keyed.proofs.Ordered.{labels-stuck, labels-on, labels-taken}
 use Rattle.keyed.proofs.orders.read_labels.Statement.{statement}

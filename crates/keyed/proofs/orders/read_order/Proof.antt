@@ -13,7 +13,7 @@ use Rattle.grammar.specs.Text.{past, sameText}
 use Rattle.grammar.specs.Forms.{all}
 use Rattle.faults.specs.declared.Found.the-variants.{Fine}
 use Rattle.faults.proofs.Calls.{asks-nothing}
-use Rattle.words.proofs.Steps.{stuck-there, went, stays, rest-drop}
+use Rattle.words.proofs.Steps.{stuck-there, steps-to, steps-stuck, rest-drop}
 use Rattle.keyed.specs.declared.OrderStep.the-variants.{To}
 use Rattle.keyed.proofs.Ordered.{all-taken, order-stuck, order-passed, order-become}
 use Rattle.keyed.proofs.orders.read_order.Statement.{statement}
@@ -35,10 +35,10 @@ returns-2 : tie.Need-returns-2
 returns-2 c j =
     let read = c .before .before .before in
     order-stuck (read .before .before .before .before .before .before .args .line .now)
-    (stays (read .read-literal .ensures .steps) (stuck-there (c .before .enum-told .given .1) (c .stuck-at .ensures)) .says)
+    (steps-stuck (read .read-literal .ensures .steps) (stuck-there (c .before .enum-told .given .1) (c .stuck-at .ensures)) .says)
 
 part-same-text-start : tie.Need-part-same-text-start
-part-same-text-start c = went (c .before .before .before .read-literal .ensures .steps) (c .before .key .given .1) .within
+part-same-text-start c = steps-to (c .before .before .before .read-literal .ensures .steps) (c .before .key .given .1) .within
 
 sub-same-text : tie.Need-sub-same-text
 sub-same-text c = let w = part-same-text-start c in omega arith
@@ -59,7 +59,7 @@ tested c =
     let read = known .before .before .before in
     let line = read .before .before .before .before .before .before .args .line .now in
     let e = c .same-text .ensures in
-    rw (rest-drop line (known .before .key .given .0 .1 .0) (went (read .read-literal .ensures .steps) (known .before .key .given .1) .within)) at e
+    rw (rest-drop line (known .before .key .given .0 .1 .0) (steps-to (read .read-literal .ensures .steps) (known .before .key .given .1) .within)) at e
 
 returns-3 : tie.Need-returns-3
 returns-3 c j =
@@ -67,7 +67,7 @@ returns-3 c j =
     let read = known .before .before .before in
     let a = read .before .before .before .before .before .before .args in
     order-become (map (nameOf 8) (a .names .now)) (a .line .now) (past all []) (a .store .now) (a .store .now) (To All Fine)
-    (order-passed (a .line .now) true (went (read .read-literal .ensures .steps) (known .before .key .given .1) .says)
+    (order-passed (a .line .now) true (steps-to (read .read-literal .ensures .steps) (known .before .key .given .1) .says)
     (sym (c .if2 .taken) ∙ tested (c .before)))
     (all-taken (map (nameOf 8) (a .names .now)) (a .store .now))
 
@@ -75,7 +75,7 @@ read-labels-requires : tie.Need-read-labels-requires
 read-labels-requires c κs =
     let known = c .before .before .before .before .before in
     let read = known .before .before .before in
-    (went (read .read-literal .ensures .steps) (known .before .key .given .1) .within, omega arith)
+    (steps-to (read .read-literal .ensures .steps) (known .before .key .given .1) .within, omega arith)
 
 same-length : tie.Need-same-length
 same-length c = search needs
@@ -88,7 +88,7 @@ returns-4 c j =
     let read = known .before .before .before in
     let a = read .before .before .before .before .before .before .args in
     order-become (map (nameOf 8) (a .names .now)) (a .line .now) _ (a .store .now) (labels .read-labels .last .1 .1 .1 .0) (labels .read-labels .result)
-    (order-passed (a .line .now) false (went (read .read-literal .ensures .steps) (known .before .key .given .1) .says)
+    (order-passed (a .line .now) false (steps-to (read .read-literal .ensures .steps) (known .before .key .given .1) .says)
     (sym (labels .before .before .if2 .left) ∙ tested text))
     (labels .read-labels .ensures)
 

@@ -1,7 +1,7 @@
 -- `places::starts::growth_of` meets its contract: a part in each half.
 -- Assumes nothing.
 use mathlib.Core.Path.{ap₂}
-use Rattle.sets.specs.declared.Part.{Part}
+use Rattle.parts.specs.declared.Part.{Part}
 use Rattle.places.specs.declared.Growth.{Growth}
 use borrow.Author.Needs.{needs}
 use Rattle.places.proofs.starts.growth_of.Statement.{statement}

@@ -6,8 +6,7 @@ use mathlib.Core.List.{[]}
 use native.Mathlib.Omega.{arith}
 use lib.ListN.{length}
 use Rattle.table.specs.Encoded.{filled}
-use Rattle.table.proofs.Filled.{filled-length}
-use Rattle.table.proofs.Zeroed.{zeroed-whole}
+use Rattle.table.proofs.Filled.{length-filled, zeroed-filled}
 use Rattle.faults.proofs.Calls.{asks-nothing}
 use Rattle.reading.proofs.Stores.{kept-completed, cleared-completed, not-fine}
 use Rattle.reading.proofs.whole.read_cleared.Statement.{statement}
@@ -15,7 +14,7 @@ use Rattle.reading.proofs.whole.read_cleared.Tie as tie
 
 -- the store once it is 0
 zeros : (c : tie.After-clear) → c .clear .last .0 ≡ filled 3104 0 []
-zeros c = let l = c .before .before .before .before .pre .1 in c .clear .ensures ∙ zeroed-whole 3104 _ (omega (arith, l)) ∙ ap (λ n. filled n 0 []) l
+zeros c = let l = c .before .before .before .before .pre .1 in c .clear .ensures ∙ zeroed-filled 3104 _ (omega (arith, l)) ∙ ap (λ n. filled n 0 []) l
 
 read-lines-requires : tie.Need-read-lines-requires
 read-lines-requires c κs = (c .before .before .before .before .before .before .before .pre .0, zeros (c .before .before .before))
@@ -31,9 +30,9 @@ returns c =
     let read = c .before .before .before .before .before .before .before .read-lines in
     let cleared = c .before .before .before .before .before .before .before .before .before .before .before in
     let l : length (read .last .1 .0) ≡ 3104 =
-    c .before .before .before .before .before .before .store2 .given ∙ ap length (zeros cleared) ∙ filled-length 0 3104 [] in
+    c .before .before .before .before .before .before .store2 .given ∙ ap length (zeros cleared) ∙ length-filled 0 3104 [] in
     cleared-completed (read .ensures) (not-fine (read .result .answer) (c .before .before .before .before .match .keys2))
-    (c .before .before .clear2 .ensures ∙ zeroed-whole 3104 _ (omega (arith, l)) ∙ ap (λ n. filled n 0 []) l)
+    (c .before .before .clear2 .ensures ∙ zeroed-filled 3104 _ (omega (arith, l)) ∙ ap (λ n. filled n 0 []) l)
 
 same-length-2 : tie.Need-same-length-2
 same-length-2 c = search needs

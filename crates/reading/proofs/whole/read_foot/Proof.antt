@@ -5,7 +5,7 @@ use mathlib.Core.Path.{_≡_, refl, sym}
 use Prim.Native.Nat.{suc, _+_}
 use native.Mathlib.Omega.{arith}
 use Rattle.faults.proofs.Calls.{asks-nothing}
-use Rattle.sections.proofs.Walking.{gone-within, gone-before, rest-lent, rest-length}
+use Rattle.textlines.proofs.Walks.{gone-within, gone-before, rest-lent, rest-length}
 use Rattle.frames.specs.Heads.{headingOf}
 use Rattle.frames.proofs.Joins.{footing-to, footing-bad}
 use Rattle.reading.proofs.Wholes.{ends-bad, ends-on, by-foot, table-held}

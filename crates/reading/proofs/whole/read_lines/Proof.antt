@@ -4,7 +4,7 @@ use borrow.Author.Needs.{needs}
 use mathlib.Core.Path.{_≡_, refl}
 use native.Mathlib.Omega.{arith}
 use Rattle.faults.proofs.Calls.{asks-nothing}
-use Rattle.sections.proofs.Walking.{rest-lent, rest-length}
+use Rattle.textlines.proofs.Walks.{rest-lent, rest-length}
 use Rattle.reading.proofs.Wholes.{ends-bad, ends-on, by-head}
 use Rattle.reading.proofs.whole.read_lines.Statement.{statement}
 use Rattle.reading.proofs.whole.read_lines.Tie as tie

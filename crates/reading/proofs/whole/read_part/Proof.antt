@@ -6,17 +6,18 @@ use mathlib.Core.List.{[], _++_}
 use native.Mathlib.Omega.{arith}
 use lib.ListN.{length, length-take}
 use lib.Seq.{length-take-le}
-use Rattle.table.proofs.Filled.{filled-length}
+use Rattle.table.proofs.Filled.{length-filled}
 use Rattle.grammar.specs.Reading.{takeTerm, lines}
 use Rattle.faults.proofs.Calls.{asks-nothing}
-use Rattle.sections.proofs.Walking.{padded-length, room-there}
+use Rattle.textlines.proofs.Sequences.{room-there}
+use Rattle.sections.proofs.Arrays.{padded-length}
 use Rattle.frames.specs.Heads.{headingOf}
 use Rattle.reading.proofs.Wholes.{front-free, rest-free}
 use Rattle.reading.proofs.whole.read_part.Statement.{statement}
 use Rattle.reading.proofs.whole.read_part.Tie as tie
 
 long : (c : tie.Start) → length (c .args .store .now) ≡ 3104
-long c = ap length (c .pre .2) ∙ filled-length 0 3104 []
+long c = ap length (c .pre .2) ∙ length-filled 0 3104 []
 
 array-share-prefix-names : tie.Need-array-share-prefix-names
 array-share-prefix-names c = let held = c .before .before .before .pre .1 .held in let e = padded-length (held .laid) in omega (arith, held .few)

@@ -7,7 +7,8 @@ use Prim.Native.Nat.{_+_}
 use native.Mathlib.Omega.{arith}
 use Rattle.table.specs.Encoded.{filled}
 use Rattle.grammar.specs.Reading.{takeTerm}
-use Rattle.sections.proofs.Walking.{rest-lent, rest-length, later-to, later-bad}
+use Rattle.textlines.proofs.Walks.{rest-lent, rest-length}
+use Rattle.textlines.proofs.Sequences.{later-to, later-bad}
 use Rattle.frames.specs.Heads.{headingOf}
 use Rattle.reading.proofs.Wholes.{ends-bad, ends-on, held-length}
 use Rattle.reading.proofs.whole.read_terms.Statement.{statement}

@@ -6,7 +6,7 @@ use native.Mathlib.Omega.{arith}
 use lib.Seq.{length-take-le}
 use borrow.Author.Tests.{not-true, not-false}
 use Rattle.table.specs.Decoded.{nameOf}
-use Rattle.words.proofs.Steps.{went, stays}
+use Rattle.words.proofs.Steps.{steps-to, steps-stuck}
 use Rattle.faults.proofs.Calls.{asks-nothing}
 use Rattle.textlines.proofs.Walks.{line-lacks, line-there}
 use Rattle.sections.proofs.NameLines.{name-stuck, name-held, name-free}
@@ -32,7 +32,7 @@ returns-2 c =
     record {
       says =
           line-there _ (a .line) (there .before .line-end .ensures) (there .if1 .left)
-          (name-stuck (map (nameOf 8) (a .names .now)) _ (stays (c .before .before .read-name-line .ensures) (c .enum-told .given .1) .says));
+          (name-stuck (map (nameOf 8) (a .names .now)) _ (steps-stuck (c .before .before .read-name-line .ensures) (c .enum-told .given .1) .says));
       within = omega arith;
     }
 
@@ -43,7 +43,7 @@ returns-3 c =
     record {
       says =
           line-there _ (a .line) (there .before .line-end .ensures) (there .if1 .left)
-          (name-held (map (nameOf 8) (a .names .now)) _ (went (c .before .before .before .before .before .read-name-line .ensures)
+          (name-held (map (nameOf 8) (a .names .now)) _ (steps-to (c .before .before .before .before .before .read-name-line .ensures)
           (c .before .before .before .step .given .1) .says)
           (sym (c .before .is-free .ensures) ∙ not-true _ (c .if2 .taken)));
       within = omega arith;
@@ -59,7 +59,7 @@ returns-4 c =
     record {
       says =
           line-there _ (a .line) (there .before .line-end .ensures) (there .if1 .left)
-          (name-free (map (nameOf 8) (a .names .now)) _ (went (c .before .before .before .before .before .read-name-line .ensures)
+          (name-free (map (nameOf 8) (a .names .now)) _ (steps-to (c .before .before .before .before .before .read-name-line .ensures)
           (c .before .before .before .step .given .1) .says)
           (sym (c .before .is-free .ensures) ∙ not-false _ (c .if2 .left)));
       within = omega (arith, there .if1 .left);

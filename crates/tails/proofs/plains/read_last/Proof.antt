@@ -5,7 +5,7 @@ use lib.ListN.{drop}
 use Rattle.table.specs.Terms.{IsPlain, bareTerm}
 use Rattle.grammar.specs.Text.{onward}
 use Rattle.faults.proofs.Calls.{asks-nothing}
-use Rattle.words.proofs.Steps.{stuck-there, went, stays, stops, become}
+use Rattle.words.proofs.Steps.{stuck-there, steps-to, steps-stuck, stops, become}
 use Rattle.tails.specs.Plains.{madeOf}
 use Rattle.tails.proofs.Operands.{plain-kind, alone-with, one-seen, plain-become}
 use Rattle.tails.proofs.plains.read_last.Statement.{statement}
@@ -26,7 +26,7 @@ returns c =
     let a = read .before .before .args in
     become (one-seen (madeOf (a .k) (a .t)) (drop (a .at) (a .line .now)))
     (stops (λ u q. alone-with (madeOf (a .k) (a .t) u) q)
-    (stays (read .read-operand .ensures) (stuck-there (c .before .enum-told .given .1) (c .stuck-at .ensures))))
+    (steps-stuck (read .read-operand .ensures) (stuck-there (c .before .enum-told .given .1) (c .stuck-at .ensures))))
 
 finish-requires : tie.Need-finish-requires
 finish-requires c κs =
@@ -34,7 +34,7 @@ finish-requires c κs =
     let read = told .before .before in
     let a = read .before .before .args in
     let last = told .last .given in
-    (went (read .read-operand .ensures) (last .1) .within, subst IsPlain (sym (c .plain .ensures)) (plain-kind (a .k) (a .t) (last .0 .0)))
+    (steps-to (read .read-operand .ensures) (last .1) .within, subst IsPlain (sym (c .plain .ensures)) (plain-kind (a .k) (a .t) (last .0 .0)))
 
 returns-2 : tie.Need-returns-2
 returns-2 c =
@@ -44,7 +44,7 @@ returns-2 c =
     let last = told .last .given in
     plain-become (a .line .now) (c .finish .result)
     (ap (λ x. alone-with x (drop (last .0 .1 .0) (a .line .now))) (ap bareTerm (c .before .plain .ensures))
-    ∙ ap (λ d. onward d (λ u q. alone-with (madeOf (a .k) (a .t) u) q)) (went (read .read-operand .ensures) (last .1) .says)
+    ∙ ap (λ d. onward d (λ u q. alone-with (madeOf (a .k) (a .t) u) q)) (steps-to (read .read-operand .ensures) (last .1) .says)
     ∙ one-seen (madeOf (a .k) (a .t)) (drop (a .at) (a .line .now)))
     (c .finish .ensures)
 

@@ -4,7 +4,7 @@ use mathlib.Core.Path.{ap, _∙_}
 use Rattle.grammar.specs.Text.{onward}
 use Rattle.grammar.specs.Forms.{ofOne}
 use Rattle.faults.proofs.Calls.{asks-nothing}
-use Rattle.words.proofs.Steps.{stuck-there, went, stays, stops, become}
+use Rattle.words.proofs.Steps.{stuck-there, steps-to, steps-stuck, stops, become}
 use Rattle.tails.specs.Plains.{madeOf}
 use Rattle.tails.proofs.Operands.{two-seen, plain-become}
 use Rattle.tails.proofs.plains.read_two.Statement.{statement}
@@ -22,10 +22,10 @@ returns c =
     let a = read .before .before .args in
     become (two-seen (madeOf (a .k)) (a .rest .now))
     (stops (λ t q. ofOne (madeOf (a .k) t) q)
-    (stays (read .number-after .ensures) (stuck-there (c .before .enum-told .given .1) (c .stuck-at .ensures))))
+    (steps-stuck (read .number-after .ensures) (stuck-there (c .before .enum-told .given .1) (c .stuck-at .ensures))))
 
 read-last-requires : tie.Need-read-last-requires
-read-last-requires c κs = went (c .before .before .before .number-after .ensures) (c .before .first .given .1) .within
+read-last-requires c κs = steps-to (c .before .before .before .number-after .ensures) (c .before .first .given .1) .within
 
 returns-2 : tie.Need-returns-2
 returns-2 c =
@@ -33,7 +33,7 @@ returns-2 c =
     let read = told .before .before in
     let a = read .before .before .args in
     plain-become (a .rest .now) (c .read-last .result)
-    (ap (λ d. onward d (λ t q. ofOne (madeOf (a .k) t) q)) (went (read .number-after .ensures) (told .first .given .1) .says)
+    (ap (λ d. onward d (λ t q. ofOne (madeOf (a .k) t) q)) (steps-to (read .number-after .ensures) (told .first .given .1) .says)
     ∙ two-seen (madeOf (a .k)) (a .rest .now))
     (c .read-last .ensures)
 

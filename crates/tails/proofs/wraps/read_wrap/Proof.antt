@@ -11,7 +11,7 @@ use Rattle.table.specs.Decoded.{nameOf}
 use Rattle.grammar.specs.Forms.{space}
 use Rattle.faults.proofs.Calls.{asks-nothing}
 use Rattle.words.proofs.Rests.{sign-within}
-use Rattle.words.proofs.Steps.{stuck-there, went, stays}
+use Rattle.words.proofs.Steps.{stuck-there, steps-to, steps-stuck}
 use Rattle.entries.specs.Entries.{saidPlace}
 use Rattle.lists.specs.Lists.{wholeList, ListRead}
 use Rattle.entries.proofs.Seen.{said-stuck-there, said-within}
@@ -39,14 +39,14 @@ returns c =
     let number = c .before .before .before in
     let a = number .before .before .before .before .args in
     no-operand (wrapOf (a .k)) (map (nameOf 8) (a .names .now)) (a .rest .now)
-    (stays (number .number-after .ensures) (stuck-there (c .before .enum-told .given .1) (c .stuck-at .ensures)))
+    (steps-stuck (number .number-after .ensures) (stuck-there (c .before .enum-told .given .1) (c .stuck-at .ensures)))
 
 returns-2 : tie.Need-returns-2
 returns-2 c =
     let told = c .before .before .before in
     let number = told .before .before in
     let a = number .before .before .before .before .args in
-    no-space (wrapOf (a .k)) (map (nameOf 8) (a .names .now)) (a .rest .now) (went (number .number-after .ensures) (told .operand .given .1))
+    no-space (wrapOf (a .k)) (map (nameOf 8) (a .names .now)) (a .rest .now) (steps-to (number .number-after .ensures) (told .operand .given .1))
     (sym (c .before .sign-at .ensures) ∙ not-true _ (c .if1 .taken))
 
 -- a space that stands there lies in the line
@@ -114,7 +114,7 @@ returns-3 c =
     let told = kind .before .before .before .before in
     let number = told .before .before in
     let a = number .before .before .before .before .args in
-    no-list (wrapOf (a .k)) (map (nameOf 8) (a .names .now)) (a .rest .now) (went (number .number-after .ensures) (told .operand .given .1))
+    no-list (wrapOf (a .k)) (map (nameOf 8) (a .names .now)) (a .rest .now) (steps-to (number .number-after .ensures) (told .operand .given .1))
     (sym (kind .before .before .sign-at .ensures) ∙ not-false _ (kind .before .if1 .left)) (kind .list-kind .ensures) (passed (kind .before)) (listed read)
     (said-stuck-there (c .before .enum-told2 .given .1) (c .said-stuck-at .ensures))
 
@@ -138,7 +138,7 @@ returns-4 c =
     let told = kind .before .before .before .before in
     let number = told .before .before in
     let a = number .before .before .before .before .args in
-    no-end (wrapOf (a .k)) (map (nameOf 8) (a .names .now)) (a .rest .now) (went (number .number-after .ensures) (told .operand .given .1))
+    no-end (wrapOf (a .k)) (map (nameOf 8) (a .names .now)) (a .rest .now) (steps-to (number .number-after .ensures) (told .operand .given .1))
     (sym (kind .before .before .sign-at .ensures) ∙ not-false _ (kind .before .if1 .left)) (kind .list-kind .ensures) (passed (kind .before)) (listed read)
     (c .before .before .list .given .1) (c .if2 .taken)
 
@@ -159,7 +159,7 @@ returns-5 c =
     let a = number .before .before .before .before .args in
     let list = c .before .before .before .list .given in
     rw (c .wrapped .ensures)
-    (wrap-line (wrapOf (a .k)) (map (nameOf 8) (a .names .now)) (a .rest .now) (went (number .number-after .ensures) (told .operand .given .1))
+    (wrap-line (wrapOf (a .k)) (map (nameOf 8) (a .names .now)) (a .rest .now) (steps-to (number .number-after .ensures) (told .operand .given .1))
     (sym (kind .before .before .sign-at .ensures) ∙ not-false _ (kind .before .if1 .left)) (kind .list-kind .ensures) (passed (kind .before)) (listed read)
     (list .1) (a .n) (c .before .if2 .left) (operator-wrapped (a .k) (record { at = 32 * a .n; entries = list .0 .0 .first })))
 

@@ -2,7 +2,7 @@
 -- Assumes nothing.
 use mathlib.Core.Path.{ap}
 use native.Mathlib.Omega.{arith}
-use Rattle.table.specs.declared.Term.the-variants.{Wrap}
+use Rattle.slots.specs.declared.Term.the-variants.{Wrap}
 use Rattle.faults.proofs.Calls.{asks-nothing}
 use Rattle.tails.specs.declared.TermStep.the-variants as T
 use Rattle.tails.proofs.wraps.wrapped.Statement.{statement}

@@ -2,7 +2,7 @@
 -- Assumes nothing.
 use borrow.Author.Needs.{needs}
 use lib.ListN.{length}
-use Rattle.sets.specs.Parts.{roomAt}
+use Rattle.parts.specs.Parts.{roomAt}
 use Rattle.terms.proofs.Choices.{simple-none}
 use Rattle.terms.proofs.choosing.of_simple.Statement.{statement}
 use Rattle.terms.proofs.choosing.of_simple.Tie as tie

@@ -2,7 +2,7 @@
 -- Assumes nothing.
 use borrow.Author.Needs.{needs}
 use lib.ListN.{length}
-use Rattle.sets.specs.Parts.{roomAt}
+use Rattle.parts.specs.Parts.{roomAt}
 use Rattle.places.specs.Starts.{partIn, placeIn, leftIn}
 use Rattle.terms.proofs.Choices.{simple-built}
 use Rattle.terms.proofs.choosing.work_out.Statement.{statement}

@@ -5,9 +5,9 @@ use mathlib.Core.List.{List, [], _∷_}
 use Prim.Native.Nat.{ℕ}
 use types.Run.{OneOf, miss}
 use denote.Enum.Declared.{tagOf}
-use Rattle.table.specs.declared.Operator.{Operator}
-use Rattle.table.specs.declared.Operator.the-variants.{Block, Hide, Rename, Comm, Allow}
-use Rattle.table.proofs.Operator.{the-type}
+use Rattle.slots.specs.declared.Operator.{Operator}
+use Rattle.slots.specs.declared.Operator.the-variants.{Block, Hide, Rename, Comm, Allow}
+use Rattle.slots.proofs.Operator.{the-type}
 use Rattle.table.specs.Decoded.{wordsAt}
 use Rattle.wrapping.specs.Ways.{placeFor, wordsFor}
 use Rattle.wrapping.proofs.operators.wrapped.Statement.{statement}
