@@ -80,14 +80,16 @@ kind-rest : (k : ℕ) → k < 17 → (s : Text) → tailOf k s ≡ restOf k s
 kind-rest k h = below AtKind 17 k h at-kinds .1
 
 -- What follows a kind's word, at its place of the line.
-pub tail-there : (names : List ℕ) (n k : ℕ) (line : Text) (at : ℕ) (before after : List ℕ) (r : TermStep)
-    → length names ≤ 12 → n < 96 → k < 17 → at ≤ length line
-    → TailRead names n k (restAt line at) before after r
-    → LineRead (map (nameOf 8) names) n (drop at line) (restOf k (drop at line)) before after r
-tail-there names n k line at before after r few fits h i t =
-    let s = drop at line in
-    line-become (map (nameOf 8) names) n s before after r (sym (room names n few fits (tailOf k s) s) ∙ kind-rest k h s)
-    (subst (λ l. TailRead names n k l before after r) (rest-drop line at i) t)
+module _ (names : List ℕ) (n k : ℕ) (line : Text) (at : ℕ) (before after : List ℕ) (r : TermStep) where
+  pub tail-at : at ≤ length line → TailRead names n k (restAt line at) before after r → TailRead names n k (drop at line) before after r
+  tail-at i t = subst (λ l. TailRead names n k l before after r) (rest-drop line at i) t
+
+  pub tail-there : length names ≤ 12 → n < 96 → k < 17
+      → TailRead names n k (drop at line) before after r
+      → LineRead (map (nameOf 8) names) n (drop at line) (restOf k (drop at line)) before after r
+  tail-there few fits h t =
+      let s = drop at line in
+      line-become (map (nameOf 8) names) n s before after r (sym (room names n few fits (tailOf k s) s) ∙ kind-rest k h s) t
 
 pub kind-count : length kinds ≡ 17
 unfolding kinds

@@ -15,8 +15,14 @@ use Rattle.grammar.specs.Faults.{fine, termSaid, termFault}
 use Rattle.faults.specs.CodedFaults.{foundOf}
 use Rattle.faults.specs.declared.Found as G
 use Rattle.lists.specs.Lists.{over}
+use Rattle.tails.specs.Lines.{LineRead}
 use Rattle.tails.specs.declared.TermStep.{TermStep}
 use Rattle.tails.specs.declared.TermStep.the-variants as T
+
+-- A line by itself, with few enough names and a number in range.
+abbrev pub LineAnswer : List ℕ → ℕ → Text → List ℕ → List ℕ → TermStep → Type 0
+LineAnswer names n line before after r =
+    length names ≤ 12 → n < 96 → LineRead (map (nameOf 8) names) n line (termLine line) before after r
 
 -- A line after the terms before it: the term at its number, all faults of the line joined, and the list's words over the start
 -- of the store where there is none.

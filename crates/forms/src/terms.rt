@@ -1,20 +1,13 @@
 // Term lines: the kind's word, what follows it, and the faults of the whole.
-ghost use Prim.Native.Nat.{_+_, _≤_, _<_, _^_};
+ghost use Prim.Native.Nat.{_+_, _<_, _^_};
 ghost use mathlib.Core.Path.{_≡_};
-ghost use mathlib.Core.List.{map};
-ghost use lib.ListN.{length};
-ghost use Rattle.table.specs.Decoded.{nameOf};
-ghost use Rattle.grammar.specs.Forms.{termLine};
-ghost use Rattle.tails.specs.Lines.{LineRead};
-ghost use Rattle.forms.specs.Terms.{TermAnswer};
+ghost use Rattle.forms.specs.Terms.{LineAnswer, TermAnswer};
 ghost use Rattle.forms.specs.Kinds.{stuckPlace, fartherStep};
 use crate::kinds::KindStep;
 use crate::kinds::find_kind;
 use crate::kinds::kind_stuck_at;
 use crate::kinds::most;
 use operands::joined_fault;
-use table::NAMES;
-use table::TERMS;
 use tails::TermStep;
 use tails::read_tail;
 use words::Step;
@@ -34,9 +27,7 @@ fn farthest(x: TermStep, at: usize, far: usize) -> TermStep
 
 // The key, the kind's word and what follows it, with the faults of the names and the list.
 fn read_line(line: &[u8], names: &[u64], n: usize, store: &mut [u64]) -> TermStep
-    requires { ⌜ (length (now names) ≤ 12) × (n < 96) ⌝ }
-    ensures { λ r. ⌜ LineRead (map (nameOf 8) (now (names .entry))) n (now (line .entry))
-        (termLine (now (line .entry))) (now (store .entry)) (now (store .exit)) r ⌝ }
+    ensures { λ r. ⌜ LineAnswer (now (names .entry)) n (now (line .entry)) (now (store .entry)) (now (store .exit)) r ⌝ }
 {
     let key = read_literal(line, b"term=");
     let Step::To(_, at) = key else {
@@ -60,12 +51,6 @@ pub fn read_term(
 ) -> TermStep
     ensures { λ r. ⌜ TermAnswer (now (names .entry)) equations (now (slots .entry)) n (now (line .entry)) (now (store .entry)) (now (store .exit)) r ⌝ }
 {
-    if NAMES < names.len() {
-        return TermStep::Stuck(0);
-    }
-    if TERMS <= n {
-        return TermStep::Stuck(0);
-    }
     let said = read_line(line, names, n, store);
     let TermStep::To(x, found) = said else {
         return said;

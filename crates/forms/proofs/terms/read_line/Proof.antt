@@ -11,11 +11,11 @@ use Rattle.grammar.specs.Text.{onward}
 use Rattle.grammar.specs.Forms.{kinds, ofKind, termLine}
 use Rattle.faults.proofs.Calls.{asks-nothing}
 use Rattle.words.proofs.Steps.{stuck-there, steps-to, steps-stuck, stops, become}
-use Rattle.tails.specs.Lines.{LineRead}
+use Rattle.tails.specs.Tails.{TailRead}
 use Rattle.tails.proofs.Operands.{line-become}
-use Rattle.forms.specs.Kinds.{restOf, fartherStep, KindFound}
+use Rattle.forms.specs.Kinds.{fartherStep, KindFound}
 use Rattle.forms.proofs.Farthest.{key-passed, line-farther, tail-within}
-use Rattle.forms.proofs.Kinded.{tail-there, kind-stuck-there, kind-to, kind-stays}
+use Rattle.forms.proofs.Kinded.{tail-at, tail-there, kind-stuck-there, kind-to, kind-stays}
 use Rattle.forms.proofs.terms.read_line.Statement.{statement}
 use Rattle.forms.proofs.terms.read_line.Tie as tie
 
@@ -30,7 +30,7 @@ enum-told c = c .match .keys2
 
 returns : tie.Need-returns
 unfolding termLine
-returns c =
+returns c few fits =
     stops (λ _ r. ofKind kinds r)
     (steps-stuck (c .before .before .before .read-literal .ensures .steps) (stuck-there (c .before .enum-told .given .1) (c .stuck-at .ensures)))
 
@@ -66,7 +66,7 @@ found : (c : tie.After-known-told2)
 found c = let find = c .before .before .before .find-kind in kind-to (find .result) (find .ensures) (c .before .kind .given .1)
 
 returns-2 : tie.Need-returns-2
-returns-2 c =
+returns-2 c few fits =
     let search = c .before .before .before in
     become (passed search)
     (kind-stays (search .find-kind .result) (search .find-kind .ensures) (kind-stuck-there (c .before .enum-told2 .given .1) (c .kind-stuck-at .ensures)))
@@ -85,16 +85,13 @@ tailed : (c : tie.After-read-tail)
     → let known = c .before .before .before in
     let a = entry (known .before .before .before) .args in
     let kind = known .before .kind .given .0 in
-    LineRead (map (nameOf 8) (a .names .now)) (a .n) (drop (kind .1 .0) (a .line .now)) (restOf (kind .0) (drop (kind .1 .0) (a .line .now)))
-    (a .store .now) (c .read-tail .last .1 .1 .1 .1 .0) (c .read-tail .result)
+    TailRead (a .names .now) (a .n) (kind .0) (drop (kind .1 .0) (a .line .now)) (a .store .now) (c .read-tail .last .1 .1 .1 .1 .0) (c .read-tail .result)
 tailed c =
     let known = c .before .before .before in
-    let start = entry (known .before .before .before) in
-    let a = start .args in
+    let a = entry (known .before .before .before) .args in
     let kind = known .before .kind .given .0 in
-    let f = found known in
-    tail-there (a .names .now) (a .n) (kind .0) (a .line .now) (kind .1 .0) (a .store .now) (c .read-tail .last .1 .1 .1 .1 .0) (c .read-tail .result)
-    (start .pre .0) (start .pre .1) (f .known) (f .within) (c .read-tail .ensures)
+    tail-at (a .names .now) (a .n) (kind .0) (a .line .now) (kind .1 .0) (a .store .now) (c .read-tail .last .1 .1 .1 .1 .0) (c .read-tail .result)
+    (found known .within) (c .read-tail .ensures)
 
 farthest-requires : tie.Need-farthest-requires
 farthest-requires c κs =
@@ -113,7 +110,7 @@ same-length : tie.Need-same-length
 same-length c = search needs
 
 returns-3 : tie.Need-returns-3
-returns-3 c =
+returns-3 c few fits =
     let read = c .before .before .before in
     let known = read .before .before .before in
     let a = entry (known .before .before .before) .args in
@@ -125,7 +122,8 @@ returns-3 c =
     (line-become words (a .n) (a .line .now) (a .store .now) after (fartherStep (kind .1 .0) (kind .1 .1 .0) (read .read-tail .result))
     (f .says ∙ passed (known .before .before .before))
     (line-farther words (a .n) (a .line .now) (a .store .now) after (kind .1 .0) (kind .1 .1 .0) (f .within) (f .reached) _ (read .read-tail .result)
-    (tailed read)))
+    (tail-there (a .names .now) (a .n) (kind .0) (a .line .now) (kind .1 .0) (a .store .now) after (read .read-tail .result) few fits (f .known)
+    (tailed read))))
 
 pub read-line-spec : {M : Type 1} → statement M
 read-line-spec =

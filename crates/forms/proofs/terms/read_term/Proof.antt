@@ -11,15 +11,6 @@ use Rattle.forms.proofs.Slotted.{term-stays, term-taken}
 use Rattle.forms.proofs.terms.read_term.Statement.{statement}
 use Rattle.forms.proofs.terms.read_term.Tie as tie
 
-returns : tie.Need-returns
-returns c terms e i h j = absurd (omega arith)
-
-returns-2 : tie.Need-returns-2
-returns-2 c terms e i h j = absurd (omega arith)
-
-read-line-requires : tie.Need-read-line-requires
-read-line-requires c κs = search needs
-
 enum-known-said : tie.Need-enum-known-said
 enum-known-said c = c .match .keys1
 
@@ -29,28 +20,28 @@ enum-told c = c .match .keys2
 same-length : tie.Need-same-length
 same-length c = search needs
 
-returns-3 : tie.Need-returns-3
-returns-3 c terms e i h j =
+returns : tie.Need-returns
+returns c terms e i h j =
     let read = c .before .before .before .before in
-    let a = read .before .before .before .before .before .before .before .before .args in
+    let a = read .before .before .before .before .before .before .args in
     let after = read .read-line .last .1 .1 .1 .0 in
     let l : length after ≡ length (a .store .now) = search needs in
     term-stays (map (nameOf 8) (a .names .now)) (a .equations) terms (a .slots .now) (omega arith) e (a .n) i (a .line .now) (a .store .now) after l
-    (read .read-line .result) (c .enum-told .given .1) (read .read-line .ensures)
+    (read .read-line .result) (c .enum-told .given .1) (read .read-line .ensures j h)
 
 same-length-2 : tie.Need-same-length-2
 same-length-2 c = search needs
 
-returns-4 : tie.Need-returns-4
-returns-4 c terms e i h j =
+returns-2 : tie.Need-returns-2
+returns-2 c terms e i h j =
     let read = c .before .before .before .before .before .before in
-    let a = read .before .before .before .before .before .before .before .before .args in
+    let a = read .before .before .before .before .before .before .args in
     let after = read .read-line .last .1 .1 .1 .0 in
     let l : length after ≡ length (a .store .now) = search needs in
     term-taken (map (nameOf 8) (a .names .now)) (a .equations) terms (a .slots .now) (omega arith) e (a .n) i (a .line .now) (a .store .now) after l
-    (c .before .before .said .given .1) (read .read-line .ensures) (c .joined-fault .ensures)
+    (c .before .before .said .given .1) (read .read-line .ensures j h) (c .joined-fault .ensures)
 
 pub read-term-spec : {M : Type 1} → statement M
 read-term-spec =
     tie.close
-    (tie.spec returns returns-2 read-line-requires enum-known-said enum-told same-length returns-3 asks-nothing same-length-2 returns-4)
+    (tie.spec asks-nothing enum-known-said enum-told same-length returns asks-nothing same-length-2 returns-2)
