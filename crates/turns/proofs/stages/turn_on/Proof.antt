@@ -73,7 +73,8 @@ loop-again c =
     let round = c .before .before .before .before .before .before .one-round in
     let inv = c .before .before .before .before .before .before .before .before .before .before .before .before .before .loop .inv in
     let went = rw (c .before .before .enum-told3 .given .1) at (round .ensures) in
-    turned-step inv (went .passed) (went .changed) (round .kept .1 .1 .1 .1 .1 .1 .0) (went .long) (round .kept .1 .1 .1 .1 .1 .1 .1 .0) (went .words)
+    turned-step inv {now = went .worked} (went .passed) (went .changed)
+    (round .kept .1 .1 .1 .1 .1 .1 .0) (went .long) (round .kept .1 .1 .1 .1 .1 .1 .1 .0) (went .words)
 
 same-length-3 : tie.Need-same-length-3 Inv-loop μ-loop
 same-length-3 c = c .before .loop .inv .long
