@@ -10,9 +10,9 @@ use words::stuck_at;
 
 // The words of the kinds, packed as names are: the first byte lowest.
 const KINDS: [u64; 17] = [
-    0x746361, // act
-    0x756174, // tau
     0x61746c6564, // delta
+    0x756174, // tau
+    0x746361, // act
     0x666572, // ref
     0x6d7573, // sum
     0x646e6f63, // cond

@@ -145,9 +145,9 @@ module _ (words : List Text) (legal : LegalWords words) where
   rows : Rows Row kinds
   unfolding kinds row
   rows =
-      row follows-name (λ y. refl) (λ y l. l)
+      row (follows-alone delta) (λ y. refl) (λ y l. l)
       ⨾ row (follows-alone tau) (λ y. refl) (λ y l. l)
-      ⨾ row (follows-alone delta) (λ y. refl) (λ y l. l)
+      ⨾ row follows-name (λ y. refl) (λ y l. l)
       ⨾ row (follows-one ref) (λ y. refl) (λ y l. l)
       ⨾ row (follows-one sum) (λ y. refl) (λ y l. l)
       ⨾ row (follows-one cond) (λ y. refl) (λ y l. l)
@@ -223,9 +223,9 @@ module _ (words : List Text) (legal : LegalWords words) where
 
   shown : (t : Term) → Sayable (length words) t → Shown t
   unfolding kinds apart clash kindAt rowAt rows row
-  shown (act a) l = shown-by 0 tt tt a l
+  shown delta l = shown-by 0 tt tt tt l
   shown tau l = shown-by 1 tt tt tt l
-  shown delta l = shown-by 2 tt tt tt l
+  shown (act a) l = shown-by 2 tt tt a l
   shown (ref e) l = shown-by 3 tt tt e l
   shown (sum t) l = shown-by 4 tt tt t l
   shown (cond t) l = shown-by 5 tt tt t l

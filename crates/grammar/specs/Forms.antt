@@ -106,12 +106,12 @@ pub record Kind : Type 0 where
 abbrev kind : Text → (Text → Past Line) → Kind
 kind w r = record { word = w; rest = r }
 
--- No kind's word begins with another's.
+-- No kind's word begins with another's. A kind's number is its place here; delta is 0, so that a word of 0 stands for a deadlock.
 unfoldable pub kinds : List Kind
 kinds =
-    kind (ascii "act") ofName
+    kind (ascii "delta") (alone delta)
     ∷ kind (ascii "tau") (alone tau)
-    ∷ kind (ascii "delta") (alone delta)
+    ∷ kind (ascii "act") ofName
     ∷ kind (ascii "ref") (ofOne ref)
     ∷ kind (ascii "sum") (ofOne sum)
     ∷ kind (ascii "cond") (ofOne cond)

@@ -1,8 +1,8 @@
 // A term packed in a word: its kind in the lowest five bits, then up to three numbers of 16 bits each. A number that takes more
 // than 16 bits is cut; a legal description has none.
 //
-// A kind's number is its place among the terms of docs/FORMAT.md, but act and delta have changed places: delta is 0, so that a
-// slot which was never written is a deadlock. Sync asks for operands that are multi-actions, and such a slot is none.
+// A kind's number is its place in the list of kinds that a line is held to (`kinds` in `crates/grammar/specs/Forms.antt`). Delta
+// is 0, so that a slot which was never written is a deadlock: sync asks for multi-actions, and such a slot is none.
 use crate::Operator;
 use crate::Place;
 use crate::Term;

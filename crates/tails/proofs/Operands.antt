@@ -115,14 +115,14 @@ plain→storeless words line {due} r e h = storeless-become words line r e (plai
 
 -- What follows the word, by the kind's place.
 module _ (k : ℕ) (s : Text) where
-  pub tail-act : k < 1 → ofName s ≡ plainTail k s
-  tail-act a = rw (lt-ltb k 1 a)
+  pub tail-delta : k < 1 → alone D.delta s ≡ plainTail k s
+  tail-delta a = rw (lt-ltb k 1 a)
 
   pub tail-tau : 1 ≤ k → k < 2 → alone D.tau s ≡ plainTail k s
   tail-tau a b = rw (le-ltb k 1 a, lt-ltb k 2 b)
 
-  pub tail-delta : 2 ≤ k → k < 3 → alone D.delta s ≡ plainTail k s
-  tail-delta a b = rw (le-ltb k 1 (omega arith), le-ltb k 2 a, lt-ltb k 3 b)
+  pub tail-act : 2 ≤ k → k < 3 → ofName s ≡ plainTail k s
+  tail-act a b = rw (le-ltb k 1 (omega arith), le-ltb k 2 a, lt-ltb k 3 b)
 
   pub tail-one : 3 ≤ k → k < 6 → ofOne (madeOf k 0) s ≡ plainTail k s
   tail-one a b = rw (le-ltb k 1 (omega arith), le-ltb k 2 (omega arith), le-ltb k 3 a, lt-ltb k 6 b)

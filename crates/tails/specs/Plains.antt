@@ -34,8 +34,8 @@ PlainRead line due (T.Stuck p) = Stands line p (stuck (drop p line)) due
 abbrev pub madeOf : ℕ → ℕ → ℕ → D.Term
 madeOf k t u = bareTerm (plainOf k t u)
 
--- What follows the word of a kind without a list, by the kind's place: act, tau, delta, and those with one number and with two.
+-- What follows the word of a kind without a list, by the kind's place: delta, tau, act, and those with one number and with two.
 abbrev pub plainTail : ℕ → Text → Past Line
 plainTail k s =
-    pick (ltb k 1) (ofName s) (pick (ltb k 2) (alone D.tau s) (pick (ltb k 3) (alone D.delta s)
+    pick (ltb k 1) (alone D.delta s) (pick (ltb k 2) (alone D.tau s) (pick (ltb k 3) (ofName s)
     (pick (ltb k 6) (ofOne (madeOf k 0) s) (ofTwo (madeOf k) s))))

@@ -44,7 +44,7 @@ fn read_operand(line: &[u8], at: usize) -> Step
     Step::To(n, at + bytes)
 }
 
-// The last number of a line, or the only one. From ref on a kind has the same number here, by its word's place, as in the table.
+// The last number of a line, or the only one. A kind has the same number here, by its word's place, as in the table.
 fn read_last(k: usize, t: usize, line: &[u8], at: usize) -> TermStep
     requires { ⌜ at ≤ length (now line) ⌝ }
     ensures { λ r. ⌜ PlainRead (now (line .entry)) (ofOne (madeOf k t) (drop at (now (line .entry)))) r ⌝ }
@@ -91,13 +91,13 @@ pub fn read_plain(k: usize, rest: &[u8], names: &[u64]) -> TermStep
     ensures { λ r. ⌜ Storeless (map (nameOf 8) (now (names .entry))) (now (rest .entry)) (plainTail k (now (rest .entry))) r ⌝ }
 {
     if k < 1 {
-        return read_act(rest, names);
+        return finish(rest, 0, Term::Delta);
     }
     if k < 2 {
         return finish(rest, 0, Term::Tau);
     }
     if k < 3 {
-        return finish(rest, 0, Term::Delta);
+        return read_act(rest, names);
     }
     if k < 6 {
         return read_last(k, 0, rest, 0);

@@ -10,33 +10,34 @@ use Rattle.tails.proofs.Operands.{storeless-become, plain→storeless, 
 use Rattle.tails.proofs.plains.read_plain.Statement.{statement}
 use Rattle.tails.proofs.plains.read_plain.Tie as tie
 
-returns : tie.Need-returns
-returns c =
-    let a = c .before .before .before .before .args in
-    storeless-become (map (nameOf 8) (a .names .now)) (a .rest .now) (c .read-act .result) (tail-act (a .k) (a .rest .now) (c .before .if1 .taken))
-    (c .read-act .ensures)
-
 finish-requires : tie.Need-finish-requires
 finish-requires c κs = (omega arith, tt)
+
+returns : tie.Need-returns
+unfolding alone
+returns c =
+    let tested = c .before in
+    let a = tested .before .before .before .args in
+    plain→storeless (map (nameOf 8) (a .names .now)) (a .rest .now) (c .finish .result)
+    (tail-delta (a .k) (a .rest .now) (tested .if1 .taken)) (c .finish .ensures)
+
+finish-requires-2 : tie.Need-finish-requires-2
+finish-requires-2 c κs = (omega arith, tt)
 
 returns-2 : tie.Need-returns-2
 unfolding alone
 returns-2 c =
     let tested = c .before .before in
     let a = tested .before .before .before .args in
-    plain→storeless (map (nameOf 8) (a .names .now)) (a .rest .now) (c .finish .result)
-    (tail-tau (a .k) (a .rest .now) (tested .if1 .left) (c .before .if2 .taken)) (c .finish .ensures)
-
-finish-requires-2 : tie.Need-finish-requires-2
-finish-requires-2 c κs = (omega arith, tt)
+    plain→storeless (map (nameOf 8) (a .names .now)) (a .rest .now) (c .finish2 .result)
+    (tail-tau (a .k) (a .rest .now) (tested .if1 .left) (c .before .if2 .taken)) (c .finish2 .ensures)
 
 returns-3 : tie.Need-returns-3
-unfolding alone
 returns-3 c =
     let tested = c .before .before in
     let a = tested .before .before .before .before .args in
-    plain→storeless (map (nameOf 8) (a .names .now)) (a .rest .now) (c .finish2 .result)
-    (tail-delta (a .k) (a .rest .now) (tested .if2 .left) (c .before .if3 .taken)) (c .finish2 .ensures)
+    storeless-become (map (nameOf 8) (a .names .now)) (a .rest .now) (c .read-act .result)
+    (tail-act (a .k) (a .rest .now) (tested .if2 .left) (c .before .if3 .taken)) (c .read-act .ensures)
 
 read-last-requires : tie.Need-read-last-requires
 read-last-requires c κs = omega arith
@@ -58,4 +59,4 @@ returns-5 c =
 pub read-plain-spec : {M : Type 1} → statement M
 read-plain-spec =
     tie.close
-    (tie.spec asks-nothing returns finish-requires returns-2 finish-requires-2 returns-3 read-last-requires returns-4 asks-nothing returns-5)
+    (tie.spec finish-requires returns finish-requires-2 returns-2 asks-nothing returns-3 read-last-requires returns-4 asks-nothing returns-5)
