@@ -22,7 +22,7 @@ class Lines(unittest.TestCase):
         (self.top / "crates" / "room" / "src" / "lib.rt").write_text(code)
         (self.top / "crates" / "room" / "proofs" / "Lib.antt").write_text(proof)
         with contextlib.redirect_stdout(io.StringIO()) as said:
-            check_lines(self.top, ("room",))
+            check_lines(self.top)
         return said.getvalue()
 
     def test_right_files_are_counted(self):
@@ -44,9 +44,9 @@ class Lines(unittest.TestCase):
             with self.subTest(code=code, proof=proof), self.assertRaisesRegex(Failed, told):
                 self.check(code, proof)
 
-    def test_a_room_that_is_not_there(self):
-        with self.assertRaisesRegex(Failed, "there is no room cellar"):
-            check_lines(self.top, ("cellar",))
+    def test_no_code_at_all(self):
+        with self.assertRaisesRegex(Failed, "there is no code"):
+            check_lines(self.top)
 
 
 if __name__ == "__main__":
