@@ -39,7 +39,7 @@ use Rattle.keeping.specs.Settling.{alone}
 use Rattle.turns.specs.Endings.{foundOf, labelsOf, Reached}
 use Rattle.rounds.specs.declared.Answer.{Answer}
 use Rattle.rounds.specs.declared.Answer.the-variants as A
-use Rattle.rounds.specs.Alphabets.{alphabetOf, answerWords, cleared, allIn, listIn, Answered, Listing}
+use Rattle.rounds.specs.Alphabets.{alphabetOf, answerWords, allIn, listIn, Answered, Listing}
 use Rattle.rounds.proofs.Answering.{isAll, listOf, cut-number}
 use Rattle.rounds.proofs.Orders.{Cuts, cuts-to}
 
@@ -77,7 +77,7 @@ zeros-append zero n = ap zeros (sym (zero-add n))
 zeros-append (suc m) n = ap (λ (l : List ℕ). 0 ∷ l) (zeros-append m n) ∙ ap zeros (sym (suc-add m n))
 
 module _ (set work : List ℕ) (count : ℕ) (size : length set ≡ count) (few : count ≤ whole) where
-  alone-cleared : zeroed count (alone set work) ≡ cleared work
+  alone-cleared : zeroed count (alone set work) ≡ alone [] work
   alone-cleared =
       let behind = zeros (whole - length set) ++ drop whole work in
       let long : count ≤ length (alone set work) = omega (arith, length-append set behind) in
@@ -87,7 +87,7 @@ module _ (set work : List ℕ) (count : ℕ) (size : length set ≡ count) (few 
       ≡⟨ ap (λ (l : List ℕ). zeros count ++ l) (drop-at set behind count size) ⟩ zeros count ++ behind
       ≡⟨ sym (append-assoc (zeros count) (zeros (whole - length set)) (drop whole work)) ⟩
       (zeros count ++ zeros (whole - length set)) ++ drop whole work
-      ≡⟨ ap (λ (l : List ℕ). l ++ drop whole work) (zeros-append count (whole - length set) ∙ ap zeros all) ⟩ cleared work ∎
+      ≡⟨ ap (λ (l : List ℕ). l ++ drop whole work) (zeros-append count (whole - length set) ∙ ap zeros all) ⟩ alone [] work ∎
 
 -- The set of a legal description, cut.
 module _ (d : D.Description) (o : D.Order) (k : ℕ) (labels : List Label) (l : Legal d o)
@@ -130,7 +130,7 @@ module _ {table : Table} {store : List ℕ} {order : Order} {work area : List �
             → Cuts d o x (answer d o)
             → F.TooLarge ≡ foundOf x
             → work′ ≡ alone (map number (labelsOf x)) work
-            → (A.TooLarge ≡ alphabetOf (answer d o)) × (area ≡ answerWords (answer d o) area) × (work′ ≡ cleared work)
+            → (A.TooLarge ≡ alphabetOf (answer d o)) × (area ≡ answerWords (answer d o) area) × (work′ ≡ alone [] work)
         by d o tooLarge c e w = rw c (refl, refl, w)
         by d o (listed j labels) c e w = absurd (let z : _≡_ {A = ℕ} 0 1 = cc in omega arith)
 
@@ -156,7 +156,7 @@ module _ {table : Table} {store : List ℕ} {order : Order} {work area : List �
             → Cuts d o x (answer d o)
             → F.At k count ≡ foundOf x
             → now ≡ alone (map number (labelsOf x)) work
-            → (A.Listed k n ≡ alphabetOf (answer d o)) × (area′ ≡ answerWords (answer d o) area) × (work′ ≡ cleared work)
+            → (A.Listed k n ≡ alphabetOf (answer d o)) × (area′ ≡ answerWords (answer d o) area) × (work′ ≡ alone [] work)
         by d o l s tooLarge c e v = absurd (let z : _≡_ {A = ℕ} 0 1 = cc in omega arith)
         by d o l s (listed j labels) c e v =
             let set = map number labels in
@@ -194,7 +194,7 @@ module _ (table : Table) (store : List ℕ) (order : Order) (work area work₁ a
     | no h ↦ elim (decLt (length area) 1024) [
       | yes k ↦ too-short (inr k)
       | no k ↦
-          same (alphabetOf (answer d o)) (answerWords (answer d o) area) (cleared work)
+          same (alphabetOf (answer d o)) (answerWords (answer d o) area) (alone [] work)
           (p .right d o l e f g (omega arith) (omega arith))
           (q .right d o l e f g (omega arith) (omega arith))
     ]

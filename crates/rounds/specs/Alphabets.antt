@@ -4,9 +4,9 @@
 use mathlib.Core.Path.{_≡_}
 use mathlib.Core.Logic.{_⊎_}
 use mathlib.Core.Bool.{Bool, true, false}
-use mathlib.Core.List.{List, [], _++_, map}
+use mathlib.Core.List.{List, [], map}
 use Prim.Native.Nat.{ℕ, _≤_, _<_}
-use lib.ListN.{length, take, drop, replicate}
+use lib.ListN.{length, take}
 use Rattle.meaning.specs.Labels.{number}
 use Rattle.meaning.specs.Descriptions as D
 use Rattle.meaning.specs.Legal.{Legal}
@@ -18,6 +18,7 @@ use Rattle.table.specs.Decoded.{wordsAt}
 use Rattle.table.specs.Encoded.{storeOf, orderFor, tableOf}
 use Rattle.transfers.specs.Cutting.{put, cutInto}
 use Rattle.places.specs.Starts.{whole}
+use Rattle.keeping.specs.Settling.{alone}
 use Rattle.rounds.specs.declared.Answer.{Answer}
 use Rattle.rounds.specs.declared.Answer.the-variants as A
 
@@ -30,15 +31,12 @@ abbrev pub answerWords : Outcome → List ℕ → List ℕ
 answerWords tooLarge area = area
 answerWords (listed rounds labels) area = put (map number labels) area
 
-abbrev pub cleared : List ℕ → List ℕ
-cleared work = replicate whole 0 ++ drop whole work
-
--- The call.
+-- The call. Nothing is left in the work area: what is used of it is 0.
 pub record Answered (table : Table) (store : List ℕ) (order : Order) (work area work′ area′ : List ℕ) (r : Answer) : Type 0 where
   pub short : (length work < whole) ⊎ (length area < 1024) → (r ≡ A.TooLarge) × (work′ ≡ work) × (area′ ≡ area)
   pub right : (d : D.Description) (o : D.Order) → Legal d o → table ≡ tableOf d → store ≡ storeOf d o → order ≡ orderFor o
       → whole ≤ length work → 1024 ≤ length area
-      → (r ≡ alphabetOf (answer d o)) × (area′ ≡ answerWords (answer d o) area) × (work′ ≡ cleared work)
+      → (r ≡ alphabetOf (answer d o)) × (area′ ≡ answerWords (answer d o) area) × (work′ ≡ alone [] work)
 
 -- The order as the code takes it: whether it is `all`, and the words of its list.
 abbrev pub allIn : Order → Bool
