@@ -10,7 +10,7 @@ use lib.ListN.{length}
 use borrow.Author.Tests.{leb-true}
 use Rattle.ways.specs.declared.Way.{Way}
 use Rattle.ways.specs.declared.Way.the-variants.{Copy}
-use Rattle.sets.specs.Building.{Building, goesOn, next}
+use Rattle.sets.specs.Building.{Building, goesOn, andThen}
 use Rattle.products.specs.Multiplying.{row, multiplied}
 use Rattle.ways.specs.Imaging.{imaged}
 use Rattle.merging.specs.Joining.{joined, fitting, united}
@@ -48,7 +48,7 @@ module _ (room : ℕ) where
   joint-fits a b = product-stays a b [] zero-le
 
   -- one step after another
-  stays-next : (b : Building) (f : List ℕ → Building) → length (b .set) ≤ room → Stays f → length (next b f .set) ≤ room
+  stays-next : (b : Building) (f : List ℕ → Building) → length (b .set) ≤ room → Stays f → length (andThen b f .set) ≤ room
   stays-next b f h q = after (b .whole)
     where
       after : (t : Bool) → length (goesOn t b f .set) ≤ room
@@ -88,7 +88,8 @@ module _ (room : ℕ) where
   both-stays newA a newB b s l = stays-next (eitherAdded room newA newB s) (jointAdded room newA a newB b) (either-stays newA newB s l)
       (joint-stays newA a newB b)
 
-  pub through-grown-fits : (old : List ℕ) (way : Way) (list new : List ℕ) → length (next (copyBuilt room old []) (throughBuilt room way list new) .set) ≤ room
+  pub through-grown-fits : (old : List ℕ) (way : Way) (list new : List ℕ)
+      → length (andThen (copyBuilt room old []) (throughBuilt room way list new) .set) ≤ room
   through-grown-fits old way list new = stays-next (copyBuilt room old []) (throughBuilt room way list new) (copy-fits old) (through-stays way list new)
 
   whole-fits : (sums : Bool) (a b : List ℕ) → length (wholeOf sums room a b [] .set) ≤ room
@@ -100,7 +101,7 @@ module _ (room : ℕ) where
   added-stays false newA a newB b = either-stays newA newB
 
   pub two-grown-fits : (sums : Bool) (old newA a newB b : List ℕ)
-      → length (next (copyBuilt room old []) (madeOr (wholeOf sums room a b) (addedOf sums room newA a newB b)) .set) ≤ room
+      → length (andThen (copyBuilt room old []) (madeOr (wholeOf sums room a b) (addedOf sums room newA a newB b)) .set) ≤ room
   two-grown-fits sums old newA a newB b =
       stays-next (copyBuilt room old []) (madeOr (wholeOf sums room a b) (addedOf sums room newA a newB b)) (copy-fits old)
       (stays-or (wholeOf sums room a b) (addedOf sums room newA a newB b) (whole-fits sums a b) (added-stays sums newA a newB b))

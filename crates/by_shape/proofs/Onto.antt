@@ -9,7 +9,7 @@ use lib.ListN.{length, take}
 use Rattle.sets.specs.declared.Built.{Built}
 use Rattle.sets.specs.declared.Built.the-variants.{Holds}
 use Rattle.parts.specs.Parts.{setAt, laid, roomAt}
-use Rattle.sets.specs.Building.{Building, answerOf, goesOn, next, Grown}
+use Rattle.sets.specs.Building.{Building, answerOf, goesOn, andThen, Grown}
 use Rattle.sets.proofs.Steps.{Steady, grown-as, next-holds, built-holds}
 use Rattle.transfers.specs.Laying.{copyBuilt}
 use Rattle.composing.proofs.Makings.{nothing-grown}
@@ -26,10 +26,11 @@ module _ (at most n : ℕ) (old : List ℕ) (second : ℕ → List ℕ → List 
   abbrev copy : Building
   copy = copyBuilt room old (setAt at 0 before)
 
-  pub copy-last : ((m : ℕ) (ls : List ℕ) → Steady m (second m ls)) → Grown (λ s. next (copyBuilt room old s) (second room (take at before))) at 0 before after r
+  pub copy-last : ((m : ℕ) (ls : List ℕ) → Steady m (second m ls))
+      → Grown (λ s. andThen (copyBuilt room old s) (second room (take at before))) at 0 before after r
   copy-last steady = then-last at 0 most (copyBuilt room old) second before now n r after (let h = copy-fits room old in omega arith) steady x y
 
-  goes-on : (b : Building) (first more : List ℕ → Building) → (length (b .set) ≡ 0 → ⊥) → next b more ≡ next b (madeOr first more)
+  goes-on : (b : Building) (first more : List ℕ → Building) → (length (b .set) ≡ 0 → ⊥) → andThen b more ≡ andThen b (madeOr first more)
   goes-on b first more some = by (b .whole)
     where
       from : (s : List ℕ) → (length s ≡ 0 → ⊥) → more s ≡ madeOr first more s
@@ -41,7 +42,7 @@ module _ (at most n : ℕ) (old : List ℕ) (second : ℕ → List ℕ → List 
       by false = refl
 
   pub more-last : (first : List ℕ → Building) → (n ≡ 0 → ⊥) → ((m : ℕ) (ls : List ℕ) → Steady m (second m ls))
-      → Grown (λ s. next (copyBuilt room old s) (madeOr first (second room (take at before)))) at 0 before after r
+      → Grown (λ s. andThen (copyBuilt room old s) (madeOr first (second room (take at before)))) at 0 before after r
   more-last first some steady =
       let size : n ≡ length (copy .set) = built-holds (copy .whole) (length (copy .set)) n (x .answer) .1 in
       grown-as (λ s. goes-on copy first (second room (take at before)) (λ e. some (size ∙ e))) (copy-last steady)
@@ -51,7 +52,7 @@ pub whole-last : (at most n : ℕ) (old : List ℕ) (second : ℕ → List ℕ �
     (after : List ℕ) → n ≡ 0
     → Grown (copyBuilt (roomAt at most (length before)) old) at 0 before now (Holds n)
     → Grown (second (roomAt at most (length now)) (take at now)) at 0 now after r
-    → Grown (λ s. next (copyBuilt (roomAt at most (length before)) old s) (madeOr (second (roomAt at most (length before)) (take at before)) more)) at
+    → Grown (λ s. andThen (copyBuilt (roomAt at most (length before)) old s) (madeOr (second (roomAt at most (length before)) (take at before)) more)) at
     0 before after r
 whole-last at most n old second more before now r after none x y =
     let room = roomAt at most (length before) in
@@ -61,7 +62,7 @@ whole-last at most n old second more before now r after none x y =
     let same : now ≡ before = x .words ∙ ap (λ (s : List ℕ). laid at s before) empty ∙ sym (nothing-grown at before .words) in
     let z : Grown (second room (take at before)) at 0 before after r =
     subst (λ (ls : List ℕ). Grown (second (roomAt at most (length ls)) (take at ls)) at 0 ls after r) same y in
-    let goal : next copy (madeOr (second room (take at before)) more) ≡ second room (take at before) [] =
+    let goal : andThen copy (madeOr (second room (take at before)) more) ≡ second room (take at before) [] =
     next-holds copy (madeOr (second room (take at before)) more) n (x .answer) .0 ∙ ap (madeOr (second room (take at before)) more) empty in
     record { answer = z .answer ∙ ap answerOf (sym goal); words = z .words ∙ ap (λ (b : Building). laid at (b .set) before) (sym goal) }
   where

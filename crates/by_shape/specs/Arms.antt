@@ -4,7 +4,7 @@ use mathlib.Core.Bool.{Bool}
 use mathlib.Core.List.{List, [], _∷_}
 use Prim.Native.Nat.{ℕ}
 use Rattle.slots.specs.declared.Operator.{Operator}
-use Rattle.sets.specs.Building.{Building, next}
+use Rattle.sets.specs.Building.{Building, andThen}
 use Rattle.growth.specs.Fresh.{fresh, throughBuilt}
 use Rattle.wrapping.specs.Ways.{wayFor, wordsFor}
 use Rattle.composing.specs.Adding.{wholeOf, addedOf}
@@ -23,10 +23,10 @@ madeOr first more (w ∷ s) = more (w ∷ s)
 -- What is built of two operands, and of one through an operator, where `old` is the set in the round before.
 abbrev pub twoGrown : (sums : Bool) (room at : ℕ) (before this work old : List ℕ) → ℕ → ℕ → List ℕ → Building
 twoGrown sums room at before this work old t u s =
-    next (copyBuilt room old s)
+    andThen (copyBuilt room old s)
     (madeOr (wholeOf sums room (partIn at half this t work) (partIn at half this u work))
     (addedOf sums room (newOf at before this work t) (partIn at half this t work) (newOf at before this work u) (partIn at half this u work)))
 
 abbrev pub throughGrown : (room at : ℕ) (store before this work old : List ℕ) → Operator → ℕ → List ℕ → Building
 throughGrown room at store before this work old o t s =
-    next (copyBuilt room old s) (throughBuilt room (wayFor o) (wordsFor store o) (newOf at before this work t))
+    andThen (copyBuilt room old s) (throughBuilt room (wayFor o) (wordsFor store o) (newOf at before this work t))

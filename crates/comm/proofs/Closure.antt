@@ -17,7 +17,7 @@ use Rattle.sets.specs.declared.Offer.{Offer}
 use Rattle.sets.specs.declared.Offer.the-variants.{Nothing, TooLong, Next}
 use Rattle.parts.specs.Parts.{setAt, roomAt, reachOf}
 use Rattle.sets.specs.Inserting.{inserted, Entered}
-use Rattle.sets.specs.Building.{Building, done, next, followed, enter, taken, Grown}
+use Rattle.sets.specs.Building.{Building, done, andThen, followedBy, enter, taken, Grown}
 use Rattle.sets.proofs.Steps.{Steady, steady-done, steady-next, steady-followed, steady-taken, steady-enter, Going, going-start}
 use Rattle.sets.proofs.Steps.{going-length, going-end, going-stop, going-as, going-holds, going-large, going-last, grown-as}
 use Rattle.sets.proofs.Steps.{followed-stops, followed-stays, followed-going, followed-ends, insertedThen}
@@ -88,7 +88,7 @@ module _ {at len most depth w : ℕ} {rules before now : List ℕ} {count i : �
   following-end h = let p = going-end (x .going) (λ s. rw (exchanges-nil rules i h)) in record { answer = p .0; words = p .1 }
 
   module _ (h : i + 1 < length rules) {o : Offer} (made : o ≡ exchangeOf (getD rules i 0) (getD rules (i + 1) 0) w) where
-    going-offered : Going at before now count (λ s. next (taken (closed room (exchangesIn rules) depth) o s) (rest (i + 2)))
+    going-offered : Going at before now count (λ s. andThen (taken (closed room (exchangesIn rules) depth) o s) (rest (i + 2)))
         (rest 0 (setAt at len before))
     unfolding eachRule
     going-offered = going-as _ (x .going) (λ s. rw (exchanges-cons rules i h, made))
@@ -107,7 +107,7 @@ module _ {at len most depth w : ℕ} {rules before now : List ℕ} {count i : �
       steady-step : (room : ℕ) → Steady room (step room)
       steady-step room = steady-closed room (exchangesIn rules) depth (code a)
 
-      going-step : Going at before now count (λ s. next (step room s) (rest (i + 2))) (rest 0 (setAt at len before))
+      going-step : Going at before now count (λ s. andThen (step room s) (rest (i + 2))) (rest 0 (setAt at len before))
       going-step = going-as _ going-offered (λ s. rw e)
 
       pub following-next : {n : ℕ} → r ≡ Holds n → Following at len most depth w rules before after n (i + 2)

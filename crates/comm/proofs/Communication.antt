@@ -18,7 +18,7 @@ use Rattle.meaning.specs.Legal.{Each, LegalRule}
 use Rattle.meaning.specs.Rounds.{replaced, applied, communicated}
 use Rattle.meaning.proofs.Bags.{length-minus, length-several, size-minus, size-several}
 use Rattle.meaning.proofs.Digits.{number-injective}
-use Rattle.meaning.proofs.Sorted.{Within}
+use Rattle.meaning.proofs.Ascent.{Within}
 use Rattle.meaning.proofs.Members.{in-append, in-ascending, in-spread, in-spread→, in-map, in-map→}
 use Rattle.meaning.proofs.Operators.{in-applied, in-applied→, length-replaced, fewer-left}
 use Rattle.labels.specs.Packing.{packed}
@@ -28,8 +28,8 @@ use Rattle.sets.specs.declared.Inserted.{Inserted}
 use Rattle.sets.specs.declared.Inserted.the-variants.{Full, Present, Added}
 use Rattle.sets.specs.declared.Offer.the-variants.{Next}
 use Rattle.sets.specs.Inserting.{present, putIn, pickInserted, inserted, insertNumber}
-use Rattle.sets.specs.Building.{Building, done, goesOn, next, each, followed, taken}
-use Rattle.sets.proofs.Sorting.{insert-present, insert-absent}
+use Rattle.sets.specs.Building.{Building, done, goesOn, andThen, each, followedBy, taken}
+use Rattle.sets.proofs.Ascent.{insert-present, insert-absent}
 use Rattle.sets.proofs.Steps.{length-putIn}
 use Rattle.sets.proofs.Refinement.{AllPack, packs-cons, insert-ascending, numbers-rising, ascending-same, TooMuch, too-much-more, Outcome, each-outcome}
 use Rattle.comm.specs.Following.{eachRule, mostApplications, closed}
@@ -173,7 +173,7 @@ module _ (names : ℕ) (few : names ≤ 12) (rs : List Rule) (legal : Each (Lega
   walk-next : {M : List Label} {May Other : Label → Type 0} {Must Last Both : List Label → Type 0} {b : Building} (rest : List ℕ → Building)
       → ((x : Label) → Other x → May x) → ((N K : List Label) → Within N K → Must N → Last K → Both K)
       → Walk M Other Must b → ((N : List Label) → AllPack names N → Walk N May Last (rest (numbers N)))
-      → Walk M May Both (next b rest)
+      → Walk M May Both (andThen b rest)
   walk-next rest inner join (inl (N, x)) more = walked-on inner x (join N) (rw (x .built) (more N (x .packs)))
   walk-next {b = b} rest inner join (inr x) more = inr (record {
     part = x .part;
@@ -284,7 +284,7 @@ module _ (names : ℕ) (few : names ≤ 12) (rs : List Rule) (legal : Each (Lega
     only-label (inr f) = inr f
 
     after-inserted : (o : Inserted) → Finds a M o → (more : List ℕ → Building) → Walk (a ∷ M) (From a) (AllOf rs a) (more (numbers (a ∷ M)))
-        → PutIn a M (followed o (number a) more (numbers M))
+        → PutIn a M (followedBy o (number a) more (numbers M))
     after-inserted o (there e m) more w = rw e (walk-stays M (From a) (λ N. a ∈ N) q m)
     after-inserted o (full e h) more w =
         rw e (inr (record { part = a ∷ M; stops = refl; much = inl h; only = λ c m. only-label (inl m) }))

@@ -3,13 +3,13 @@
 use mathlib.Core.List.{List, [], _∷_}
 use Prim.Native.Nat.{ℕ, zero, suc}
 use Rattle.sets.specs.Inserting.{inserted}
-use Rattle.sets.specs.Building.{Building, done, next, followed, enter, taken}
+use Rattle.sets.specs.Building.{Building, done, andThen, followedBy, enter, taken}
 use Rattle.comm.specs.Rules.{Exchange, exchangeOf}
 
 -- each rule in turn
 unfoldable pub eachRule : (ℕ → List ℕ → Building) → List Exchange → ℕ → List ℕ → Building
 eachRule step [] w s = done s
-eachRule step (r ∷ rs) w s = next (taken step (exchangeOf (r .left) (r .right) w) s) (eachRule step rs w)
+eachRule step (r ∷ rs) w s = andThen (taken step (exchangeOf (r .left) (r .right) w) s) (eachRule step rs w)
 
 -- How many applications one after the other are followed: an application leaves fewer actions than there were, and a label has
 -- at most 31.
@@ -22,4 +22,4 @@ mostApplications = 31
 -- others: `comm-outcome` in proofs/Communication.antt.
 unfoldable pub closed : ℕ → List Exchange → ℕ → ℕ → List ℕ → Building
 closed room rs zero w s = enter room w s
-closed room rs (suc depth) w s = followed (inserted room w s) w (eachRule (closed room rs depth) rs w) s
+closed room rs (suc depth) w s = followedBy (inserted room w s) w (eachRule (closed room rs depth) rs w) s

@@ -18,7 +18,7 @@ use Rattle.merging.specs.Joining.{joined, fitting, united}
 use Rattle.parts.specs.Comparing.{ascent}
 use Rattle.sets.proofs.Steps.{Steady, steady-each, Going, going-last, grown-as, next-holds, next-large, built-holds}
 use Rattle.products.proofs.Products.{steady-row}
-use Rattle.sets.proofs.Walking.{part-stays}
+use Rattle.sets.proofs.Walks.{part-stays}
 use Rattle.composing.specs.Making.{bothBuilt}
 
 pub steady-multiplied : (room : ℕ) (a b : List ℕ) → Steady room (multiplied room a b)

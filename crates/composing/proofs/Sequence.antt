@@ -12,9 +12,9 @@ use Rattle.parts.specs.declared.Target.{Target}
 use Rattle.ways.specs.declared.Way.{Way}
 use Rattle.ways.specs.declared.Way.the-variants.{Copy}
 use Rattle.parts.specs.Parts.{setAt, laid, part, roomAt}
-use Rattle.sets.specs.Building.{Building, answerOf, next, each, Grown, GrownAt}
+use Rattle.sets.specs.Building.{Building, answerOf, andThen, each, Grown, GrownAt}
 use Rattle.ways.specs.Imaging.{imaged}
-use Rattle.parts.proofs.Laid.{length-setAt, take-laid}
+use Rattle.parts.proofs.LaidSets.{length-setAt, take-laid}
 use Rattle.sets.proofs.Steps.{Steady, steady-each, steady-next, Going, going-last, grown-as, next-holds, next-large, built-holds}
 use Rattle.ways.proofs.Images.{steady-imaged}
 use Rattle.places.specs.declared.Growth.{Growth}
@@ -26,7 +26,7 @@ use Rattle.composing.specs.Adding.{wordsIn, newFrom, givenFrom, eachAdde
 
 -- The first step is stopped.
 pub first-large : (at len : ℕ) (first rest : List ℕ → Building) (before now : List ℕ) → Grown first at len before now TooLarge
-    → Grown (λ s. next (first s) rest) at len before now TooLarge
+    → Grown (λ s. andThen (first s) rest) at len before now TooLarge
 first-large at len first rest before now x =
     let e = next-large (first (setAt at len before)) rest (x .answer) in
     record { answer = x .answer ∙ ap answerOf (sym e); words = x .words ∙ ap (λ (b : Building). laid at (b .set) before) (sym e) }
@@ -39,10 +39,10 @@ module _ (at len most : ℕ) (first : List ℕ → Building) (second : ℕ → L
   pub then-last : (n : ℕ) (r : Built) (after : List ℕ) → length (first (setAt at len before) .set) ≤ length before - at
       → ((m : ℕ) (ls : List ℕ) → Steady m (second m ls))
       → Grown first at len before now (Holds n) → Grown (second (roomAt at most (length now)) (take at now)) at n now after r
-      → Grown (λ s. next (first s) rest) at len before after r
+      → Grown (λ s. andThen (first s) rest) at len before after r
   then-last n r after fits steady x y =
       let b = first (setAt at len before) in
-      let going : Going at before now n rest (next b rest) = record {
+      let going : Going at before now n rest (andThen b rest) = record {
         set = b .set;
         held = x .words;
         count = built-holds (b .whole) (length (b .set)) n (x .answer) .1;
@@ -57,7 +57,7 @@ module _ (at len most : ℕ) (first : List ℕ → Building) (second : ℕ → L
 -- Two steps that keep a set within the room.
 module _ (t : Target) (first second : ℕ → List ℕ → List ℕ → Building) (before now : List ℕ) where
   abbrev Both : List ℕ → Built → Type 0
-  Both after r = GrownAt t (λ m s. next (first m (take (t .at) before) s) (second m (take (t .at) before))) before after r
+  Both after r = GrownAt t (λ m s. andThen (first m (take (t .at) before) s) (second m (take (t .at) before))) before after r
 
   abbrev begun : List ℕ → Building
   begun = first (roomAt (t .at) (t .most) (length before)) (take (t .at) before)

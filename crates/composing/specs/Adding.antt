@@ -5,7 +5,7 @@ use mathlib.Core.List.{List, []}
 use Prim.Native.Nat.{ℕ}
 use Rattle.ways.specs.declared.Way.the-variants.{Copy}
 use Rattle.parts.specs.Parts.{part, wordsOf}
-use Rattle.sets.specs.Building.{Building, next, each, GrownAt}
+use Rattle.sets.specs.Building.{Building, andThen, each, GrownAt}
 use Rattle.products.specs.Multiplying.{row, multiplied}
 use Rattle.ways.specs.Imaging.{imaged}
 use Rattle.sets.specs.declared.Built.{Built}
@@ -30,17 +30,17 @@ givenFrom room ls (Times by) = row room (wordsIn by ls)
 
 -- what the new labels of one set give, and then those of another
 abbrev pub eachAdded : ℕ → List ℕ → Growth → Giving → Growth → Giving → List ℕ → Building
-eachAdded room ls a byA b byB s = next (each (givenFrom room ls byA) (newFrom a ls) s) (each (givenFrom room ls byB) (newFrom b ls))
+eachAdded room ls a byA b byB s = andThen (each (givenFrom room ls byA) (newFrom a ls) s) (each (givenFrom room ls byB) (newFrom b ls))
 
 -- What is added to a set for the new labels of two others: those labels; every sum with one of them.
 abbrev pub eitherAdded : ℕ → (newA newB : List ℕ) → List ℕ → Building
-eitherAdded room newA newB s = next (throughBuilt room Copy [] newA s) (throughBuilt room Copy [] newB)
+eitherAdded room newA newB s = andThen (throughBuilt room Copy [] newA s) (throughBuilt room Copy [] newB)
 
 abbrev pub jointAdded : ℕ → (newA a newB b : List ℕ) → List ℕ → Building
-jointAdded room newA a newB b s = next (multiplied room newA b s) (multiplied room newB a)
+jointAdded room newA a newB b s = andThen (multiplied room newA b s) (multiplied room newB a)
 
 abbrev pub bothAdded : ℕ → (newA a newB b : List ℕ) → List ℕ → Building
-bothAdded room newA a newB b s = next (eitherAdded room newA newB s) (jointAdded room newA a newB b)
+bothAdded room newA a newB b s = andThen (eitherAdded room newA newB s) (jointAdded room newA a newB b)
 
 -- `sums` says whether every sum goes in as well.
 abbrev pub wholeOf : (sums : Bool) → ℕ → (a b : List ℕ) → List ℕ → Building

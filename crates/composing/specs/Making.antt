@@ -2,7 +2,7 @@
 -- Assumes nothing.
 use mathlib.Core.List.{List}
 use Prim.Native.Nat.{ℕ}
-use Rattle.sets.specs.Building.{Building, next, enter}
+use Rattle.sets.specs.Building.{Building, andThen, enter}
 use Rattle.products.specs.Multiplying.{multiplied}
 use Rattle.merging.specs.Joining.{united}
 
@@ -16,4 +16,4 @@ abbrev pub jointBuilt : ℕ → List ℕ → List ℕ → List ℕ → Building
 jointBuilt room a b s = multiplied room a b s
 
 abbrev pub bothBuilt : ℕ → List ℕ → List ℕ → List ℕ → Building
-bothBuilt room a b s = next (united room a b) (multiplied room a b)
+bothBuilt room a b s = andThen (united room a b) (multiplied room a b)

@@ -19,8 +19,8 @@ use Rattle.slots.proofs.Term as TermType
 use Rattle.slots.specs.declared.Term.{Term}
 use Rattle.slots.specs.declared.Term.the-variants.{Delta, Tau, Act, Ref, Sum, Cond, Choice, IfElse, Seq, Merge, LMerge, Sync, Wrap}
 use Rattle.slots.specs.declared.Operator.the-variants.{Block, Hide, Rename, Comm, Allow}
-use Rattle.slots.specs.Packing.{packed, termWord, kindTerm, wordTerm}
-use Rattle.slots.proofs.Packed.{wordTerm-packed}
+use Rattle.slots.specs.Packing.{packedTerm, termWord, kindTerm, wordTerm}
+use Rattle.slots.proofs.PackedKinds.{wordTerm-packed}
 use Rattle.grammar.specs.Forms.{Line, termLine}
 use Rattle.grammar.specs.Faults.{Found, fine, worse, unless, inRange, operandsFit, termSaid, wordsOfFault, termFault}
 use Rattle.faults.specs.CodedFaults.{foundOf}
@@ -51,7 +51,7 @@ kept f h n (D.wrap o t) = h _ o t
 
 -- and so it has in its word, though a number may be cut there
 of-kind : (k t u entries : ℕ) → k < 32
-    → isMultiAction (bareSlot (packed k t u entries)) ≡ isMultiAction (bareTerm (kindTerm k (t % 65536) (u % 65536) (entries % 65536)))
+    → isMultiAction (bareSlot (packedTerm k t u entries)) ≡ isMultiAction (bareTerm (kindTerm k (t % 65536) (u % 65536) (entries % 65536)))
 of-kind k t u entries h = ap (λ (x : Term). isMultiAction (bareTerm x)) (wordTerm-packed k t u entries h)
 
 multi-word : (x : Term) → isMultiAction (bareSlot (termWord x)) ≡ isMultiAction (bareTerm x)

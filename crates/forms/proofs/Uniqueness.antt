@@ -13,7 +13,7 @@ use Rattle.table.specs.Encoded.{termWords, termFor, filled, slotsFrom}
 use Rattle.grammar.specs.Forms.{Line, termLine}
 use Rattle.grammar.specs.Faults.{termSaid, termFault}
 use Rattle.faults.specs.declared.Found.the-variants.{Fine}
-use Rattle.lists.specs.Lists.{over}
+use Rattle.lists.specs.Lists.{overlaid}
 use Rattle.tails.specs.declared.TermStep.{TermStep}
 use Rattle.tails.specs.declared.TermStep.the-variants as T
 use Rattle.tails.proofs.Uniqueness.{took, Meets, seen-unique, termSeen}
@@ -24,7 +24,7 @@ module _ (line : Text) (before : List ℕ) (words : List Text) (equations : ℕ)
   made l = termFor (length terms) (termSaid words l)
 
   abbrev stores : Line → List ℕ
-  stores l = over (termWords (termSaid words l)) before
+  stores l = overlaid (termWords (termSaid words l)) before
 
   term-meets : (after : List ℕ) (r : TermStep) → TermRead words equations terms line before after r
       → Meets (termLine line) made (termFault words equations terms) stores after (termSeen line r)

@@ -14,7 +14,7 @@ use Rattle.grammar.specs.Forms.{Line, termLine}
 use Rattle.grammar.specs.Faults.{fine, termSaid, termFault}
 use Rattle.faults.specs.CodedFaults.{foundOf}
 use Rattle.faults.specs.declared.Found as G
-use Rattle.lists.specs.Lists.{over}
+use Rattle.lists.specs.Lists.{overlaid}
 use Rattle.tails.specs.Lines.{LineRead}
 use Rattle.tails.specs.declared.TermStep.{TermStep}
 use Rattle.tails.specs.declared.TermStep.the-variants as T
@@ -32,7 +32,7 @@ pub record TermTaken (words : List Text) (equations : ℕ) (terms : List D.Term)
   pub says : past line [] ≡ due
   pub term : x ≡ termFor (length terms) (termSaid words line)
   pub faults : foundOf f ≡ termFault words equations terms line
-  pub stored : termFault words equations terms line ≡ fine → after ≡ over (termWords (termSaid words line)) before
+  pub stored : termFault words equations terms line ≡ fine → after ≡ overlaid (termWords (termSaid words line)) before
   pub long : length after ≡ length before
 
 abbrev pub TermRead : List Text → ℕ → List D.Term → Text → List ℕ → List ℕ → TermStep → Type 0

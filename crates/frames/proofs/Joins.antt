@@ -11,7 +11,7 @@ use Rattle.meaning.specs.Descriptions.{Term, Description}
 use Rattle.meaning.specs.Answers.{form, range}
 use Rattle.faults.specs.CodedFaults.{faultOf}
 use Rattle.faults.specs.declared.Fault as F
-use Rattle.grammar.specs.Reading.{Taken, taken, faulty, takeNumber, nameCount, equationCount, termCount, takeName, takeBody}
+use Rattle.grammar.specs.Reading.{Taken, taken, faulty, takeNumber, namesInRange, equationsInRange, termsInRange, takeName, takeBody}
 use Rattle.grammar.specs.Reading.{Cut, cut, noLine, firstLine, Walk, reached, halted, walk, afterLine, lineWalk, oneLine, lines}
 use Rattle.grammar.specs.Reading.{Whole, fromOrder, fromRoot, fromBodies, fromTerms, fromCounts, fromNames, wholeText}
 use Rattle.textlines.specs.declared.Progress.the-variants.{To, Bad}
@@ -33,16 +33,16 @@ onTerms h line s = fromTerms (h .words) (h .equations) (h .terms) line s
 
 module _ (words : List Text) where
   terms-join : (e line : ℕ) (s : Text) → walk (headTerms words e line s) onTerms
-      ≡ walk (oneLine (takeNumber (ascii "terms=") termCount form) line s) (λ t line s. fromTerms words e t line s)
+      ≡ walk (oneLine (takeNumber (ascii "terms=") termsInRange form) line s) (λ t line s. fromTerms words e t line s)
   terms-join e line s =
-      walk-walk (oneLine (takeNumber (ascii "terms=") termCount form) line s)
+      walk-walk (oneLine (takeNumber (ascii "terms=") termsInRange form) line s)
       (λ t line s. reached (record { words = words; equations = e; terms = t }) line s) onTerms (λ t line s. fromTerms words e t line s)
       (λ t line s. refl)
 
   counts-join : (line : ℕ) (s : Text) → walk (headEquations words line s) onTerms ≡ fromCounts words line s
   counts-join line s =
-      walk-walk (oneLine (takeNumber (ascii "equations=") equationCount form) line s) (λ e line s. headTerms words e line s) onTerms
-      (λ e line s. walk (oneLine (takeNumber (ascii "terms=") termCount form) line s) (λ t line s. fromTerms words e t line s)) terms-join
+      walk-walk (oneLine (takeNumber (ascii "equations=") equationsInRange form) line s) (λ e line s. headTerms words e line s) onTerms
+      (λ e line s. walk (oneLine (takeNumber (ascii "terms=") termsInRange form) line s) (λ t line s. fromTerms words e t line s)) terms-join
 
 names-join : (n line : ℕ) (s : Text) → walk (headNames n line s) onTerms ≡ fromNames n line s
 names-join n line s =
@@ -51,7 +51,7 @@ names-join n line s =
 pub head-joins : (text : Text) → walk (headText text) (λ h line s. fromTerms (h .words) (h .equations) (h .terms) line s) ≡ wholeText text
 unfolding headText wholeText
 head-joins text =
-    walk-walk (oneLine (takeNumber (ascii "names=") nameCount form) 1 text) (λ n line s. headNames n line s) onTerms (λ n line s. fromNames n line s)
+    walk-walk (oneLine (takeNumber (ascii "names=") namesInRange form) 1 text) (λ n line s. headNames n line s) onTerms (λ n line s. fromNames n line s)
     names-join
 
 -- After the terms.

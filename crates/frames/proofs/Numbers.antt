@@ -14,7 +14,7 @@ use Rattle.faults.specs.CodedFaults.{faultOf}
 use Rattle.faults.specs.declared.Fault as F
 use Rattle.grammar.specs.Text.{Past, past, stuck}
 use Rattle.grammar.specs.Forms.{countLine}
-use Rattle.grammar.specs.Reading.{takenIf, formed, takeNumber, nameCount, equationCount, termCount}
+use Rattle.grammar.specs.Reading.{takenIf, formed, takeNumber, namesInRange, equationsInRange, termsInRange}
 use Rattle.grammar.specs.Reading.{Cut, cut, noLine, firstLine, Walk, reached, halted, afterLine, lineWalk, oneLine}
 use Rattle.textlines.specs.Lines.{between, NumberTo}
 use Rattle.textlines.specs.declared.Progress.{Progress}
@@ -44,13 +44,13 @@ at-most n m = cases (leb n m) refl
 pub below-test : (t n : ℕ) → between 0 t n ≡ ltb n t
 below-test t n = rw (le-leb 0 n (omega arith))
 
-pub names-test : (n : ℕ) → between 1 13 n ≡ nameCount n
+pub names-test : (n : ℕ) → between 1 13 n ≡ namesInRange n
 names-test n = rw (at-most n 12)
 
-pub equations-test : (n : ℕ) → between 0 17 n ≡ equationCount n
+pub equations-test : (n : ℕ) → between 0 17 n ≡ equationsInRange n
 equations-test n = rw (le-leb 0 n (omega arith), at-most n 16)
 
-pub terms-test : (n : ℕ) → between 1 97 n ≡ termCount n
+pub terms-test : (n : ℕ) → between 1 97 n ≡ termsInRange n
 terms-test n = rw (at-most n 96)
 
 -- The rest of a text from a place on, as it is lent.

@@ -10,7 +10,7 @@ use Rattle.table.specs.Decoded.{nameOf}
 use Rattle.table.specs.Encoded.{filled}
 use Rattle.faults.specs.CodedFaults.{faultOf}
 use Rattle.faults.specs.declared.Fault as F
-use Rattle.grammar.specs.Reading.{takeNumber, nameCount, equationCount, termCount, takeName, Walk, reached, halted, walk, oneLine, lines}
+use Rattle.grammar.specs.Reading.{takeNumber, namesInRange, equationsInRange, termsInRange, takeName, Walk, reached, halted, walk, oneLine, lines}
 use Rattle.textlines.specs.declared.Progress.{Progress}
 use Rattle.textlines.specs.declared.Progress.the-variants.{To, Bad}
 use Rattle.sections.specs.Arrays.{Padded}
@@ -25,18 +25,18 @@ pub record Heading : Type 0 where
 -- The lines in their order; each is followed by the next, and so is said after it: read from `headText` upwards.
 abbrev pub headTerms : List Text → ℕ → ℕ → Text → Walk Heading
 headTerms words e line s =
-    walk (oneLine (takeNumber (ascii "terms=") termCount form) line s) (λ t line s.
+    walk (oneLine (takeNumber (ascii "terms=") termsInRange form) line s) (λ t line s.
     reached (record { words = words; equations = e; terms = t }) line s)
 
 abbrev pub headEquations : List Text → ℕ → Text → Walk Heading
 headEquations words line s =
-    walk (oneLine (takeNumber (ascii "equations=") equationCount form) line s) (λ e line s. headTerms words e line s)
+    walk (oneLine (takeNumber (ascii "equations=") equationsInRange form) line s) (λ e line s. headTerms words e line s)
 
 abbrev pub headNames : ℕ → ℕ → Text → Walk Heading
 headNames n line s = walk (lines takeName n [] line s) (λ words line s. headEquations words line s)
 
 unfoldable pub headText : Text → Walk Heading
-headText text = walk (oneLine (takeNumber (ascii "names=") nameCount form) 1 text) (λ n line s. headNames n line s)
+headText text = walk (oneLine (takeNumber (ascii "names=") namesInRange form) 1 text) (λ n line s. headNames n line s)
 
 -- What is returned after a bad line.
 abbrev pub noHead : Progress → Head

@@ -17,7 +17,7 @@ use Rattle.meaning.specs.Answers.{Fault, form, name, range, operand}
 use Rattle.meaning.proofs.Tests.{and-left, and-right, and-both}
 use Rattle.grammar.specs.Forms.{countLine, nameLine}
 use Rattle.grammar.specs.Faults.{worse, unless, inRange, operandsFit, termSaid, termFault}
-use Rattle.grammar.specs.Reading.{takeNumber, nameCount, equationCount, termCount, isFree, takeName, takeTerm, takeBody, takeOrder, Walk}
+use Rattle.grammar.specs.Reading.{takeNumber, namesInRange, equationsInRange, termsInRange, isFree, takeName, takeTerm, takeBody, takeOrder, Walk}
 use Rattle.grammar.specs.Reading.{reached, halted, Reading, read, overlong, badLine, allRead, Whole, wholeText, readText}
 use Rattle.grammar.specs.Marks.{decimal}
 use Rattle.grammar.specs.Writing.{termText, orderText, written, LegalWords}
@@ -81,11 +81,11 @@ within least most n = (
 whole→ : (t : Text) → Ends (wholeText t) (λ w r. r ≡ [] → Accepted (w .given) (w .order) t)
 unfolding wholeText
 whole→ t =
-    ends-walk (ends-line (takes-number (ascii "names=") tt nameCount form) 1 t) (λ n l₁ r₁ a₁.
+    ends-walk (ends-line (takes-number (ascii "names=") tt namesInRange form) 1 t) (λ n l₁ r₁ a₁.
     ends-walk (ends-section takes-name n l₁ r₁) (λ words l₂ r₂ a₂.
     let good = legal-words words .0 (a₂ .2) in
-    ends-walk (ends-line (takes-number (ascii "equations=") tt equationCount form) l₂ r₂) (λ e l₃ r₃ a₃.
-    ends-walk (ends-line (takes-number (ascii "terms=") tt termCount form) l₃ r₃) (λ c l₄ r₄ a₄.
+    ends-walk (ends-line (takes-number (ascii "equations=") tt equationsInRange form) l₂ r₂) (λ e l₃ r₃ a₃.
+    ends-walk (ends-line (takes-number (ascii "terms=") tt termsInRange form) l₃ r₃) (λ c l₄ r₄ a₄.
     ends-walk (ends-section (takes-term words good e) c l₄ r₄) (λ terms l₅ r₅ a₅.
     ends-walk (ends-section (takes-body c) e l₅ r₅) (λ bodies l₆ r₆ a₆.
     ends-walk (ends-line (takes-number (ascii "root=") tt (λ r. ltb r c) range) l₆ r₆) (λ root l₇ r₇ a₇.
@@ -98,8 +98,8 @@ whole→ t =
     ends-reached (λ end. record {
       writes = unfold written in (cc);
       legal = record {
-        nameCount = (omega arith, omega arith);
-        equationCount = omega arith;
+        namesInRange = (omega arith, omega arith);
+        equationsInRange = omega arith;
         termsCount = (omega arith, omega arith);
         terms = legal-terms d (omega arith) [] terms refl (omega arith) .0 (subst (λ k. LegalAfter (NewTerm (length words) k) [] terms) (sym (a₆ .1)) (a₅ .2));
         bodies = legal-bodies (length terms) (omega arith) [] bodies .0 (subst (λ k. LegalAfter (NewBody k) [] bodies) (sym (a₅ .1)) (a₆ .2));
@@ -120,10 +120,10 @@ whole← d o legal good =
     let t = D.termCount d in
     let legalTerms = legal-terms d (omega arith) [] (d .terms) refl (omega arith) .1 (legal .terms) in
     let legalBodies = legal-bodies t (omega arith) [] (d .bodies) .1 (legal .bodies) in
-    walk← _ (one-line← (takes-number (ascii "names=") tt nameCount form) 1 (names d) _ (omega arith, within 1 12 (names d) .1 nameNumber)) (λ l₁.
+    walk← _ (one-line← (takes-number (ascii "names=") tt namesInRange form) 1 (names d) _ (omega arith, within 1 12 (names d) .1 nameNumber)) (λ l₁.
     walk← _ (lines← takes-name (d .words) [] l₁ _ (legal-words (d .words) .1 good)) (λ l₂.
-    walk← _ (one-line← (takes-number (ascii "equations=") tt equationCount form) l₂ e _ (omega arith, le→leb e 16 equationNumber)) (λ l₃.
-    walk← _ (one-line← (takes-number (ascii "terms=") tt termCount form) l₃ t _ (omega arith, within 1 96 t .1 termNumber)) (λ l₄.
+    walk← _ (one-line← (takes-number (ascii "equations=") tt equationsInRange form) l₂ e _ (omega arith, le→leb e 16 equationNumber)) (λ l₃.
+    walk← _ (one-line← (takes-number (ascii "terms=") tt termsInRange form) l₃ t _ (omega arith, within 1 96 t .1 termNumber)) (λ l₄.
     walk← _ (lines← (takes-term (d .words) good e) (d .terms) [] l₄ _ legalTerms) (λ l₅.
     walk← _ (lines← (takes-body t) (d .bodies) [] l₅ _ legalBodies) (λ l₆.
     walk← _ (one-line← (takes-number (ascii "root=") tt (λ r. ltb r t) range) l₆ (d .root) _ (omega arith, lt→ltb (d .root) t below)) (λ l₇.

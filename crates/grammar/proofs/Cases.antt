@@ -6,7 +6,7 @@ use mathlib.Core.List.{List, [], _∷_}
 use Prim.Native.String.{String}
 use Rattle.meaning.specs.Bytes.{Text}
 use Rattle.meaning.specs.Legal.{Each}
-use Rattle.grammar.specs.Marks.{digits, followed, joined, partTexts}
+use Rattle.grammar.specs.Marks.{digits, followed, joinedBy, partTexts}
 use Rattle.grammar.specs.Printed.{printedLabel, labelLines, answerText, refusedText}
 use Rattle.grammar.proofs.Marks.{names}
 use Rattle.grammar.proofs.Texts.{text}
@@ -30,5 +30,5 @@ table =
     ∷ []
 
 pub computed : Each (λ c. c .printed ≡ c .expected) table
-unfolding answerText refusedText labelLines printedLabel partTexts joined followed digits
+unfolding answerText refusedText labelLines printedLabel partTexts joinedBy followed digits
 computed = (refl, (refl, (refl, (refl, tt))))

@@ -17,7 +17,7 @@ use Rattle.meaning.specs.Legal.{Each, LegalLabel}
 use Rattle.meaning.proofs.Tests.{decided-by}
 use Rattle.meaning.proofs.Bags.{count-plus, length-plus, length-several, size-plus, size-empty}
 use Rattle.grammar.specs.Forms.{dot}
-use Rattle.grammar.specs.Marks.{joined, partText, partTexts, labelText}
+use Rattle.grammar.specs.Marks.{joinedBy, partText, partTexts, labelText}
 use Rattle.grammar.specs.Writing.{nameText}
 use Rattle.grammar.proofs.Marks.{partTexts-some}
 use Rattle.grammar.proofs.Onwards.{T→true, T-not→false}
@@ -127,8 +127,8 @@ parts-entries words (suc x ∷ a) n h =
     rw (drop-cons words n [] (omega arith), entries-some n x a, partTexts-some word (drop (suc n) words) (suc x) a (λ e. absurd (omega arith)))
     (ap {B = List Text} (λ ts. partText (nameText words n) (suc x) ∷ ts) (parts-entries words a (suc n) (omega arith)))
 
-pub label-entries : (words : List Text) (a : Label) → length a ≡ length words → labelText words a ≡ joined dot (map (entryText words) (entriesFrom 0 a))
-label-entries words a h = ap (joined dot) (parts-entries words a 0 (omega arith))
+pub label-entries : (words : List Text) (a : Label) → length a ≡ length words → labelText words a ≡ joinedBy dot (map (entryText words) (entriesFrom 0 a))
+label-entries words a h = ap (joinedBy dot) (parts-entries words a 0 (omega arith))
 
 held-entries : (n x : ℕ) (a : Label) (i : ℕ) → held (entriesFrom n (x ∷ a)) i ≡ occurs (record { name = n; times = x }) i + held (entriesFrom (suc n) a) i
 unfolding entriesFrom held

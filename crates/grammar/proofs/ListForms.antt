@@ -21,7 +21,7 @@ use Rattle.grammar.specs.Text.{past, sameText, isDigit, isLower, literal
 use Rattle.grammar.specs.Forms.{Part, Parts, comma, dot, colon, greater, part, label, wordList, pair, rule, labelList}
 use Rattle.grammar.specs.Faults.{worse, unless, worst, above, rising, nameNumber, nameFault, labelSaid, actions, partFault, labelFault, wordsFault}
 use Rattle.grammar.specs.Faults.{pairFault, pairsFault, ruleFault, rulesFault, labelsFault, pairSaid, ruleSaid, numberSaid}
-use Rattle.grammar.specs.Marks.{decimal, joined, labelText}
+use Rattle.grammar.specs.Marks.{decimal, joinedBy, labelText}
 use Rattle.grammar.specs.Writing.{nameText, pairText, ruleText, listText, labelsText, inName, LegalWords}
 use Rattle.grammar.proofs.Findings.{IsFine, fine-worse, fine-unless}
 use Rattle.grammar.proofs.Onwards.{same→, sameText-differs, when-past, when-weaken, when-branch}
@@ -102,7 +102,7 @@ module _ (words : List Text) (legal : LegalWords words) where
   abbrev inLabel : ℕ → Bool
   inLabel b = inName b || eqb dot b
 
-  writes-entries : Writes label (map (partSaid words)) (labelFault words) (λ es. joined dot (map (entryText words) es)) (LegalEntries (length words)) inLabel
+  writes-entries : Writes label (map (partSaid words)) (labelFault words) (λ es. joinedBy dot (map (entryText words) es)) (LegalEntries (length words)) inLabel
   unfolding labelFault isLower isDigit
   writes-entries =
       writes-narrow (writes-several writes-part dot tt tt)
@@ -119,7 +119,7 @@ module _ (words : List Text) (legal : LegalWords words) where
         λ l.
             let es = map (partSaid words) ps in
             let h = added-legal (length words) es l in
-            let same = ap (λ es. joined dot (map (entryText words) es)) (sym (h .1)) ∙ sym (label-entries words (added (length words) es) (h .0 .0)) in
+            let same = ap (λ es. joinedBy dot (map (entryText words) es)) (sym (h .1)) ∙ sym (label-entries words (added (length words) es) (h .0 .0)) in
             rw (label-added ps) (same, h .0),
       ))
       (λ a l.

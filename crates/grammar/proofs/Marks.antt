@@ -6,14 +6,14 @@ use Prim.Native.Nat.{ℕ}
 use borrow.Author.Tests.{eq-eqb, ne-eqb}
 use Rattle.meaning.specs.Bytes.{Text, ascii}
 use Rattle.meaning.specs.Labels.{Label}
-use Rattle.grammar.specs.Marks.{digits, decimal, followed, joined, partText, partTexts, labelText}
+use Rattle.grammar.specs.Marks.{digits, decimal, followed, joinedBy, partText, partTexts, labelText}
 
 abbrev pub names : List Text
 names = ascii "done" ∷ ascii "close" ∷ []
 
 pub computed : (labelText names (15 ∷ 1 ∷ []) ≡ ascii "done:15.close:1") × (labelText names (0 ∷ 2 ∷ []) ≡ ascii "close:2")
     × (labelText names (0 ∷ 0 ∷ []) ≡ []) × (decimal 0 ≡ ascii "0") × (decimal 2049 ≡ ascii "2049")
-unfolding partTexts joined followed digits
+unfolding partTexts joinedBy followed digits
 computed = (refl, refl, refl, refl, refl)
 
 -- A name that does not occur has no part, and the part of any other is the first.

@@ -15,7 +15,7 @@ use Rattle.meaning.proofs.Tests.{and-left, and-right}
 use Rattle.grammar.specs.Text.{Past, past, onward, byte, starts, separatedOn, separated}
 use Rattle.grammar.specs.Forms.{lf}
 use Rattle.grammar.specs.Faults.{Found, fine, worse, worst}
-use Rattle.grammar.specs.Marks.{followed, joined}
+use Rattle.grammar.specs.Marks.{followed, joinedBy}
 use Rattle.grammar.proofs.Findings.{IsFine, fine-worse}
 use Rattle.grammar.proofs.Onwards.{T→true, T-not→false, When, when-past, when-stuck, when-weaken, when-branch, onward→, onward←, literal→, literal←}
 
@@ -150,7 +150,7 @@ signs sign (t ∷ ts) = let n = signs sign ts in simp length-append (omega arith
 module _ {X Y : Type 0} {form : Text → Past X} {says : X → Y} {fault : X → Found} {text : Y → Text} {Legal : Y → Type 0} {goes : ℕ → Bool}
     (w : Writes form says fault text Legal goes) (sign : ℕ) (apart : T (not (goes sign))) (in-line : T (not (eqb sign lf))) where
   abbrev several-text : List Y → Text
-  several-text ys = joined sign (map text ys)
+  several-text ys = joinedBy sign (map text ys)
 
   abbrev Several : List Y → Type 0
   Several ys = (1 ≤ length ys) × Each Legal ys
@@ -160,13 +160,13 @@ module _ {X Y : Type 0} {form : Text → Past X} {says : X → Y} {fault : X →
 
   -- what is joined behind a first one
   behind : (ys : List Y) → 1 ≤ length ys → followed sign (map text ys) ≡ sign ∷ several-text ys
-  unfolding followed joined
+  unfolding followed joinedBy
   behind [] h = absurd (omega arith)
   behind (y ∷ ys) h = refl
 
   several-sound : (more : ℕ) (s : Text) → When (separatedOn sign form more s)
       (λ xs r. IsFine (worst fault xs) → (s ≡ several-text (map says xs) ++ r) × Several (map says xs))
-  unfolding separatedOn joined followed worst
+  unfolding separatedOn joinedBy followed worst
   several-sound zero s = when-stuck
   several-sound (suc more) s =
       onward→ (w .sound s) (λ a t h. when-branch (starts sign t)
@@ -200,7 +200,7 @@ module _ {X Y : Type 0} {form : Text → Past X} {says : X → Y} {fault : X →
 
   several-reads : (more : ℕ) (y : Y) (ys : List Y) (l : Each Legal (y ∷ ys)) (r : Text) → Stops or-sign r → length ys < more
       → separatedOn sign form more (several-text (y ∷ ys) ++ r) ≡ past (values (y ∷ ys) l) r
-  unfolding separatedOn values joined followed
+  unfolding separatedOn values joinedBy followed
   several-reads zero y ys l r h n = absurd (omega arith)
   several-reads (suc more) y [] l r h n =
       let k = stops-both r h in
@@ -212,7 +212,7 @@ module _ {X Y : Type 0} {form : Text → Past X} {says : X → Y} {fault : X →
 
   -- there are not more entries than bytes
   enough : (y : Y) (ys : List Y) (r : Text) → length ys ≤ length (several-text (y ∷ ys) ++ r)
-  unfolding joined
+  unfolding joinedBy
   enough y ys r = let n = signs sign (map text ys) in simp length-append (omega (arith, length-map ys text))
 
   followed-inline : (ys : List Y) → Each Legal ys → Inline (followed sign (map text ys))
@@ -230,7 +230,7 @@ module _ {X Y : Type 0} {form : Text → Past X} {says : X → Y} {fault : X →
   }
 
   several-inline : (ys : List Y) → Several ys → Inline (several-text ys)
-  unfolding joined
+  unfolding joinedBy
   several-inline [] l = tt
   several-inline (y ∷ ys) l = inline-append (text y) (followed sign (map text ys)) (w .inline y (l .1 .0)) (followed-inline ys (l .1 .1))
 

@@ -9,7 +9,7 @@ use Rattle.meaning.specs.Descriptions.{act, tau, delta, ref, choice, seq, merge
 use Rattle.grammar.specs.Text.{sameText}
 use Rattle.grammar.proofs.Texts as Texts
 use Rattle.grammar.proofs.Texts.{text}
-use Rattle.grammar.specs.Marks.{digits, followed, joined, partTexts}
+use Rattle.grammar.specs.Marks.{digits, followed, joinedBy, partTexts}
 use Rattle.grammar.specs.Writing.{eachLine, written}
 
 -- A description with its order, and the lines that it is written in.
@@ -62,5 +62,5 @@ all-written [] = true
 all-written (c ∷ cs) = sameText (written (c .given) (c .order)) (text (c .lines)) && all-written cs
 
 computed : T (all-written (document ∷ lists ∷ noLabels ∷ []))
-unfolding all-written sameText digits followed joined partTexts eachLine written
+unfolding all-written sameText digits followed joinedBy partTexts eachLine written
 computed = tt

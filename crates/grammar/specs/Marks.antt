@@ -21,9 +21,9 @@ unfoldable pub followed : ℕ → List Text → Text
 followed sign [] = []
 followed sign (t ∷ ts) = sign ∷ (t ++ followed sign ts)
 
-unfoldable pub joined : ℕ → List Text → Text
-joined sign [] = []
-joined sign (t ∷ ts) = t ++ followed sign ts
+unfoldable pub joinedBy : ℕ → List Text → Text
+joinedBy sign [] = []
+joinedBy sign (t ∷ ts) = t ++ followed sign ts
 
 -- A label: `name:count` for each name that occurs, joined by `.`.
 abbrev pub partText : Text → ℕ → Text
@@ -35,4 +35,4 @@ partTexts [] (x ∷ a) = []
 partTexts (w ∷ ws) (x ∷ a) = elim (eqb x 0) [ true ↦ partTexts ws a | false ↦ partText w x ∷ partTexts ws a ]
 
 abbrev pub labelText : List Text → Label → Text
-labelText words a = joined dot (partTexts words a)
+labelText words a = joinedBy dot (partTexts words a)

@@ -33,14 +33,14 @@ formed (stuck r) f = faulty form
 unfoldable pub takeNumber : Text → (ℕ → Bool) → Fault → Text → Taken ℕ
 takeNumber key test f line = formed (countLine key line) (λ n. takenIf (test n) f n)
 
-abbrev pub nameCount : ℕ → Bool
-nameCount n = leb 1 n && leb n 12
+abbrev pub namesInRange : ℕ → Bool
+namesInRange n = leb 1 n && leb n 12
 
-abbrev pub equationCount : ℕ → Bool
-equationCount n = leb n 16
+abbrev pub equationsInRange : ℕ → Bool
+equationsInRange n = leb n 16
 
-abbrev pub termCount : ℕ → Bool
-termCount n = leb 1 n && leb n 96
+abbrev pub termsInRange : ℕ → Bool
+termsInRange n = leb 1 n && leb n 96
 
 -- A name is no earlier one, and none of the words tau, none and all.
 unfoldable pub isFree : List Text → Text → Bool
@@ -133,15 +133,15 @@ fromTerms words e t line s = walk (lines (takeTerm words e) t [] line s) (λ ter
 
 abbrev pub fromCounts : List Text → ℕ → Text → Walk Whole
 fromCounts words line s =
-    walk (oneLine (takeNumber (ascii "equations=") equationCount form) line s) (λ e line s.
-    walk (oneLine (takeNumber (ascii "terms=") termCount form) line s) (λ t line s.
+    walk (oneLine (takeNumber (ascii "equations=") equationsInRange form) line s) (λ e line s.
+    walk (oneLine (takeNumber (ascii "terms=") termsInRange form) line s) (λ t line s.
     fromTerms words e t line s))
 
 abbrev pub fromNames : ℕ → ℕ → Text → Walk Whole
 fromNames n line s = walk (lines takeName n [] line s) (λ words line s. fromCounts words line s)
 
 unfoldable pub wholeText : Text → Walk Whole
-wholeText text = walk (oneLine (takeNumber (ascii "names=") nameCount form) 1 text) (λ n line s. fromNames n line s)
+wholeText text = walk (oneLine (takeNumber (ascii "names=") namesInRange form) 1 text) (λ n line s. fromNames n line s)
 
 abbrev pub described : Walk Whole → Reading
 described = allRead (λ w. read (w .given) (w .order))

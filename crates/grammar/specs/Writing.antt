@@ -15,7 +15,7 @@ use Rattle.meaning.specs.Descriptions.{seq, merge, lmerge, sync, wrap, Order, a
 use Rattle.meaning.specs.Legal.{Each}
 use Rattle.grammar.specs.Text.{isDigit, isLower}
 use Rattle.grammar.specs.Forms.{lf, space, comma, greater}
-use Rattle.grammar.specs.Marks.{decimal, joined, labelText}
+use Rattle.grammar.specs.Marks.{decimal, joinedBy, labelText}
 
 -- A name by its word.
 abbrev pub nameText : List Text → ℕ → Text
@@ -29,7 +29,7 @@ abbrev pub ruleText : List Text → Rule → Text
 ruleText words r = labelText words (r .left) ++ (greater ∷ nameText words (r .right))
 
 abbrev pub listText : {A : Type 0} → (A → Text) → List A → Text
-listText entry xs = joined comma (map entry xs)
+listText entry xs = joinedBy comma (map entry xs)
 
 abbrev pub labelsText : List Text → List Label → Text
 labelsText words [] = ascii "none"

@@ -16,13 +16,13 @@ use Rattle.sets.specs.declared.Built.{Built}
 use Rattle.sets.specs.declared.Built.the-variants.{TooLarge, Holds}
 use Rattle.parts.specs.declared.Target.{Target}
 use Rattle.parts.specs.Parts.{part, setAt, laid, partBefore, wordsOf, roomAt, reachOf}
-use Rattle.sets.specs.Building.{Building, done, next, answerOf, each, Grown}
+use Rattle.sets.specs.Building.{Building, done, andThen, answerOf, each, Grown}
 use Rattle.products.specs.Multiplying.{row}
-use Rattle.parts.proofs.Laid.{setAt-reach, part-end}
+use Rattle.parts.proofs.LaidSets.{setAt-reach, part-end}
 use Rattle.sets.proofs.Steps.{Steady, Going, going-start, going-length, going-end, going-as, going-holds, going-large, grown-as}
 use Rattle.products.proofs.Products.{steady-row}
 use Rattle.ways.proofs.Images.{steady-imaged}
-use Rattle.sets.proofs.Walking.{part-stays}
+use Rattle.sets.proofs.Walks.{part-stays}
 use Rattle.places.specs.declared.Growth.{Growth}
 use Rattle.growth.specs.declared.Giving.{Giving}
 use Rattle.growth.specs.declared.Giving.the-variants.{Through, Times}
@@ -86,10 +86,10 @@ steady-given room at ls (Through way) list w = steady-imaged room way list w
 steady-given room at ls (Times by) list w = steady-row room (partBefore at (by .from) (by .to) ls) w
 
 -- A part of one label.
-next-done : (b : Building) → next b done ≡ b
+next-done : (b : Building) → andThen b done ≡ b
 next-done b = go (b .whole) (b .set)
   where
-    go : (t : Bool) (s : List ℕ) → next (record { set = s; whole = t }) done ≡ record { set = s; whole = t }
+    go : (t : Bool) (s : List ℕ) → andThen (record { set = s; whole = t }) done ≡ record { set = s; whole = t }
     go true s = refl
     go false s = refl
 
@@ -151,10 +151,10 @@ module _ {g : Growth} {t : Target} {before : List ℕ} (ends : Ends g t before) 
         abbrev rest : List ℕ → Building
         rest = each step (toCome g before j (i + 1))
 
-        next-given : Going (t .at) before now len (λ s. next (step (getD now i 0) s) rest) (each step (freshIn g before) (setAt (t .at) (t .len) before))
+        next-given : Going (t .at) before now len (λ s. andThen (step (getD now i 0) s) rest) (each step (freshIn g before) (setAt (t .at) (t .len) before))
         unfolding each
         next-given =
-            going-as (λ s. next (step (getD now i 0) s) rest) x (λ s. ap (λ (ws : List ℕ). each step ws s) (by-test false new))
+            going-as (λ s. andThen (step (getD now i 0) s) rest) x (λ s. ap (λ (ws : List ℕ). each step ws s) (by-test false new))
 
         one-grown : Grown (given (roomAt (t .at) (t .most) (length now)) (t .at) before giving list (getD now i 0)) (t .at) len now after r
         unfolding each

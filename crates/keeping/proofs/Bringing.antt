@@ -12,7 +12,7 @@ use lib.ListN.{length, getD, set, take, drop, replicate, length-drop, length-set
 use lib.Seq.{paste-zero, paste-suc, take-all, take-at, drop-at, drop-drop, length-slice, length-take-le, getD-append-add, getD-drop}
 use Rattle.meaning.proofs.Alike.{alike}
 use Rattle.areas.specs.Areas.{zeroed}
-use Rattle.areas.proofs.Zeroed.{zeroed-front}
+use Rattle.areas.proofs.Zeroes.{zeroed-front}
 use Rattle.parts.specs.declared.Part.{Part}
 use Rattle.parts.specs.Parts.{part}
 use Rattle.places.specs.Starts.{whole}

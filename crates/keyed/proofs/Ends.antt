@@ -9,7 +9,7 @@ use lib.ListN.{length, drop, length-drop, drop-of-length-le}
 use borrow.Author.Tests.{ltb-true, ltb-false}
 use Rattle.meaning.specs.Bytes.{Text}
 use Rattle.grammar.specs.Text.{Past, past, onward, ended, literal}
-use Rattle.words.specs.Steps.{placeOf, Stands, Steps}
+use Rattle.words.specs.Steps.{stepPlace, Stands, Steps}
 use Rattle.words.specs.declared.Step.{Step}
 use Rattle.words.specs.declared.Step.the-variants.{To, Stuck}
 use Rattle.words.proofs.Steps.{stops, goes, restAt, rest-drop, went-on, stays-on}
@@ -59,7 +59,7 @@ module _ {A : Type 0} (f : ℕ → A) (item : Text → Past A) (key line : Text)
 
 -- The place of a step of the rest fits a word where the line's length does.
 pub place-fits : {A : Type 0} {f : ℕ → A} (line : Text) (at : ℕ) {r : Step} {due : Past A} → at ≤ length line
-    → Steps f (restAt line at) r due → at + placeOf r ≤ length line
+    → Steps f (restAt line at) r due → at + stepPlace r ≤ length line
 place-fits line at h s = omega (arith, s .stands .within, length-rest line at h)
   where
     length-rest : (line : Text) (at : ℕ) → at ≤ length line → length (restAt line at) ≡ length line - at

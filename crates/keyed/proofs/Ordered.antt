@@ -11,7 +11,7 @@ use Rattle.grammar.specs.Text.{Past, past, stuck, onward, sameText, literal, en
 use Rattle.grammar.specs.Forms.{OrderLine, all, only, Parts, orderLine}
 use Rattle.grammar.specs.Faults.{orderFault, labelSaid}
 use Rattle.entries.specs.Entries.{labelEntry}
-use Rattle.lists.specs.Lists.{wholeList, over, ListRead}
+use Rattle.lists.specs.Lists.{wholeList, overlaid, ListRead}
 use Rattle.tails.specs.Wraps.{Allow}
 use Rattle.keyed.specs.Orders.{OrderTaken, OrderDue, onlyThese}
 use Rattle.faults.specs.declared.Found.the-variants.{Fine}
@@ -48,7 +48,7 @@ module _ (words : List Text) (line : Text) (at : ℕ) (i : at ≤ length line) {
         says = ap (λ d. onward d (λ _ p. past (only (l .0)) p)) (ended-none line (at + n) k) ∙ ap (λ d. onward d after-labels) (l .1);
         order = ap (λ n. Only (record { at = 3072; entries = n })) counted;
         faults = ap (λ s. s .found) (l .2) ∙ listed-faults Allow words (l .0);
-        stored = λ z. l .3 ∙ ap (λ ws. over ws before) (listed-words Allow words (l .0) z);
+        stored = λ z. l .3 ∙ ap (λ ws. overlaid ws before) (listed-words Allow words (l .0) z);
       }
 
 pub all-taken : (words : List Text) (store : List ℕ) → OrderTaken words (past all []) store store All Fine

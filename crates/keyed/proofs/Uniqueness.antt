@@ -11,7 +11,7 @@ use Rattle.table.specs.Encoded.{orderWords, orderFor}
 use Rattle.grammar.specs.Forms.{orderLine}
 use Rattle.grammar.specs.Faults.{orderSaid, orderFault}
 use Rattle.faults.specs.declared.Found.the-variants.{Fine}
-use Rattle.lists.specs.Lists.{over}
+use Rattle.lists.specs.Lists.{overlaid}
 use Rattle.tails.proofs.Uniqueness.{Seen, took, stopped, Took, Meets, seen-unique}
 use Rattle.keyed.specs.Orders.{OrderRead, OrderAnswer}
 use Rattle.keyed.specs.declared.OrderStep.{OrderStep}
@@ -23,7 +23,7 @@ orderSeen line (O.Stuck p) = stopped (drop p line)
 
 module _ (names : List ℕ) (line : Text) (before after₁ after₂ : List ℕ) where
   order-meets : (words : List Text) (after : List ℕ) (r : OrderStep) → OrderRead words line before after r
-      → Meets (orderLine line) (λ l. orderFor (orderSaid words l)) (orderFault words) (λ l. over (orderWords (orderSaid words l)) before) after
+      → Meets (orderLine line) (λ l. orderFor (orderSaid words l)) (orderFault words) (λ l. overlaid (orderWords (orderSaid words l)) before) after
       (orderSeen line r)
   unfolding Meets
   order-meets words after (O.To x f) p = record { line = p .line; says = p .says; made = p .order; found = p .faults; stored = p .stored }
@@ -33,5 +33,5 @@ module _ (names : List ℕ) (line : Text) (before after₁ after₂ : List ℕ) 
       → (orderSeen line r ≡ orderSeen line s) × ((x : Order) → orderSeen line r ≡ took x Fine → after₁ ≡ after₂)
   order-unique r s p q few =
       let ws = map (nameOf 8) names in
-      seen-unique (orderLine line) (λ l. orderFor (orderSaid ws l)) (orderFault ws) (λ l. over (orderWords (orderSaid ws l)) before) after₁ after₂
+      seen-unique (orderLine line) (λ l. orderFor (orderSaid ws l)) (orderFault ws) (λ l. overlaid (orderWords (orderSaid ws l)) before) after₁ after₂
       (orderSeen line r) (orderSeen line s) (order-meets ws after₁ r (p few)) (order-meets ws after₂ s (q few))

@@ -12,7 +12,7 @@ use Rattle.grammar.specs.Text.{Past, past, stuck, onward, ended}
 use Rattle.grammar.specs.Forms.{OrderLine, only, labelList, orderLine}
 use Rattle.grammar.specs.Faults.{fine, orderSaid, orderFault}
 use Rattle.faults.specs.CodedFaults.{foundOf}
-use Rattle.lists.specs.Lists.{over}
+use Rattle.lists.specs.Lists.{overlaid}
 use Rattle.faults.specs.declared.Found as G
 use Rattle.keyed.specs.declared.OrderStep.{OrderStep}
 use Rattle.keyed.specs.declared.OrderStep.the-variants as O
@@ -23,7 +23,7 @@ pub record OrderTaken (words : List Text) (due : Past OrderLine) (before after :
   pub says : past line [] ≡ due
   pub order : x ≡ orderFor (orderSaid words line)
   pub faults : foundOf f ≡ orderFault words line
-  pub stored : orderFault words line ≡ fine → after ≡ over (orderWords (orderSaid words line)) before
+  pub stored : orderFault words line ≡ fine → after ≡ overlaid (orderWords (orderSaid words line)) before
 
 abbrev pub OrderDue : List Text → Text → Past OrderLine → List ℕ → List ℕ → OrderStep → Type 0
 OrderDue words line due before after (O.To x f) = OrderTaken words due before after x f

@@ -6,7 +6,7 @@ ghost use mathlib.Core.Path.{_≡_};
 ghost use lib.ListN.{length};
 ghost use Rattle.table.specs.Decoded.{nameOf};
 ghost use Rattle.grammar.specs.Forms.{countLine, nameLine};
-ghost use Rattle.words.specs.Steps.{placeOf, Steps};
+ghost use Rattle.words.specs.Steps.{stepPlace, Steps};
 ghost use Rattle.keyed.specs.Lines.{endedFrom};
 use faults::Found;
 use table::Order;
@@ -24,7 +24,7 @@ pub enum OrderStep {
 
 // What was read from a place of the line on, with nothing after it.
 fn at_end(line: &[u8], at: usize, s: Step) -> Step
-    requires { ⌜ at + placeOf s < 2 ^ 64 ⌝ }
+    requires { ⌜ at + stepPlace s < 2 ^ 64 ⌝ }
     ensures { λ r. ⌜ r ≡ endedFrom (length (now (line .entry))) at s ⌝ }
 {
     let Step::To(value, bytes) = s else {

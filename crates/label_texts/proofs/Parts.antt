@@ -16,10 +16,10 @@ use Rattle.meaning.specs.Bytes.{Text}
 use Rattle.meaning.specs.Labels.{Label, labelOf}
 use Rattle.table.specs.Decoded.{nameOf}
 use Rattle.grammar.specs.Forms.{dot, colon}
-use Rattle.grammar.specs.Marks.{decimal, joined, followed, partText, partTexts}
+use Rattle.grammar.specs.Marks.{decimal, joinedBy, followed, partText, partTexts}
 use Rattle.grammar.specs.Areas.{Written}
 use Rattle.grammar.proofs.Marks.{partTexts-zero, partTexts-some}
-use Rattle.label_texts.specs.Packed.{wordsOf}
+use Rattle.label_texts.specs.Packed.{nameTexts}
 use Rattle.label_texts.specs.Steps.{nextText}
 use Rattle.grammar.proofs.Underway.{Underway, lent, back, underway-step, underway-end, next-room}
 
@@ -28,18 +28,18 @@ length-part word times = omega (arith, length-append word (colon ∷ decimal tim
 
 -- What is to come of a label of which so many bytes are written.
 unfoldable pub toCome : ℕ → List Text → Text
-toCome written ts = elim (eqb written 0) [ true ↦ joined dot ts | false ↦ followed dot ts ]
+toCome written ts = elim (eqb written 0) [ true ↦ joinedBy dot ts | false ↦ followed dot ts ]
 
 toCome-some : (written : ℕ) (ts : List Text) → (written ≡ 0 → ⊥) → toCome written ts ≡ followed dot ts
 unfolding toCome
 toCome-some written ts h = rw (ne-eqb written 0 h, toCome)
 
-toCome-none : (written : ℕ) (ts : List Text) → written ≡ 0 → toCome written ts ≡ joined dot ts
+toCome-none : (written : ℕ) (ts : List Text) → written ≡ 0 → toCome written ts ≡ joinedBy dot ts
 unfolding toCome
 toCome-none written ts e = rw (eq-eqb written 0 e, toCome)
 
 pub toCome-nil : (written : ℕ) → toCome written [] ≡ []
-unfolding joined followed
+unfolding joinedBy followed
 toCome-nil written =
     elim (ℕ-discrete written 0) [ yes e ↦ toCome-none written [] e | no d ↦ toCome-some written [] d ]
 
@@ -59,7 +59,7 @@ next-later written w x h d = rw (ne-eqb x 0 h, ne-eqb written 0 d, nextText)
 -- What is to come is the next part and what is to come behind it.
 parts-next : (written : ℕ) (w : Text) (ws : List Text) (x : ℕ) (a : Label) →
     toCome written (partTexts (w ∷ ws) (x ∷ a)) ≡ nextText written w x ++ toCome (written + length (nextText written w x)) (partTexts ws a)
-unfolding joined followed
+unfolding joinedBy followed
 parts-next written w ws x a =
     let part = partText w x in
     let rest = partTexts ws a in
@@ -75,7 +75,7 @@ parts-next written w ws x a =
 
 -- The parts of the names from the i-th on, whose counts are the digits of what is left of the label's word.
 abbrev pub partsFrom : List ℕ → ℕ → ℕ → List Text
-partsFrom names i rest = partTexts (wordsOf (drop i names)) (labelOf (12 - i) rest)
+partsFrom names i rest = partTexts (nameTexts (drop i names)) (labelOf (12 - i) rest)
 
 parts-step : (written : ℕ) (names : List ℕ) (i rest : ℕ) → i < 12 → length names ≡ 12 →
     toCome written (partsFrom names i rest)
@@ -86,7 +86,7 @@ parts-step written names i rest h e =
     let more : 12 - i ≡ suc (12 - (i + 1)) = omega arith in
     let name = drop-cons names i 0 (omega arith) ∙ ap (λ (n : ℕ). getD names i 0 ∷ drop n names) (sym (add-one i)) in
     rw (more, name)
-    (parts-next written (nameOf 8 (getD names i 0)) (wordsOf (drop (i + 1) names)) (rest % 32) (labelOf (12 - (i + 1)) (rest / 32)))
+    (parts-next written (nameOf 8 (getD names i 0)) (nameTexts (drop (i + 1) names)) (rest % 32) (labelOf (12 - (i + 1)) (rest / 32)))
 
 -- Where nothing is left of the word, nothing is to come.
 parts-none : (ws : List Text) (n : ℕ) → partTexts ws (labelOf n 0) ≡ []
@@ -109,12 +109,12 @@ module _ {goal before mid : Text} {k : ℕ} (names : List ℕ) (i rest : ℕ) (u
 
   pub parts-early : rest ≡ 0 → Written goal before mid k
   parts-early e =
-      let none = ap (partsFrom names i) e ∙ parts-none (wordsOf (drop i names)) (12 - i) in
+      let none = ap (partsFrom names i) e ∙ parts-none (nameTexts (drop i names)) (12 - i) in
       underway-end (rw (ap (toCome k) none ∙ toCome-nil k) at u)
 
   pub parts-end : i ≡ 12 → Written goal before mid k
   unfolding labelOf partTexts
   parts-end e = underway-end (rw (ap (λ (n : ℕ). toCome k (partsFrom names n rest)) e ∙ toCome-nil k) at u)
 
-pub parts-start : (ts : List Text) → toCome 0 ts ≡ joined dot ts
+pub parts-start : (ts : List Text) → toCome 0 ts ≡ joinedBy dot ts
 parts-start ts = toCome-none 0 ts refl

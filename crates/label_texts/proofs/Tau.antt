@@ -11,10 +11,10 @@ use Rattle.meaning.specs.Bytes.{Text, ascii}
 use Rattle.meaning.specs.Labels.{labelOf}
 use Rattle.table.specs.Decoded.{nameOf}
 use Rattle.grammar.specs.Forms.{dot}
-use Rattle.grammar.specs.Marks.{joined, followed, partText, partTexts}
+use Rattle.grammar.specs.Marks.{joinedBy, followed, partText, partTexts}
 use Rattle.grammar.specs.Printed.{orTau, printedLabel}
 use Rattle.grammar.specs.Areas.{Written}
-use Rattle.label_texts.specs.Packed.{wordsOf, countsOf}
+use Rattle.label_texts.specs.Packed.{nameTexts, countsOf}
 use Rattle.grammar.proofs.Decimal.{length-small}
 use Rattle.grammar.proofs.Marks.{partTexts-zero, partTexts-some}
 use Rattle.label_texts.proofs.Names.{length-name}
@@ -39,7 +39,7 @@ tau-length [] e = refl
 tau-length (b ∷ s) e = absurd (omega arith)
 
 -- Each part has at most eight bytes of a name, a colon, two digits, and the point before it.
-length-followed : (k : ℕ) (names : List ℕ) (w : ℕ) → length (followed dot (partTexts (wordsOf names) (labelOf k w))) ≤ 12 * k
+length-followed : (k : ℕ) (names : List ℕ) (w : ℕ) → length (followed dot (partTexts (nameTexts names) (labelOf k w))) ≤ 12 * k
 unfolding partTexts labelOf followed
 length-followed zero names w = zero-le
 length-followed (suc k) [] w = zero-le
@@ -47,15 +47,15 @@ length-followed (suc k) (n ∷ names) w =
     let word = nameOf 8 n in
     let times = w % 32 in
     let rest = labelOf k (w / 32) in
-    let behind = followed dot (partTexts (wordsOf names) rest) in
+    let behind = followed dot (partTexts (nameTexts names) rest) in
     elim (ℕ-discrete times 0) [
-      | yes e ↦ rw (partTexts-zero word (wordsOf names) times rest e) (omega (arith, length-followed k names (w / 32)))
-      | no d ↦ rw (partTexts-some word (wordsOf names) times rest d, length-append (partText word times) behind, length-part word times)
+      | yes e ↦ rw (partTexts-zero word (nameTexts names) times rest e) (omega (arith, length-followed k names (w / 32)))
+      | no d ↦ rw (partTexts-some word (nameTexts names) times rest d, length-append (partText word times) behind, length-part word times)
           (omega (arith, length-followed k names (w / 32), length-name n, length-small times (omega arith)))
     ]
 
-length-joined : (sign : ℕ) (ts : List Text) → length (joined sign ts) ≤ length (followed sign ts)
-unfolding joined followed
+length-joined : (sign : ℕ) (ts : List Text) → length (joinedBy sign ts) ≤ length (followed sign ts)
+unfolding joinedBy followed
 length-joined sign [] = zero-le
 length-joined sign (t ∷ ts) = omega arith
 
@@ -63,8 +63,8 @@ length-or-tau : (s : Text) → length s ≤ 144 → length (orTau s) ≤ 144
 length-or-tau [] h = omega arith
 length-or-tau (b ∷ s) h = h
 
-pub length-label : (names : List ℕ) (label : ℕ) → length (printedLabel (wordsOf names) (countsOf label)) ≤ 144
+pub length-label : (names : List ℕ) (label : ℕ) → length (printedLabel (nameTexts names) (countsOf label)) ≤ 144
 unfolding printedLabel
 length-label names label =
-    let parts = partTexts (wordsOf names) (countsOf label) in
-    length-or-tau (joined dot parts) (omega (arith, length-joined dot parts, length-followed 12 names label))
+    let parts = partTexts (nameTexts names) (countsOf label) in
+    length-or-tau (joinedBy dot parts) (omega (arith, length-joined dot parts, length-followed 12 names label))

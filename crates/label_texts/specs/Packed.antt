@@ -7,8 +7,8 @@ use Rattle.meaning.specs.Labels.{Label, labelOf}
 use Rattle.table.specs.Decoded.{nameOf}
 
 -- Twelve names of at most eight bytes, a word each; a label's twelve counts in one word.
-abbrev pub wordsOf : List ℕ → List Text
-wordsOf names = map (nameOf 8) names
+abbrev pub nameTexts : List ℕ → List Text
+nameTexts names = map (nameOf 8) names
 
 abbrev pub countsOf : ℕ → Label
 countsOf w = labelOf 12 w

@@ -11,7 +11,7 @@ ghost use Rattle.grammar.specs.Marks.{partText, labelText};
 ghost use Rattle.grammar.specs.Printed.{printedLabel};
 ghost use Rattle.label_texts.specs.Steps.{nextText};
 ghost use Rattle.grammar.specs.Areas.{Written, Printed};
-ghost use Rattle.label_texts.specs.Packed.{wordsOf, countsOf};
+ghost use Rattle.label_texts.specs.Packed.{nameTexts, countsOf};
 
 // A name is packed in a word, its first byte lowest.
 fn write_name(text: &mut [u8], name: u64) -> usize
@@ -55,8 +55,8 @@ fn write_next(text: &mut [u8], written: usize, name: u64, times: usize) -> usize
 
 // A label's counts are the digits of its number to base 32; past the last that is not 0 nothing is written.
 fn write_parts(text: &mut [u8], names: [u64; NAMES], label: u64) -> usize
-    requires { ⌜ length (labelText (wordsOf names) (countsOf label)) ≤ length (now text) ⌝ }
-    ensures { λ r. ⌜ Written (labelText (wordsOf names) (countsOf label)) (now (text .entry)) (now (text .exit)) r ⌝ }
+    requires { ⌜ length (labelText (nameTexts names) (countsOf label)) ≤ length (now text) ⌝ }
+    ensures { λ r. ⌜ Written (labelText (nameTexts names) (countsOf label)) (now (text .entry)) (now (text .exit)) r ⌝ }
 {
     let mut rest = label;
     let mut at = 0;
@@ -74,8 +74,8 @@ fn write_parts(text: &mut [u8], names: [u64; NAMES], label: u64) -> usize
 }
 
 fn write_fitting_label(text: &mut [u8], names: [u64; NAMES], label: u64) -> usize
-    requires { ⌜ length (printedLabel (wordsOf names) (countsOf label)) ≤ length (now text) ⌝ }
-    ensures { λ r. ⌜ Written (printedLabel (wordsOf names) (countsOf label)) (now (text .entry)) (now (text .exit)) r ⌝ }
+    requires { ⌜ length (printedLabel (nameTexts names) (countsOf label)) ≤ length (now text) ⌝ }
+    ensures { λ r. ⌜ Written (printedLabel (nameTexts names) (countsOf label)) (now (text .entry)) (now (text .exit)) r ⌝ }
 {
     let size = write_parts(text, names, label);
     if size == 0 {
@@ -89,7 +89,7 @@ const LONGEST_LABEL: usize = 144;
 
 // The length of a label's text, which is written on a scratch area.
 pub fn label_length(names: [u64; NAMES], label: u64) -> usize
-    ensures { λ r. ⌜ r ≡ length (printedLabel (wordsOf names) (countsOf label)) ⌝ }
+    ensures { λ r. ⌜ r ≡ length (printedLabel (nameTexts names) (countsOf label)) ⌝ }
 {
     let mut scratch = [0u8; LONGEST_LABEL];
     write_fitting_label(&mut scratch, names, label)
@@ -97,7 +97,7 @@ pub fn label_length(names: [u64; NAMES], label: u64) -> usize
 
 // Where every label fits, none is measured.
 fn label_fits(names: [u64; NAMES], label: u64, room: usize) -> bool
-    ensures { λ r. ⌜ r ≡ leb (length (printedLabel (wordsOf names) (countsOf label))) room ⌝ }
+    ensures { λ r. ⌜ r ≡ leb (length (printedLabel (nameTexts names) (countsOf label))) room ⌝ }
 {
     if LONGEST_LABEL <= room {
         return true;
@@ -107,7 +107,7 @@ fn label_fits(names: [u64; NAMES], label: u64, room: usize) -> bool
 
 // A label: its length is returned, or 0 where the area is too short for it.
 pub fn write_label(text: &mut [u8], names: [u64; NAMES], label: u64) -> usize
-    ensures { λ r. ⌜ Printed (printedLabel (wordsOf names) (countsOf label)) (now (text .entry)) (now (text .exit)) r ⌝ }
+    ensures { λ r. ⌜ Printed (printedLabel (nameTexts names) (countsOf label)) (now (text .entry)) (now (text .exit)) r ⌝ }
 {
     if label_fits(names, label, text.len()) {
         return write_fitting_label(text, names, label);

@@ -17,7 +17,7 @@ use borrow.Author.Tests.{le-leb, ltb-true, ltb-false}
 use Rattle.grammar.specs.Faults.{fine, worst, rising}
 use Rattle.entries.specs.Tallies.{Said, weightOf, allFaults}
 use Rattle.entries.specs.Entries.{nameEntry, pairEntry, ruleEntry, labelEntry, entryOf, withFew}
-use Rattle.lists.specs.Lists.{listFaults, weightFor, limitFor, wordCount, entryWord, entryWords, listWords, entryStored, over, wholeList, ListRead}
+use Rattle.lists.specs.Lists.{listFaults, weightFor, limitFor, wordCount, entryWord, entryWords, listWords, entryStored, overlaid, wholeList, ListRead}
 use Rattle.entries.specs.declared.SaidStep.{SaidStep}
 use Rattle.entries.specs.declared.SaidStep.the-variants as S
 use Rattle.faults.specs.declared.Found.the-variants.{Fine}
@@ -27,28 +27,29 @@ use Rattle.entries.proofs.Seen.{said-same}
 use Rattle.entries.proofs.Parts.{name-low, label-small}
 
 -- words over the start of a store, one more
-over-one : (ws store : List ℕ) (a : ℕ) → over (ws ++ (a ∷ [])) store ≡ set (over ws store) (length ws) a
-unfolding over
+over-one : (ws store : List ℕ) (a : ℕ) → overlaid (ws ++ (a ∷ [])) store ≡ set (overlaid ws store) (length ws) a
+unfolding overlaid
 over-one [] [] a = refl
 over-one [] (x ∷ store) a = refl
 over-one (w ∷ ws) [] a = refl
 over-one (w ∷ ws) (x ∷ store) a = ap (λ l. w ∷ l) (over-one ws store a)
 
-over-two : (ws store : List ℕ) (a b : ℕ) → over (ws ++ (a ∷ b ∷ [])) store ≡ set (set (over ws store) (length ws) a) (length ws + 1) b
+over-two : (ws store : List ℕ) (a b : ℕ) → overlaid (ws ++ (a ∷ b ∷ [])) store ≡ set (set (overlaid ws store) (length ws) a) (length ws + 1) b
 over-two ws store a b =
-    ap (λ l. over l store) (sym (append-assoc ws (a ∷ []) (b ∷ [])))
+    ap (λ l. overlaid l store) (sym (append-assoc ws (a ∷ []) (b ∷ [])))
     ∙ over-one (ws ++ (a ∷ [])) store b
     ∙ ap₂ (λ l n. set l n b) (over-one ws store a) (length-append ws (a ∷ []))
 
 pub over-entry : (kind : ListKind) (ws store : List ℕ) (e : Said)
-    → over (ws ++ entryWords kind e) store ≡ entryStored (wordCount kind) (over ws store) (length ws) (entryWord kind (e .first) (e .second)) (e .second)
+    → overlaid (ws ++ entryWords kind e) store
+    ≡ entryStored (wordCount kind) (overlaid ws store) (length ws) (entryWord kind (e .first) (e .second)) (e .second)
 over-entry Names ws store e = over-one ws store (e .first)
 over-entry Pairs ws store e = over-one ws store (e .first + 32 * e .second)
 over-entry Rules ws store e = over-two ws store (e .first) (e .second)
 over-entry Labels ws store e = over-one ws store (e .first)
 
-pub length-over : (ws store : List ℕ) → length (over ws store) ≡ length store
-unfolding over
+pub length-over : (ws store : List ℕ) → length (overlaid ws store) ≡ length store
+unfolding overlaid
 length-over [] store = refl
 length-over (w ∷ ws) [] = refl
 length-over (w ∷ ws) (x ∷ store) = ap suc (length-over ws store)
@@ -119,11 +120,11 @@ pub record Filled (kind : ListKind) (before : List ℕ) (es : List Said) (entrie
   pub entries-are : entries ≡ length es
   pub index-is : index ≡ length (listWords kind es)
   pub index-most : index ≤ 2 * entries
-  pub store-is : store ≡ over (listWords kind es) before
+  pub store-is : store ≡ overlaid (listWords kind es) before
 
 module _ (kind : ListKind) (before : List ℕ) where
   pub filled-none : Filled kind before [] 0 0 before
-  unfolding over listWords
+  unfolding overlaid listWords
   filled-none = record { entries-are = refl; index-is = refl; index-most = omega arith; store-is = refl }
 
   pub filled-more : {es : List Said} {entries index size : ℕ} {store after : List ℕ} (e : Said)
@@ -174,8 +175,8 @@ pub list-none : (kind : ListKind) → fine ≡ listFaults kind []
 unfolding allFaults worst rising weightOf
 list-none kind = rw (le-leb 0 (limitFor kind) (omega arith))
 
-pub over-none : (kind : ListKind) (store : List ℕ) → store ≡ over (listWords kind []) store
-unfolding over listWords
+pub over-none : (kind : ListKind) (store : List ℕ) → store ≡ overlaid (listWords kind []) store
+unfolding overlaid listWords
 over-none kind store = refl
 
 pub none-read : (kind : ListKind) (line : Text) (store : List ℕ)
@@ -190,7 +191,7 @@ none-read kind line store =
                   within = le-refl (length line);
                 };
           };
-      stored = λ es p h. over-none kind store ∙ ap (λ l. over (listWords kind l) store) (sym (as-read h refl));
+      stored = λ es p h. over-none kind store ∙ ap (λ l. overlaid (listWords kind l) store) (sym (as-read h refl));
     }
 
 -- More names than a description has.

@@ -71,10 +71,10 @@ abbrev pub entryStored : ℕ → List ℕ → ℕ → ℕ → ℕ → List ℕ
 entryStored size store at first second = withSecond (eqb size 2) (set store at first) (at + 1) second
 
 -- words over the start of a store, as far as it reaches
-unfoldable pub over : List ℕ → List ℕ → List ℕ
-over [] store = store
-over (w ∷ ws) [] = []
-over (w ∷ ws) (x ∷ store) = w ∷ over ws store
+unfoldable pub overlaid : List ℕ → List ℕ → List ℕ
+overlaid [] store = store
+overlaid (w ∷ ws) [] = []
+overlaid (w ∷ ws) (x ∷ store) = w ∷ overlaid ws store
 
 -- `none` is the list of no labels.
 abbrev pub unlessNone : Bool → Past (List Said) → Past (List Said)
@@ -93,4 +93,4 @@ wholeList words kind s = unlessNone (takesNone kind && sameText s (ascii "none")
 -- A list that is read: its fault and its number of entries, and its words over the start of the store.
 pub record ListRead (kind : ListKind) (line : Text) (due : Past (List Said)) (before after : List ℕ) (r : SaidStep) : Type 0 where
   pub read : Says line r (onward due (λ es p. past (listEntry kind es) p))
-  pub stored : (es : List Said) (p : Text) → past es p ≡ due → after ≡ over (listWords kind es) before
+  pub stored : (es : List Said) (p : Text) → past es p ≡ due → after ≡ overlaid (listWords kind es) before

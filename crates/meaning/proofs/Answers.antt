@@ -19,12 +19,12 @@ use Rattle.meaning.specs.Answers.{Allows, Outcome, tooLarge, listed, Lis
 use Rattle.meaning.proofs.Tests.{Says, compare-says, and-left, and-right, and-both}
 use Rattle.meaning.proofs.Order.{same→eq, eq→same}
 use Rattle.meaning.proofs.Digits.{size→small, number-below}
-use Rattle.meaning.proofs.Sorted.{Within, Sorted, NumberLess, sorted-rising, rising-unique}
+use Rattle.meaning.proofs.Ascent.{Within, Sorted, NumberLess, sorted-rising, rising-unique}
 use Rattle.meaning.proofs.Members.{Ascending, in-spread, in-spread→, in-keep}
 use Rattle.meaning.proofs.Carried.{against-last}
 use Rattle.meaning.proofs.Growth.{round-ascends}
 use Rattle.meaning.proofs.Lengths.{round-full}
-use Rattle.meaning.proofs.Stable.{Stable, union-is-stable, unstable-total}
+use Rattle.meaning.proofs.Stability.{Stable, union-is-stable, unstable-total}
 use Rattle.meaning.proofs.Operators.{allowed→, →allowed}
 use Rattle.meaning.proofs.Limits.{long→someLong, over-one, over-some, over-all, round-passes, stable-passes}
 

@@ -10,9 +10,9 @@ use Rattle.meaning.specs.Labels.{Label}
 use Rattle.meaning.specs.Sets.{at}
 use Rattle.meaning.specs.Descriptions.{Description, termCount, termAt, bodyAt}
 use Rattle.meaning.specs.Rounds.{shape, made, bodySets, next, roundSets}
-use Rattle.meaning.proofs.Sorted.{Within}
+use Rattle.meaning.proofs.Ascent.{Within}
 use Rattle.meaning.proofs.Members.{Ascending, in-ascending, ascending-ascends}
-use Rattle.meaning.proofs.Made.{In, Grown, alike, in-made, in-made→, made-grows}
+use Rattle.meaning.proofs.Shapes.{In, Grown, alike, in-made, in-made→, made-grows}
 use Rattle.meaning.proofs.Carried.{length-worked, carried}
 
 -- Each set of one list lies within the set at the same place of another.

@@ -15,7 +15,7 @@ use Rattle.meaning.specs.Descriptions.{sync, wrap, Order, Description, t
 use Rattle.meaning.specs.Legal.{LegalTerm, LegalTerms, Legal}
 use Rattle.meaning.specs.Rounds.{Shape, leaf, reference, one, either, both, joint, through, shape, made, worked, bodySets, next, roundSets, InSet}
 use Rattle.meaning.proofs.Members.{Sum, in-ascending}
-use Rattle.meaning.proofs.Made.{Family, Made, In, alike, in-made, in-made→, sum-grows, made-grows}
+use Rattle.meaning.proofs.Shapes.{Family, Made, In, alike, in-made, in-made→, sum-grows, made-grows}
 use Rattle.meaning.proofs.Carried.{worked-earlier, worked-last, worked-past, against-last}
 use Rattle.meaning.proofs.Growth.{rounds-grow, round-length, at-body}
 

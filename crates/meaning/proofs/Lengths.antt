@@ -12,7 +12,7 @@ use Rattle.meaning.specs.Descriptions.{sync, wrap, Description, names, t
 use Rattle.meaning.specs.Rounds.{shape, made, bodySets, next, roundSets}
 use Rattle.meaning.proofs.Bags.{length-plus, length-several}
 use Rattle.meaning.proofs.Members.{Sum, in-ascending}
-use Rattle.meaning.proofs.Made.{Family, Made, In, in-made→}
+use Rattle.meaning.proofs.Shapes.{Family, Made, In, in-made→}
 use Rattle.meaning.proofs.Carried.{carried}
 use Rattle.meaning.proofs.Growth.{round-length, at-body}
 use Rattle.meaning.proofs.Operators.{length-image}

@@ -14,17 +14,17 @@ pub mod Order
 -- size→small, labelOf-number, number-injective, number-below: a label and its number to base 32
 pub mod Digits
 -- sorted-once, sorted-unique, rising-unique, once-count: lists that ascend in a strict order
-pub mod Sorted
+pub mod Ascent
 -- in-append, in-map, in-product, in-ascending, ..: members of the lists that sets are made of
 pub mod Members
 -- in-made, made-grows: what a term is made of, as a property of labels
-pub mod Made
+pub mod Shapes
 -- carried: a relation of sets that two passes over the terms keep; growth, order and lengths are its instances
 pub mod Carried
 -- rounds-widen, rounds-grow, round-ascends: sets grow with widening and with each round, and ascend
 pub mod Growth
 -- roundSets-stable, union-is-stable, unstable-total: a stable round stays, and a round that is not stable adds a label
-pub mod Stable
+pub mod Stability
 -- sets-meet, sets-least: the sets of terms are the least ones that meet the rules
 pub mod Least
 -- allowed→, in-applied, length-image, acts-image: what operators make of labels

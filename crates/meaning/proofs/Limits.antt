@@ -15,9 +15,9 @@ use Rattle.meaning.specs.Descriptions.{Description}
 use Rattle.meaning.specs.Rounds.{roundSets, Rounds}
 use Rattle.meaning.specs.Limits.{total, someLong, someOver, over, PassesLimit}
 use Rattle.meaning.proofs.Tests.{or-cases, or-left, or-right}
-use Rattle.meaning.proofs.Sorted.{once-count}
+use Rattle.meaning.proofs.Ascent.{once-count}
 use Rattle.meaning.proofs.Growth.{AllWithin}
-use Rattle.meaning.proofs.Stable.{AllOnce, Stable, total-grows, once-round, all-rounds, unstable-total}
+use Rattle.meaning.proofs.Stability.{AllOnce, Stable, total-grows, once-round, all-rounds, unstable-total}
 
 pub record Long (s : List Label) : Type 0 where
   pub label : Label

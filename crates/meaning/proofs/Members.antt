@@ -11,7 +11,7 @@ use Rattle.meaning.specs.Legal.{Each}
 use Rattle.meaning.specs.Sets.{_∈_, member, placed, insert, ascending, spread, kept, keep, turn, product}
 use Rattle.meaning.proofs.Tests.{Says, or-cases, or-left, or-right}
 use Rattle.meaning.proofs.Order.{_≺_, ≺-irrefl, ≺-trans, order-says, same→eq, eq→same}
-use Rattle.meaning.proofs.Sorted.{Sorted, Within, sorted-unique}
+use Rattle.meaning.proofs.Ascent.{Sorted, Within, sorted-unique}
 
 pub in-append : {A : Type 0} (a : A) (s t : List A) → (a ∈ (s ++ t)) ↔ ((a ∈ s) ⊎ (a ∈ t))
 in-append a [] t = (inr, elim [ inl m ↦ absurd m | inr m ↦ m ])

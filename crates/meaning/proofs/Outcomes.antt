@@ -16,7 +16,7 @@ use Rattle.meaning.specs.Rounds.{Shape, leaf, reference, one, either, bo
 use Rattle.meaning.specs.Limits.{total, someOver, over}
 use Rattle.meaning.specs.Answers.{tooLarge, listed, cut, answer}
 use Rattle.meaning.proofs.Tests.{or-cases}
-use Rattle.meaning.proofs.Stable.{Stable, unstable-total}
+use Rattle.meaning.proofs.Stability.{Stable, unstable-total}
 use Rattle.meaning.proofs.Limits.{over-cases, over-one, over-some, over-all, round-passes}
 use Rattle.meaning.proofs.Answers.{stable→lists, answer-only}
 

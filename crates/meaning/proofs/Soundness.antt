@@ -14,7 +14,7 @@ use Rattle.meaning.specs.Runs.{State, ended, term, followed, beside, wit
 use Rattle.meaning.specs.Runs.{by-choice-left, by-choice-right, by-ifelse-left, by-ifelse-right, by-seq, by-merge, by-lmerge, by-sync}
 use Rattle.meaning.specs.Runs.{by-operator, before, after, on-left, on-right, on-both, inner, Run, stop, go, OnRun}
 use Rattle.meaning.proofs.Members.{Through, Sum}
-use Rattle.meaning.proofs.Made.{Made, sum-grows}
+use Rattle.meaning.proofs.Shapes.{Made, sum-grows}
 use Rattle.meaning.proofs.Operators.{acts-image}
 use Rattle.meaning.proofs.Least.{term-legal, sets-meet}
 

@@ -18,7 +18,7 @@ use Rattle.meaning.specs.Answers.{Allows, Outcome, tooLarge, listed, Ans
 use Rattle.meaning.specs.Widening.{WiderTerm, same, gained, lost, opened, WiderTerms, Widens}
 use Rattle.meaning.proofs.Bags.{clear→zero, zero→clear}
 use Rattle.meaning.proofs.Members.{in-keep}
-use Rattle.meaning.proofs.Made.{Grown, alike, filled, fuller}
+use Rattle.meaning.proofs.Shapes.{Grown, alike, filled, fuller}
 use Rattle.meaning.proofs.Growth.{Wide, rounds-widen}
 use Rattle.meaning.proofs.Operators.{allowed→, →allowed}
 use Rattle.meaning.proofs.Answers.{answer-right}

@@ -18,7 +18,7 @@ use Rattle.meaning.specs.Rounds.{pick, target}
 use Rattle.meaning.proofs.Bags.{number-plus}
 use Rattle.labels.specs.Bags.{bag}
 use Rattle.areas.specs.Pairs.{pairOf, pairsIn}
-use Rattle.names.specs.Names.{listed, targets}
+use Rattle.names.specs.Names.{tabulated, targets}
 use Rattle.labels.proofs.Words.{number-bag, number-several, number-none}
 use Rattle.names.proofs.Counts.{bag-cleared, number-less}
 
@@ -69,8 +69,8 @@ module _ (names : List ℕ) (a : Label) (i : ℕ) where
   clear-end h = rw (drop-of-length-le names h)
 
 -- A map with one more name sent elsewhere is its list with one entry set.
-listed-equal : (more first : ℕ) (f g : ℕ → ℕ) → ((n : ℕ) → first ≤ n → f n ≡ g n) → listed more first f ≡ listed more first g
-unfolding listed
+listed-equal : (more first : ℕ) (f g : ℕ → ℕ) → ((n : ℕ) → first ≤ n → f n ≡ g n) → tabulated more first f ≡ tabulated more first g
+unfolding tabulated
 listed-equal zero first f g h = refl
 listed-equal (suc more) first f g h = ap₂ {C = List ℕ} _∷_ (h first (le-refl first)) (listed-equal more (suc first) f g (λ n k. h n (omega arith)))
 
@@ -83,8 +83,8 @@ sent-there f left right n e = rw (eq-eqb n left e)
 sent-elsewhere : (f : ℕ → ℕ) (left right n : ℕ) → (n ≡ left → ⊥) → sent f left right n ≡ f n
 sent-elsewhere f left right n h = rw (ne-eqb n left h)
 
-set-listed : (more first n v : ℕ) (f : ℕ → ℕ) → set (listed more first f) n v ≡ listed more first (sent f (first + n) v)
-unfolding listed
+set-listed : (more first n v : ℕ) (f : ℕ → ℕ) → set (tabulated more first f) n v ≡ tabulated more first (sent f (first + n) v)
+unfolding tabulated
 set-listed zero first n v f = refl
 set-listed (suc more) first zero v f =
     ap₂ {C = List ℕ} _∷_ (sym (sent-there f (first + 0) v first (omega arith)))
@@ -92,16 +92,16 @@ set-listed (suc more) first zero v f =
 set-listed (suc more) first (suc n) v f =
     let e : suc first + n ≡ first + suc n = omega arith in
     ap₂ {C = List ℕ} _∷_ (sym (sent-elsewhere f (first + suc n) v first (omega arith)))
-    (set-listed more (suc first) n v f ∙ ap (λ (k : ℕ). listed more (suc first) (sent f k v)) e)
+    (set-listed more (suc first) n v f ∙ ap (λ (k : ℕ). tabulated more (suc first) (sent f k v)) e)
 
 pub set-target : (ps : List Pair) (p : Pair) → set (targets ps) (p .left) (p .right) ≡ targets (p ∷ ps)
 unfolding target
 set-target ps p =
     let e : 0 + p .left ≡ p .left = omega arith in
-    set-listed 12 0 (p .left) (p .right) (target ps) ∙ ap (λ (k : ℕ). listed 12 0 (sent (target ps) k (p .right))) e
+    set-listed 12 0 (p .left) (p .right) (target ps) ∙ ap (λ (k : ℕ). tabulated 12 0 (sent (target ps) k (p .right))) e
 
-pub length-listed : (more first : ℕ) (f : ℕ → ℕ) → length (listed more first f) ≡ more
-unfolding listed
+pub length-listed : (more first : ℕ) (f : ℕ → ℕ) → length (tabulated more first f) ≡ more
+unfolding tabulated
 length-listed zero first f = refl
 length-listed (suc more) first f = ap suc (length-listed more (suc first) f)
 
@@ -111,7 +111,7 @@ pub record Directed (pairs : List ℕ) (i : ℕ) (to : List ℕ) : Type 0 where
   pub directed : to ≡ targets (pairsIn (drop i pairs))
 
 pub directed-start : (pairs : List ℕ) → Directed pairs (length pairs) (0 ∷ 1 ∷ 2 ∷ 3 ∷ 4 ∷ 5 ∷ 6 ∷ 7 ∷ 8 ∷ 9 ∷ 10 ∷ 11 ∷ [])
-unfolding listed target
+unfolding tabulated target
 directed-start pairs = record { within = le-refl (length pairs); directed = rw (drop-of-length-le pairs (le-refl (length pairs))) }
 
 pub directed-step : {pairs : List ℕ} {i : ℕ} {to : List ℕ} (pair : ℕ) → Directed pairs i to → 0 < i → pair ≡ getD pairs (i - 1) 0

@@ -16,7 +16,7 @@ use Rattle.meaning.proofs.Bags.{number-plus}
 use Rattle.labels.specs.Bags.{bag}
 use Rattle.labels.proofs.Words.{number-empty, number-several}
 use Rattle.labels.proofs.Refinement.{Packs, padded, count-padded, number-padded, labelOf-number-padded, bag-number}
-use Rattle.names.specs.Names.{listed, targets}
+use Rattle.names.specs.Names.{tabulated, targets}
 
 -- A label's zeros change nothing.
 clear-padded : (more : ℕ) (a : Label) (ns : List ℕ) → clear ns (padded more a) ≡ clear ns a
@@ -45,8 +45,8 @@ pub without-number : (names : ℕ) → names ≤ 12 → (ns : List ℕ) (a : Lab
 without-number names few ns a p = rw (bag-number names few a p, without-padded (13 - names) a ns) (number-padded (13 - names) (without ns a))
 
 -- Renaming. The map of pairs, read from the list of where each of the 12 names goes.
-getD-listed : (more first : ℕ) (f : ℕ → ℕ) (n : ℕ) → n < more → getD (listed more first f) n 0 ≡ f (first + n)
-unfolding listed
+getD-listed : (more first : ℕ) (f : ℕ → ℕ) (n : ℕ) → n < more → getD (tabulated more first f) n 0 ≡ f (first + n)
+unfolding tabulated
 getD-listed zero first f n h = absurd (not-suc-le-zero h)
 getD-listed (suc more) first f zero h = let e : first ≡ first + 0 = omega arith in ap f e
 getD-listed (suc more) first f (suc n) h =

@@ -14,9 +14,9 @@ pub record Counted (w n r : ℕ) : Type 0 where
   pub small : r < 32
 
 -- A map of names as the list of where each goes, from name `first` on; the 12 names under pairs.
-unfoldable pub listed : ℕ → ℕ → (ℕ → ℕ) → List ℕ
-listed zero first to = []
-listed (suc more) first to = to first ∷ listed more (suc first) to
+unfoldable pub tabulated : ℕ → ℕ → (ℕ → ℕ) → List ℕ
+tabulated zero first to = []
+tabulated (suc more) first to = to first ∷ tabulated more (suc first) to
 
 abbrev pub targets : List Pair → List ℕ
-targets ps = listed 12 0 (target ps)
+targets ps = tabulated 12 0 (target ps)

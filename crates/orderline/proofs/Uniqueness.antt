@@ -9,7 +9,7 @@ use Rattle.meaning.specs.Descriptions as D
 use Rattle.meaning.proofs.Alike.{alike}
 use Rattle.table.specs.declared.Order.{Order}
 use Rattle.table.specs.Encoded.{orderFor, orderWords}
-use Rattle.lists.specs.Lists.{over}
+use Rattle.lists.specs.Lists.{overlaid}
 use Rattle.grammar.specs.Reading.{Walk}
 use Rattle.textlines.specs.declared.Progress.{Progress}
 use Rattle.textlines.specs.declared.Progress.the-variants.{To, Bad}
@@ -24,7 +24,7 @@ module _ (text : Text) (line : ℕ) (due : Walk D.Order) (before after₁ after�
       let x : p .order ≡ q .order = cc in (
         walk-unique (λ n. p .order) (λ n. q .order) text (suc line) (To v t) (To w u) e (p .within) (q .within) (λ h. p .plain ∙ sym (q .plain)),
         p .kept ∙ ap orderFor x ∙ sym (q .kept),
-        p .stored ∙ ap (λ o. over (orderWords o) before) x ∙ sym (q .stored),
+        p .stored ∙ ap (λ o. overlaid (orderWords o) before) x ∙ sym (q .stored),
       )
   order-unique (To v t) (Bad y m) p q = let e = alike (p .says) (q .says) in let z : _≡_ {A = ℕ} 0 1 = cc in absurd (omega arith)
   order-unique (Bad x l) (To w u) p q = let e = alike (p .says) (q .says) in let z : _≡_ {A = ℕ} 0 1 = cc in absurd (omega arith)

@@ -12,7 +12,7 @@ use Rattle.table.specs.declared.Order.the-variants.{All}
 use Rattle.table.specs.Decoded.{nameOf}
 use Rattle.table.specs.Encoded.{orderWords, orderFor}
 use Rattle.faults.specs.CodedFaults.{faultOf}
-use Rattle.lists.specs.Lists.{over}
+use Rattle.lists.specs.Lists.{overlaid}
 use Rattle.grammar.specs.Reading.{Walk, reached, halted, oneLine, takeOrder}
 use Rattle.textlines.specs.declared.Progress.{Progress}
 use Rattle.textlines.specs.declared.Progress.the-variants.{To, Bad}
@@ -24,7 +24,7 @@ pub record OrderTo (text : Text) (line : ℕ) (due : Walk D.Order) (before after
   pub says : reached order (suc line) (drop took text) ≡ due
   pub within : took ≤ length text
   pub kept : x ≡ orderFor order
-  pub stored : after ≡ over (orderWords order) before
+  pub stored : after ≡ overlaid (orderWords order) before
 
 -- The order is all where its line is bad.
 pub record OrderBad (line : ℕ) (due : Walk D.Order) (x : Order) (f : Fault) (l : ℕ) : Type 0 where

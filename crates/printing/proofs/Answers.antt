@@ -13,7 +13,7 @@ use Rattle.meaning.specs.Bytes.{Text, ascii}
 use Rattle.grammar.specs.Forms.{lf}
 use Rattle.grammar.specs.Marks.{decimal}
 use Rattle.grammar.specs.Printed.{line, answerText}
-use Rattle.label_texts.specs.Packed.{wordsOf, countsOf}
+use Rattle.label_texts.specs.Packed.{nameTexts, countsOf}
 use Rattle.printing.specs.Steps.{answerHead}
 use Rattle.printing.proofs.Line.{length-head}
 use Rattle.printing.proofs.LabelLines.{linesFrom}
@@ -32,7 +32,7 @@ leb-behind size part room h =
 
 module _ (names : List ℕ) (rounds : ℕ) (labels : List ℕ) where
   abbrev pub packedAnswer : Text
-  packedAnswer = answerText (wordsOf names) rounds (map countsOf labels)
+  packedAnswer = answerText (nameTexts names) rounds (map countsOf labels)
 
   pub answer-joined : answerHead rounds (length labels) ++ linesFrom names labels 0 ≡ packedAnswer
   unfolding answerText answerHead

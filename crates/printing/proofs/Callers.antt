@@ -15,9 +15,9 @@ use Rattle.meaning.proofs.Digits.{Small}
 use Rattle.table.specs.Decoded.{nameOf}
 use Rattle.table.specs.Encoded.{filled, wordOf}
 use Rattle.grammar.specs.Forms.{dot}
-use Rattle.grammar.specs.Marks.{joined, partText, partTexts}
+use Rattle.grammar.specs.Marks.{joinedBy, partText, partTexts}
 use Rattle.grammar.specs.Printed.{printedLabel, orTau, labelLines, line, answerText}
-use Rattle.label_texts.specs.Packed.{wordsOf, countsOf}
+use Rattle.label_texts.specs.Packed.{nameTexts, countsOf}
 use Rattle.label_texts.proofs.Names.{first-byte}
 use Rattle.grammar.proofs.Marks.{partTexts-zero, partTexts-some}
 
@@ -57,7 +57,7 @@ same-part w x vs ws a b rest =
     ]
 
 same-parts : (k : ℕ) (ws : List Text) (a : Label) → length ws ≤ k → Each Bytes ws → Fits ws a →
-    partTexts (wordsOf (filled k 0 (map wordOf ws))) (labelOf k (number a)) ≡ partTexts ws a
+    partTexts (nameTexts (filled k 0 (map wordOf ws))) (labelOf k (number a)) ≡ partTexts ws a
 unfolding partTexts labelOf number filled
 same-parts zero [] [] h e f = refl
 same-parts zero [] (x ∷ a) h e f = absurd (omega (arith, f .0))
@@ -66,7 +66,7 @@ same-parts (suc k) [] [] h e f = same-parts k [] [] zero-le tt (refl, tt)
 same-parts (suc k) [] (x ∷ a) h e f = absurd (omega (arith, f .0))
 same-parts (suc k) (w ∷ ws) [] h e f = absurd (omega (arith, f .0))
 same-parts (suc k) (w ∷ ws) (x ∷ a) h e f =
-    let names = wordsOf (filled k 0 (map wordOf ws)) in
+    let names = nameTexts (filled k 0 (map wordOf ws)) in
     let low : (x + 32 * number a) % 32 ≡ x = omega (arith, f .1 .0) in
     let high : (x + 32 * number a) / 32 ≡ number a = omega (arith, f .1 .0) in
     ap₂ (λ (n : Text) (b : Label). partTexts (n ∷ names) b) (unpacked 8 w (e .0 .0) (e .0 .1)) (ap₂ {C = Label} _∷_ low (ap (labelOf k) high))
@@ -74,13 +74,13 @@ same-parts (suc k) (w ∷ ws) (x ∷ a) h e f =
 
 module _ (ws : List Text) (few : length ws ≤ 12) (words : Each Bytes ws) where
   same-lines : (labels : List Label) → Each (Fits ws) labels →
-      labelLines (wordsOf (filled 12 0 (map wordOf ws))) (map countsOf (map number labels)) ≡ labelLines ws labels
+      labelLines (nameTexts (filled 12 0 (map wordOf ws))) (map countsOf (map number labels)) ≡ labelLines ws labels
   unfolding labelLines printedLabel
   same-lines [] f = refl
   same-lines (a ∷ labels) f =
-      ap₂ (λ (ts : List Text) (t : Text). line (ascii "label=") (orTau (joined dot ts)) ++ t) (same-parts 12 ws a few words (f .0)) (same-lines labels (f .1))
+      ap₂ (λ (ts : List Text) (t : Text). line (ascii "label=") (orTau (joinedBy dot ts)) ++ t) (same-parts 12 ws a few words (f .0)) (same-lines labels (f .1))
 
   pub same-answer : (rounds : ℕ) (labels : List Label) → Each (Fits ws) labels →
-      answerText (wordsOf (filled 12 0 (map wordOf ws))) rounds (map countsOf (map number labels)) ≡ answerText ws rounds labels
+      answerText (nameTexts (filled 12 0 (map wordOf ws))) rounds (map countsOf (map number labels)) ≡ answerText ws rounds labels
   unfolding answerText
   same-answer rounds labels f = rw (length-map, length-map, same-lines labels f)

@@ -8,13 +8,13 @@ use lib.ListN.{length}
 use Rattle.meaning.specs.Bytes.{ascii}
 use Rattle.grammar.specs.Printed.{answerText, refusedText}
 pub use Rattle.grammar.proofs.Areas.{printed-within}
-use Rattle.label_texts.specs.Packed.{wordsOf, countsOf}
+use Rattle.label_texts.specs.Packed.{nameTexts, countsOf}
 use Rattle.printing.proofs.Line.{length-head}
 use Rattle.printing.proofs.LabelLines.{lines-short}
 use Rattle.printing.proofs.Answers.{length-answer-head, length-joined}
 
 pub length-answer : (names : List ℕ) (rounds : ℕ) (labels : List ℕ) →
-    length (answerText (wordsOf names) rounds (map countsOf labels)) ≤ 80 + 151 * length labels
+    length (answerText (nameTexts names) rounds (map countsOf labels)) ≤ 80 + 151 * length labels
 length-answer names rounds labels =
     omega (arith, length-joined names rounds labels, length-answer-head rounds (length labels), lines-short names labels)
 

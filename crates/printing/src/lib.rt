@@ -15,7 +15,7 @@ ghost use lib.Dec.{leb};
 ghost use lib.ListN.{length};
 ghost use Rattle.grammar.specs.Printed.{answerText, refusedText};
 ghost use Rattle.grammar.specs.Areas.{Written, Printed};
-ghost use Rattle.label_texts.specs.Packed.{wordsOf, countsOf};
+ghost use Rattle.label_texts.specs.Packed.{nameTexts, countsOf};
 ghost use Rattle.printing.specs.Steps.{answerHead};
 
 // Two numbers of at most twenty digits, and fewer than forty bytes around them.
@@ -29,7 +29,7 @@ fn write_answer_head(text: &mut [u8], rounds: usize, count: usize) -> usize
 }
 
 fn answer_fits(names: [u64; NAMES], rounds: usize, labels: &[u64], room: usize) -> bool
-    ensures { λ r. ⌜ r ≡ leb (length (answerText (wordsOf names) rounds (map countsOf (now (labels .entry))))) room ⌝ }
+    ensures { λ r. ⌜ r ≡ leb (length (answerText (nameTexts names) rounds (map countsOf (now (labels .entry))))) room ⌝ }
 {
     let mut scratch = [0u8; LONGEST_HEAD];
     let size = write_answer_head(&mut scratch, rounds, labels.len());
@@ -42,7 +42,7 @@ fn answer_fits(names: [u64; NAMES], rounds: usize, labels: &[u64], room: usize) 
 
 // The text of an answer: its length is returned, or 0 where the area is too short for it.
 pub fn write_answer(text: &mut [u8], names: [u64; NAMES], rounds: usize, labels: &[u64]) -> usize
-    ensures { λ r. ⌜ Printed (answerText (wordsOf names) rounds (map countsOf (now (labels .entry)))) (now (text .entry)) (now (text .exit)) r ⌝ }
+    ensures { λ r. ⌜ Printed (answerText (nameTexts names) rounds (map countsOf (now (labels .entry)))) (now (text .entry)) (now (text .exit)) r ⌝ }
 {
     if answer_fits(names, rounds, labels, text.len()) {
         let at = write_answer_head(text, rounds, labels.len());

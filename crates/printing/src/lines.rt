@@ -12,7 +12,7 @@ ghost use Rattle.meaning.specs.Bytes.{ascii};
 ghost use Rattle.grammar.specs.Marks.{decimal};
 ghost use Rattle.grammar.specs.Printed.{line, printedLabel, labelLines};
 ghost use Rattle.grammar.specs.Areas.{Written};
-ghost use Rattle.label_texts.specs.Packed.{wordsOf, countsOf};
+ghost use Rattle.label_texts.specs.Packed.{nameTexts, countsOf};
 ghost use Rattle.printing.specs.Steps.{headText};
 
 fn write_count_line(text: &mut [u8], key: &[u8], n: usize) -> usize
@@ -43,8 +43,8 @@ pub(crate) fn write_head(
 }
 
 fn write_label_line(text: &mut [u8], names: [u64; NAMES], label: u64) -> usize
-    requires { ⌜ length (line (ascii "label=") (printedLabel (wordsOf names) (countsOf label))) ≤ length (now text) ⌝ }
-    ensures { λ r. ⌜ Written (line (ascii "label=") (printedLabel (wordsOf names) (countsOf label))) (now (text .entry)) (now (text .exit)) r ⌝ }
+    requires { ⌜ length (line (ascii "label=") (printedLabel (nameTexts names) (countsOf label))) ≤ length (now text) ⌝ }
+    ensures { λ r. ⌜ Written (line (ascii "label=") (printedLabel (nameTexts names) (countsOf label))) (now (text .entry)) (now (text .exit)) r ⌝ }
 {
     let at = bytes::copy(b"label=", text);
     let end = at + write_label(&mut text[at..], names, label);
@@ -53,8 +53,8 @@ fn write_label_line(text: &mut [u8], names: [u64; NAMES], label: u64) -> usize
 }
 
 pub(crate) fn write_label_lines(text: &mut [u8], names: [u64; NAMES], labels: &[u64]) -> usize
-    requires { ⌜ length (labelLines (wordsOf names) (map countsOf (now labels))) ≤ length (now text) ⌝ }
-    ensures { λ r. ⌜ Written (labelLines (wordsOf names) (map countsOf (now (labels .entry)))) (now (text .entry)) (now (text .exit)) r ⌝ }
+    requires { ⌜ length (labelLines (nameTexts names) (map countsOf (now labels))) ≤ length (now text) ⌝ }
+    ensures { λ r. ⌜ Written (labelLines (nameTexts names) (map countsOf (now (labels .entry)))) (now (text .entry)) (now (text .exit)) r ⌝ }
 {
     let mut at = 0;
     let mut i = 0;
@@ -74,7 +74,7 @@ const LONGEST_LINE: usize = 151;
 // Where the longest lines would fit, no length is worked out. Else the room goes down line by line: the lengths of all lines
 // together could pass a word.
 pub(crate) fn label_lines_fit(names: [u64; NAMES], labels: &[u64], room: usize) -> bool
-    ensures { λ r. ⌜ r ≡ leb (length (labelLines (wordsOf names) (map countsOf (now (labels .entry))))) room ⌝ }
+    ensures { λ r. ⌜ r ≡ leb (length (labelLines (nameTexts names) (map countsOf (now (labels .entry))))) room ⌝ }
 {
     if labels.len() <= room / LONGEST_LINE {
         return true;

@@ -21,7 +21,7 @@ use Rattle.parts.specs.Parts.{wordsOf, roomAt}
 use Rattle.sets.specs.Building.{Building, Grown, enter, summed}
 use Rattle.sets.proofs.Refinement.{AllPack, each-outcome}
 use Rattle.sets.proofs.Outcomes.{Offered, one, over, Anything, Result, taken-outcome}
-use Rattle.sets.proofs.Walking.{Walk, walk-words}
+use Rattle.sets.proofs.Walks.{Walk, walk-words}
 use Rattle.sets.proofs.Steps.{grown-as, Steady, steady-each, steady-enter, steady-taken}
 use Rattle.products.specs.Multiplying.{added, row, multiplied}
 

@@ -14,7 +14,7 @@ use Rattle.reading.proofs.Answer.{the-type}
 use Rattle.meaning.specs.Bytes.{Text}
 use Rattle.meaning.proofs.Alike.{alike}
 use Rattle.table.specs.Encoded.{filled}
-use Rattle.table.proofs.Filled.{filled-replicate}
+use Rattle.table.proofs.Fillings.{filled-replicate}
 use Rattle.grammar.specs.Reading.{Reading, read, overlong, badLine, described, wholeText, readText}
 use Rattle.reading.specs.Stored.{refusing, readFor, storeFor, withRoom, readWith, Stored, Ended, Completed}
 use Rattle.reading.specs.declared.Answer.{Answer}

@@ -15,11 +15,11 @@ use Rattle.table.specs.declared.Order.{Order}
 use Rattle.table.specs.declared.Table.{Table}
 use Rattle.table.specs.Decoded.{nameOf}
 use Rattle.table.specs.Encoded.{filled, wordOf, slotsFrom, termsWords, orderWords, orderFor, tableOf, storeOf}
-use Rattle.table.proofs.Filled.{length-filled, filled-two}
+use Rattle.table.proofs.Fillings.{length-filled, filled-two}
 use Rattle.faults.specs.CodedFaults.{faultOf}
 use Rattle.faults.specs.declared.Fault.{Fault}
 use Rattle.faults.specs.declared.Fault.the-variants.{Form, Name, Range, Amount, Operand}
-use Rattle.lists.specs.Lists.{over}
+use Rattle.lists.specs.Lists.{overlaid}
 use Rattle.words.proofs.Rests.{rest-cons}
 use Rattle.grammar.specs.Reading.{takeOrder, Walk, reached, halted, walk, oneLine, Reading, read, badLine}
 use Rattle.grammar.specs.Reading.{Whole, fromOrder, fromBodies, fromTerms, wholeText, described}
@@ -94,7 +94,7 @@ module _ (n : ℕ) (front ws : List ℕ) {store : List ℕ} (l : length front �
   size : length store - n ≡ 32
   size = let e = length-filled {A = ℕ} 0 32 [] in rw (s, length-append) (omega arith)
 
-  pub words-stored : {after : List ℕ} → after ≡ over ws (take (length store - n) (drop n store)) → take n store ++
+  pub words-stored : {after : List ℕ} → after ≡ overlaid ws (take (length store - n) (drop n store)) → take n store ++
       (after ++ drop (length store - n) (drop n store)) ≡ front ++ filled 32 0 ws
   words-stored q =
       let b : take n store ≡ front = rw s (take-at front (filled 32 0 []) n l) in
@@ -105,7 +105,7 @@ module _ (n : ℕ) (front ws : List ℕ) {store : List ℕ} (l : length front �
       rw (q, size, behind, b, y, z, append-nil, over-free 32 ws)
 
 pub order-stored : (d : D.Description) (o : D.Order) {store after : List ℕ} → store ≡ filled 3072 0 (termsWords (d .terms)) ++ filled 32 0 []
-    → after ≡ over (orderWords o) (take (length store - 3072) (drop 3072 store))
+    → after ≡ overlaid (orderWords o) (take (length store - 3072) (drop 3072 store))
     → take 3072 store ++ (after ++ drop (length store - 3072) (drop 3072 store)) ≡ storeOf d o
 unfolding storeOf
 order-stored d o s q = words-stored 3072 (filled 3072 0 (termsWords (d .terms))) (orderWords o) (length-filled 0 3072 (termsWords (d .terms))) s q

@@ -31,7 +31,7 @@ use Rattle.rimecutter.specs.Calls.{Call, refusing, answering, workWords,
 use Rattle.rimecutter.specs.Calls.{ofReading, unlessShort, call, ownCall, verdictOf, textOf}
 use Rattle.rimecutter.specs.Answers.{Settled}
 use Rattle.rimecutter.specs.Refusals.{Roomy, Large, Due}
-use Rattle.rimecutter.specs.Demands.{Made, verdict, DueOf, Answered, RefusedWith, Refused, Listing, Right, Safe}
+use Rattle.rimecutter.specs.Demands.{Made, verdictGiven, DueOf, Answered, RefusedWith, Refused, Listing, Right, Safe}
 use Rattle.rimecutter.specs.Demands.{Called, textDue, Holds, numberOf, SaysOk, SafeText}
 use Rattle.rimecutter.proofs.Texts.{refusals-numbered, faults-below}
 

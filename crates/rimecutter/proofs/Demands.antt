@@ -13,7 +13,7 @@ use Rattle.meaning.specs.Widening.{Widens}
 use Rattle.meaning.proofs.Answers.{reason-eq}
 use Rattle.grammar.specs.Reading.{read, readText}
 use Rattle.rimecutter.specs.Refusals.{Roomy, Large, Due}
-use Rattle.rimecutter.specs.Demands.{Made, verdict, DueOf, Answered, RefusedWith, Refused, Right, Safe, Called, Holds, numberOf, SaysOk, SafeText}
+use Rattle.rimecutter.specs.Demands.{Made, verdictGiven, DueOf, Answered, RefusedWith, Refused, Right, Safe, Called, Holds, numberOf, SaysOk, SafeText}
 use Rattle.rimecutter.proofs.DemandSteps.{due→, refused-by, answered-or-refused, refusal-unique, no-answer}
 use Rattle.rimecutter.proofs.DemandSteps.{answered-roomy, read→right, seven-large, widens→safe, safe-texts, no-room}
 
@@ -34,10 +34,10 @@ pub due-refused : (m : Made) (r : Refusal)
 due-refused m r due = refused-by m (due→ (m .text) (length (m .work)) (length (m .answer)) r due)
 
 -- So number and line tell which refusal was due, and no two are due at once.
-pub refused-exactly : (m : Made) (r : Refusal) → (verdict m ≡ A.refused r) ↔ DueOf m r
+pub refused-exactly : (m : Made) (r : Refusal) → (verdictGiven m ≡ A.refused r) ↔ DueOf m r
 refused-exactly m r = (given (demand-1 m), λ due. due-refused m r due .says)
   where
-    given : Answered m ⊎ Refused m → verdict m ≡ A.refused r → DueOf m r
+    given : Answered m ⊎ Refused m → verdictGiven m ≡ A.refused r → DueOf m r
     given (inl a) e = absurd (no-answer r (reason-eq (sym e ∙ a .says)))
     given (inr x) e = subst (DueOf m) {x = x .refusal} {y = r} (refusal-unique (sym (x .refused .says)) (sym e)) (x .due)
 
@@ -60,7 +60,7 @@ pub demand-2 : (m : Made) {d : Description} {o : Order}
 demand-2 m reads roomy = read→right m reads roomy
 
 pub large-only : (m : Made)
-    → verdict m .reason ≡ 7
+    → verdictGiven m .reason ≡ 7
     → Large (m .text)
 large-only m e = elim (demand-1 m) [
   | inl a ↦ absurd (omega (arith, e, reason-eq (a .says)))
@@ -75,7 +75,7 @@ pub demand-3 : (m m′ : Made) {d d′ : Description} {o o′ : Order}
     → Widens d o d′ o′
     → length (m .work) ≡ length (m′ .work)
     → length (m .answer) ≡ length (m′ .answer)
-    → verdict m′ .reason ≡ 0
+    → verdictGiven m′ .reason ≡ 0
     → Safe m m′ d o
 demand-3 m m′ reads reads′ w works answers zero = elim (demand-1 m′) [
   | inl a ↦ widens→safe m m′ reads reads′ w (rw (works, answers) (answered-roomy m′ a)) a

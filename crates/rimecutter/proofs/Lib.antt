@@ -1,6 +1,6 @@
 -- The laws that the proofs of the calls cite, and the demands.
 -- short-, long-, bad-, worked-responded: from what reading and the rounds answer to what a call leaves
-pub mod Responding
+pub mod Responses
 -- responded→listing, responded→refusal, text-fits: from what a call comes to, to the text that is printed of it
 pub mod Texts
 -- verdict-unique, settled-unique: any two results that meet the promise of a call are equal

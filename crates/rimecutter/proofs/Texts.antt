@@ -30,7 +30,7 @@ use Rattle.table.specs.Encoded.{filled, wordOf}
 use Rattle.grammar.specs.Text.{isLower, isDigit}
 use Rattle.grammar.specs.Printed.{refusedText, answerText}
 use Rattle.grammar.specs.Areas.{Printed}
-use Rattle.label_texts.specs.Packed.{wordsOf, countsOf}
+use Rattle.label_texts.specs.Packed.{nameTexts, countsOf}
 use Rattle.printing.proofs.Callers.{Bytes, Fits, same-answer}
 use Rattle.rimecutter.specs.Calls.{Call, refusing, answering, workWords, answerWords, tooShort, ofOutcome}
 use Rattle.rimecutter.specs.Calls.{ofReading, unlessShort, call, ownCall, verdictOf, answerAfter, textOf}
@@ -144,7 +144,7 @@ name-bytes (b ∷ w) h =
 -- An answer's text is that of its words.
 pub record Listing (c : Call) (rounds n : ℕ) (names answer : List ℕ) : Type 0 where
   pub few : n ≤ 1024
-  pub says : textOf c ≡ answerText (wordsOf names) rounds (map countsOf (take n answer))
+  pub says : textOf c ≡ answerText (nameTexts names) rounds (map countsOf (take n answer))
 
 pub listed-text : (text : Text) (c : Call) → ownCall text ≡ c → (rounds n : ℕ) (names answer answer′ : List ℕ)
     → verdictFor (Listed rounds n) ≡ verdictOf c → NamesFor c names → answer′ ≡ answerAfter c answer → Listing c rounds n names answer′
@@ -165,9 +165,9 @@ listed-text text (answering words k ls) e rounds n names answer answer′ v ns p
       few = omega (arith, listed-few d (from .order) k ls (from .lists));
       says = answerText words k ls
           ≡⟨ ap (λ (m : ℕ). answerText words m ls) (sym (rounds-eq v)) ⟩ answerText words rounds ls
-          ≡⟨ sym (same-answer words few-words bytes rounds ls fit) ⟩ answerText (wordsOf packed) rounds (map countsOf (map number ls))
-          ≡⟨ sym (ap₂ (λ (vs ws : List ℕ). answerText (wordsOf ws) rounds (map countsOf vs)) these ns) ⟩
-          answerText (wordsOf names) rounds (map countsOf (take n answer′)) ∎;
+          ≡⟨ sym (same-answer words few-words bytes rounds ls fit) ⟩ answerText (nameTexts packed) rounds (map countsOf (map number ls))
+          ≡⟨ sym (ap₂ (λ (vs ws : List ℕ). answerText (nameTexts ws) rounds (map countsOf vs)) these ns) ⟩
+          answerText (nameTexts names) rounds (map countsOf (take n answer′)) ∎;
     }
 
 -- The same of what a call responds.

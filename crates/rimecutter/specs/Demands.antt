@@ -32,8 +32,8 @@ pub record Made : Type 0 where
   pub kept : Settled (call text (length work) (length answer)) work work′ answer answer′ result
 
 -- The number, line, rounds and number of labels that it answered.
-abbrev pub verdict : Made → Verdict
-verdict m = verdictFor (m .result)
+abbrev pub verdictGiven : Made → Verdict
+verdictGiven m = verdictFor (m .result)
 
 -- the refusal that is due, told from the input
 abbrev pub DueOf : Made → Refusal → Type 0
@@ -47,12 +47,12 @@ pub record Answered (m : Made) : Type 0 where
   pub rounds : ℕ
   pub labels : List Label
   pub lists : Lists given order rounds labels
-  pub says : verdict m ≡ A.verdict (listed rounds labels)
+  pub says : verdictGiven m ≡ A.verdict (listed rounds labels)
   pub answers : m .answer′ ≡ map number labels ++ drop (length labels) (m .answer)
   pub works : m .work′ ≡ cleared (m .work)
 
 pub record RefusedWith (m : Made) (r : Refusal) : Type 0 where
-  pub says : verdict m ≡ A.refused r
+  pub says : verdictGiven m ≡ A.refused r
   pub answers : m .answer′ ≡ m .answer
   pub works : m .work′ ≡ workAfter (refusing r) (m .work)
 
@@ -67,20 +67,20 @@ pub record Listing (m : Made) (d : Description) (o : Order) : Type 0 where
   pub rounds : ℕ
   pub labels : List Label
   pub lists : Lists d o rounds labels
-  pub says : verdict m ≡ A.verdict (listed rounds labels)
+  pub says : verdictGiven m ≡ A.verdict (listed rounds labels)
   pub answers : m .answer′ ≡ map number labels ++ drop (length labels) (m .answer)
 
 pub record Right (m : Made) (d : Description) (o : Order) : Type 0 where
-  pub large : (verdict m .reason ≡ 7) ↔ PassesLimit d
+  pub large : (verdictGiven m .reason ≡ 7) ↔ PassesLimit d
   pub listing : (PassesLimit d → ⊥) → Listing m d o
 
 -- Demand 3: the first call is answered too, and every label on any finite run of the first description that its order allows is
 -- listed by the second call.
 pub record Safe (m m′ : Made) (d : Description) (o : Order) : Type 0 where
-  pub answered : verdict m .reason ≡ 0
+  pub answered : verdictGiven m .reason ≡ 0
   pub listed-labels : List Label
   pub shown : m′ .answer′ ≡ map number listed-labels ++ drop (length listed-labels) (m′ .answer)
-  pub count : verdict m′ .labels ≡ length listed-labels
+  pub count : verdictGiven m′ .labels ≡ length listed-labels
   pub covered : (a : Label) → OnRun d a → Allows o a → a ∈ listed-labels
 
 -- A call for C: the text, the text area before and after, and the length.

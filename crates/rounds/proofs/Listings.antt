@@ -28,8 +28,8 @@ use Rattle.table.specs.declared.Table.{Table}
 use Rattle.table.specs.declared.Order.{Order}
 use Rattle.areas.specs.Areas.{zeroed}
 use Rattle.table.specs.Encoded.{storeOf, orderFor, tableOf}
-use Rattle.table.proofs.Stored.{order-words}
-use Rattle.areas.proofs.Zeroed.{zeroed-front}
+use Rattle.table.proofs.Stores.{order-words}
+use Rattle.areas.proofs.Zeroes.{zeroed-front}
 use Rattle.transfers.specs.Cutting.{put, cutWords, cutInto, whereRoom}
 use Rattle.places.specs.Starts.{whole}
 use Rattle.terms.proofs.Operands.{packed-sets}
@@ -39,7 +39,7 @@ use Rattle.keeping.specs.Settling.{alone}
 use Rattle.turns.specs.Endings.{foundOf, labelsOf, Reached}
 use Rattle.rounds.specs.declared.Answer.{Answer}
 use Rattle.rounds.specs.declared.Answer.the-variants as A
-use Rattle.rounds.specs.Alphabets.{alphabetOf, answerWords, allIn, listIn, Answered, Listing}
+use Rattle.rounds.specs.Alphabets.{alphabetOf, answerArea, allIn, listIn, Answered, Listing}
 use Rattle.rounds.proofs.Answering.{isAll, listOf, cut-number}
 use Rattle.rounds.proofs.Orders.{Cuts, cuts-to}
 
@@ -130,7 +130,7 @@ module _ {table : Table} {store : List ℕ} {order : Order} {work area : List �
             → Cuts d o x (answer d o)
             → F.TooLarge ≡ foundOf x
             → work′ ≡ alone (map number (labelsOf x)) work
-            → (A.TooLarge ≡ alphabetOf (answer d o)) × (area ≡ answerWords (answer d o) area) × (work′ ≡ alone [] work)
+            → (A.TooLarge ≡ alphabetOf (answer d o)) × (area ≡ answerArea (answer d o) area) × (work′ ≡ alone [] work)
         by d o tooLarge c e w = rw c (refl, refl, w)
         by d o (listed j labels) c e w = absurd (let z : _≡_ {A = ℕ} 0 1 = cc in omega arith)
 
@@ -156,7 +156,7 @@ module _ {table : Table} {store : List ℕ} {order : Order} {work area : List �
             → Cuts d o x (answer d o)
             → F.At k count ≡ foundOf x
             → now ≡ alone (map number (labelsOf x)) work
-            → (A.Listed k n ≡ alphabetOf (answer d o)) × (area′ ≡ answerWords (answer d o) area) × (work′ ≡ alone [] work)
+            → (A.Listed k n ≡ alphabetOf (answer d o)) × (area′ ≡ answerArea (answer d o) area) × (work′ ≡ alone [] work)
         by d o l s tooLarge c e v = absurd (let z : _≡_ {A = ℕ} 0 1 = cc in omega arith)
         by d o l s (listed j labels) c e v =
             let set = map number labels in
@@ -194,7 +194,7 @@ module _ (table : Table) (store : List ℕ) (order : Order) (work area work₁ a
     | no h ↦ elim (decLt (length area) 1024) [
       | yes k ↦ too-short (inr k)
       | no k ↦
-          same (alphabetOf (answer d o)) (answerWords (answer d o) area) (alone [] work)
+          same (alphabetOf (answer d o)) (answerArea (answer d o) area) (alone [] work)
           (p .right d o l e f g (omega arith) (omega arith))
           (q .right d o l e f g (omega arith) (omega arith))
     ]

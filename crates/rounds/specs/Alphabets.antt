@@ -27,16 +27,16 @@ abbrev pub alphabetOf : Outcome → Answer
 alphabetOf tooLarge = A.TooLarge
 alphabetOf (listed rounds labels) = A.Listed rounds (length labels)
 
-abbrev pub answerWords : Outcome → List ℕ → List ℕ
-answerWords tooLarge area = area
-answerWords (listed rounds labels) area = put (map number labels) area
+abbrev pub answerArea : Outcome → List ℕ → List ℕ
+answerArea tooLarge area = area
+answerArea (listed rounds labels) area = put (map number labels) area
 
 -- The call. Nothing is left in the work area: what is used of it is 0.
 pub record Answered (table : Table) (store : List ℕ) (order : Order) (work area work′ area′ : List ℕ) (r : Answer) : Type 0 where
   pub short : (length work < whole) ⊎ (length area < 1024) → (r ≡ A.TooLarge) × (work′ ≡ work) × (area′ ≡ area)
   pub right : (d : D.Description) (o : D.Order) → Legal d o → table ≡ tableOf d → store ≡ storeOf d o → order ≡ orderFor o
       → whole ≤ length work → 1024 ≤ length area
-      → (r ≡ alphabetOf (answer d o)) × (area′ ≡ answerWords (answer d o) area) × (work′ ≡ alone [] work)
+      → (r ≡ alphabetOf (answer d o)) × (area′ ≡ answerArea (answer d o) area) × (work′ ≡ alone [] work)
 
 -- The order as the code takes it: whether it is `all`, and the words of its list.
 abbrev pub allIn : Order → Bool

@@ -9,7 +9,7 @@ use lib.ListN.{length, take, drop, set, replicate}
 use lib.Seq.{take-suc-set, length-take-le}
 use Rattle.meaning.specs.Bytes.{Text}
 use Rattle.table.specs.Encoded.{filled}
-use Rattle.table.proofs.Filled.{length-filled, filled-replicate, filled-more}
+use Rattle.table.proofs.Fillings.{length-filled, filled-replicate, filled-more}
 use Rattle.faults.specs.CodedFaults.{faultOf}
 use Rattle.faults.specs.declared.Fault as F
 use Rattle.faults.specs.declared.Fault.the-variants.{Form}

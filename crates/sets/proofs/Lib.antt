@@ -1,9 +1,9 @@
 -- The laws of sets in words, each file after those that it cites.
 -- halving-start, halving-up, halving-down, halving-end: the loop of `place`; place-splits: what stands before the place of a
 -- label and after it; rising-first: the first label of an ascending list
-pub mod Halving
+pub mod Search
 -- set-moved, pushed-laid: a set opened for a label
-pub mod Opening
+pub mod Openings
 -- entered-present, entered-full, entered-added: the three answers of `insert`
 pub mod Insertion
 -- length-putIn, inserted-room; steady-..: no step shortens a set or takes it past the room; going-..: what is built and what is
@@ -11,10 +11,10 @@ pub mod Insertion
 pub mod Steps
 -- part-stays: a part stays while a set behind it is built; walk-start, walk-holds, walk-large, walk-end: a loop over a part;
 -- walked-part: its promise
-pub mod Walking
+pub mod Walks
 -- compare-lt, compare-gt, compare-eq; insert-present, insert-absent, rising-enter: insertion in an ascending list is the insertion
 -- in order; rising-insert, insert-longer
-pub mod Sorting
+pub mod Ascent
 -- insert-number, insert-ascending, numbers-rising, each-outcome, enter-outcome: what is built of numbers is what `meaning` makes of
 -- the labels; ascending-same, too-much-more: lists with the same members
 pub mod Refinement

@@ -13,13 +13,13 @@ use Rattle.meaning.specs.Sets.{_∈_, Rising, placed, insert, ascending, spread
 use Rattle.meaning.proofs.Tests.{Says}
 use Rattle.meaning.proofs.Order.{_≺_, order-says, ≺-irrefl, ≺-trans}
 use Rattle.meaning.proofs.Digits.{number-below}
-use Rattle.meaning.proofs.Sorted.{Within, sorted-once, once-count}
+use Rattle.meaning.proofs.Ascent.{Within, sorted-once, once-count}
 use Rattle.meaning.proofs.Limits.{Long}
 use Rattle.meaning.proofs.Members.{in-append, in-ascending, ascending-ascends, ascending-unique}
 use Rattle.labels.proofs.Refinement.{Packs, packs-small}
-use Rattle.sets.specs.Building.{Building, done, goesOn, next, each, enter}
+use Rattle.sets.specs.Building.{Building, done, goesOn, andThen, each, enter}
 use Rattle.sets.specs.Inserting.{placedBy, insertNumber}
-use Rattle.sets.proofs.Sorting.{compare-lt, compare-gt, compare-eq, rising-insert, Entering, rising-enter}
+use Rattle.sets.proofs.Ascent.{compare-lt, compare-gt, compare-eq, rising-insert, Entering, rising-enter}
 
 -- The numbers of labels are ordered as the labels are.
 module _ (names : ℕ) where
@@ -132,9 +132,9 @@ module _ (names room : ℕ) (I : List Label → Type 0) (moves : (M N : List Lab
 
     next-outcome : (a : Label) (l M : List Label) (b : Building) → Outcome (gives a ++ M) b
         → ((N : List Label) → AllPack names N → I N → Outcome (spread gives l ++ N) (each step (map number l) (map number (ascending N))))
-        → Outcome ((gives a ++ spread gives l) ++ M) (next b (each step (map number l)))
+        → Outcome ((gives a ++ spread gives l) ++ M) (andThen b (each step (map number l)))
     next-outcome a l M b (inl x) more =
-        outcome-same (spread gives l ++ (gives a ++ M)) ((gives a ++ spread gives l) ++ M) (next b (each step (map number l)))
+        outcome-same (spread gives l ++ (gives a ++ M)) ((gives a ++ spread gives l) ++ M) (andThen b (each step (map number l)))
         (in-swap (gives a) (spread gives l) M) (in-swap-back (gives a) (spread gives l) M)
         (rw (x .built) (more (gives a ++ M) (x .packs) (x .kept)))
     next-outcome a l M b (inr x) more =

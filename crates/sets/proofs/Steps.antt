@@ -18,8 +18,8 @@ use Rattle.sets.specs.declared.Offer.{Offer}
 use Rattle.sets.specs.declared.Offer.the-variants.{Nothing, TooLong, Next}
 use Rattle.parts.specs.Parts.{setAt, laid, roomAt, reachOf}
 use Rattle.sets.specs.Inserting.{present, putIn, pickInserted, inserted, Entered}
-use Rattle.sets.specs.Building.{Building, done, stopped, pickBuilt, answerOf, goesOn, next, each, followed, enter, taken, Grown}
-use Rattle.parts.proofs.Laid.{Fits, length-setAt, laid-self, length-laid, setAt-laid, laid-laid}
+use Rattle.sets.specs.Building.{Building, done, stopped, pickBuilt, answerOf, goesOn, andThen, each, followedBy, enter, taken, Grown}
+use Rattle.parts.proofs.LaidSets.{Fits, length-setAt, laid-self, length-laid, setAt-laid, laid-laid}
 
 -- The length of a set under each step.
 pub length-putIn : (s : List ℕ) (w : ℕ) → length (putIn s w) ≡ suc (length s)
@@ -42,7 +42,7 @@ module _ (room : ℕ) where
   unfolding Steady
   steady-done s = omega arith
 
-  pub steady-next : (f g : List ℕ → Building) → Steady room f → Steady room g → Steady room (λ s. next (f s) g)
+  pub steady-next : (f g : List ℕ → Building) → Steady room f → Steady room g → Steady room (λ s. andThen (f s) g)
   unfolding Steady
   steady-next f g p q s = go (f s .whole)
     where
@@ -55,12 +55,12 @@ module _ (room : ℕ) where
   steady-each step [] p = steady-done
   steady-each step (w ∷ ws) p = steady-next (step w) (each step ws) (p w) (steady-each step ws p)
 
-  pub steady-followed : (w : ℕ) (more : List ℕ → Building) → Steady room more → Steady room (λ s. followed (inserted room w s) w more s)
+  pub steady-followed : (w : ℕ) (more : List ℕ → Building) → Steady room more → Steady room (λ s. followedBy (inserted room w s) w more s)
   unfolding Steady
   steady-followed w more p s = go (inserted room w s) refl
     where
       go : (o : Inserted) → inserted room w s ≡ o
-          → (length s ≤ length (followed o w more s .set)) × (length (followed o w more s .set) ≤ max (length s) room)
+          → (length s ≤ length (followedBy o w more s .set)) × (length (followedBy o w more s .set) ≤ max (length s) room)
       go Full e = omega arith
       go Present e = omega arith
       go Added e =
@@ -88,20 +88,20 @@ built-large true m e = cc
 built-large false m e = refl
 
 pub next-holds : (b : Building) (more : List ℕ → Building) (n : ℕ) → Holds n ≡ answerOf b
-    → (next b more ≡ more (b .set)) × (n ≡ length (b .set))
+    → (andThen b more ≡ more (b .set)) × (n ≡ length (b .set))
 next-holds b more n e = let p = built-holds (b .whole) (length (b .set)) n e in (ap (λ (t : Bool). goesOn t b more) (p .0), p .1)
 
-pub next-large : (b : Building) (more : List ℕ → Building) → TooLarge ≡ answerOf b → next b more ≡ b
+pub next-large : (b : Building) (more : List ℕ → Building) → TooLarge ≡ answerOf b → andThen b more ≡ b
 next-large b more e = ap (λ (t : Bool). goesOn t b more) (built-large (b .whole) (length (b .set)) e)
 
 -- Each label of one list and then each of another.
-pub each-append : (f : ℕ → List ℕ → Building) (xs ys s : List ℕ) → each f (xs ++ ys) s ≡ next (each f xs s) (each f ys)
+pub each-append : (f : ℕ → List ℕ → Building) (xs ys s : List ℕ) → each f (xs ++ ys) s ≡ andThen (each f xs s) (each f ys)
 unfolding each
 each-append f [] ys s = refl
 each-append f (x ∷ xs) ys s = nested (f x s .whole) (f x s) refl (λ t. each-append f xs ys t)
   where
-    nested : (t : Bool) (b : Building) → b .whole ≡ t → ((u : List ℕ) → each f (xs ++ ys) u ≡ next (each f xs u) (each f ys))
-        → goesOn t b (each f (xs ++ ys)) ≡ next (goesOn t b (each f xs)) (each f ys)
+    nested : (t : Bool) (b : Building) → b .whole ≡ t → ((u : List ℕ) → each f (xs ++ ys) u ≡ andThen (each f xs u) (each f ys))
+        → goesOn t b (each f (xs ++ ys)) ≡ andThen (goesOn t b (each f xs)) (each f ys)
     nested true b e h = h (b .set)
     nested false b e h = sym (ap (λ (t : Bool). goesOn t b (each f ys)) e)
 
@@ -182,7 +182,7 @@ module _ (most : ℕ) (step : ℕ → List ℕ → Building)
 module _ (most : ℕ) (step : ℕ → List ℕ → Building) (rest : List ℕ → Building)
     {at len : ℕ} {before now after : List ℕ} {r : Built} {goal : Building}
     (steady : (room : ℕ) → Steady room (step room))
-    (x : Going at before now len (λ s. next (step (roomAt at most (length before)) s) rest) goal)
+    (x : Going at before now len (λ s. andThen (step (roomAt at most (length before)) s) rest) goal)
     (g : Grown (step (roomAt at most (length now))) at len now after r) where
   pub going-holds : (n : ℕ) → r ≡ Holds n → Going at before after n rest goal
   going-holds n e =
@@ -219,7 +219,7 @@ grown-as {at = at} {len} {before} h x =
 
 -- What follows an insertion.
 abbrev pub insertedThen : ℕ → ℕ → (List ℕ → Building) → List ℕ → Building
-insertedThen room w more s = followed (inserted room w s) w more s
+insertedThen room w more s = followedBy (inserted room w s) w more s
 
 module _ {at len most w : ℕ} {ls after : List ℕ} {o : Inserted} (x : Entered at len most w ls after o) where
   abbrev room : ℕ

@@ -41,21 +41,21 @@ abbrev pub goesOn : Bool → Building → (List ℕ → Building) → Building
 goesOn true b more = more (b .set)
 goesOn false b more = b
 
-abbrev pub next : Building → (List ℕ → Building) → Building
-next b more = goesOn (b .whole) b more
+abbrev pub andThen : Building → (List ℕ → Building) → Building
+andThen b more = goesOn (b .whole) b more
 
 unfoldable pub each : (ℕ → List ℕ → Building) → List ℕ → List ℕ → Building
 each step [] s = done s
-each step (w ∷ ws) s = next (step w s) (each step ws)
+each step (w ∷ ws) s = andThen (step w s) (each step ws)
 
 -- A label is put in. If it was not there, more may follow.
-abbrev pub followed : Inserted → ℕ → (List ℕ → Building) → List ℕ → Building
-followed Full w more s = stopped s
-followed Present w more s = done s
-followed Added w more s = more (putIn s w)
+abbrev pub followedBy : Inserted → ℕ → (List ℕ → Building) → List ℕ → Building
+followedBy Full w more s = stopped s
+followedBy Present w more s = done s
+followedBy Added w more s = more (putIn s w)
 
 abbrev pub enter : ℕ → ℕ → List ℕ → Building
-enter room w s = followed (inserted room w s) w done s
+enter room w s = followedBy (inserted room w s) w done s
 
 -- A label that is offered goes on to a step; one of over 31 actions stops.
 abbrev pub taken : (ℕ → List ℕ → Building) → Offer → List ℕ → Building

@@ -10,30 +10,30 @@ use Rattle.slots.specs.declared.Term.{Term}
 use Rattle.slots.specs.declared.Term.the-variants.{Delta, Tau, Act, Ref, Sum, Cond, Choice, IfElse, Seq, Merge, LMerge, Sync, Wrap}
 
 -- the kind's number and the three numbers, each cut to its bits
-unfoldable pub packed : ℕ → ℕ → ℕ → ℕ → ℕ
-packed k t u entries = k + 32 * (t % 65536) + 2097152 * (u % 65536) + 137438953472 * (entries % 65536)
+unfoldable pub packedTerm : ℕ → ℕ → ℕ → ℕ → ℕ
+packedTerm k t u entries = k + 32 * (t % 65536) + 2097152 * (u % 65536) + 137438953472 * (entries % 65536)
 
 -- The word of a term.
 abbrev pub operatorWord : Operator → ℕ → ℕ
-operatorWord (Block p) u = packed 12 (p .at) u (p .entries)
-operatorWord (Hide p) u = packed 13 (p .at) u (p .entries)
-operatorWord (Rename p) u = packed 14 (p .at) u (p .entries)
-operatorWord (Comm p) u = packed 15 (p .at) u (p .entries)
-operatorWord (Allow p) u = packed 16 (p .at) u (p .entries)
+operatorWord (Block p) u = packedTerm 12 (p .at) u (p .entries)
+operatorWord (Hide p) u = packedTerm 13 (p .at) u (p .entries)
+operatorWord (Rename p) u = packedTerm 14 (p .at) u (p .entries)
+operatorWord (Comm p) u = packedTerm 15 (p .at) u (p .entries)
+operatorWord (Allow p) u = packedTerm 16 (p .at) u (p .entries)
 
 abbrev pub termWord : Term → ℕ
 termWord Delta = 0
 termWord Tau = 1
-termWord (Act n) = packed 2 0 n 0
-termWord (Ref e) = packed 3 0 e 0
-termWord (Sum u) = packed 4 0 u 0
-termWord (Cond u) = packed 5 0 u 0
-termWord (Choice t u) = packed 6 t u 0
-termWord (IfElse t u) = packed 7 t u 0
-termWord (Seq t u) = packed 8 t u 0
-termWord (Merge t u) = packed 9 t u 0
-termWord (LMerge t u) = packed 10 t u 0
-termWord (Sync t u) = packed 11 t u 0
+termWord (Act n) = packedTerm 2 0 n 0
+termWord (Ref e) = packedTerm 3 0 e 0
+termWord (Sum u) = packedTerm 4 0 u 0
+termWord (Cond u) = packedTerm 5 0 u 0
+termWord (Choice t u) = packedTerm 6 t u 0
+termWord (IfElse t u) = packedTerm 7 t u 0
+termWord (Seq t u) = packedTerm 8 t u 0
+termWord (Merge t u) = packedTerm 9 t u 0
+termWord (LMerge t u) = packedTerm 10 t u 0
+termWord (Sync t u) = packedTerm 11 t u 0
 termWord (Wrap o u) = operatorWord o u
 
 -- The term of a word: the kinds by their numbers.

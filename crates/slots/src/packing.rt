@@ -8,12 +8,12 @@ use crate::Place;
 use crate::Term;
 ghost use mathlib.Core.Path.{_≡_};
 ghost use Prim.Native.Nat.{_≤_};
-ghost use Rattle.slots.specs.Packing.{packed, operatorWord, termWord, plainOf, operatorAt, wordTerm};
+ghost use Rattle.slots.specs.Packing.{packedTerm, operatorWord, termWord, plainOf, operatorAt, wordTerm};
 
 // A kind's number and the three numbers in one word.
 fn packed(kind: u64, t: usize, u: usize, entries: usize) -> u64
     requires { ⌜ kind ≤ 16 ⌝ }
-    ensures { λ r. ⌜ r ≡ packed kind t u entries ⌝ }
+    ensures { λ r. ⌜ r ≡ packedTerm kind t u entries ⌝ }
 {
     let first = (t % 65536) as u64;
     let second = (u % 65536) as u64;

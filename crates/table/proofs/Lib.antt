@@ -5,10 +5,10 @@ pub mod Parts
 -- shift-pow: a number shifted up in a word
 pub mod Shifts
 -- length-filled, filled-more, filled-front, zeroed-filled; slots-more, part-free, part-more: one entry more, and what is filled up
-pub mod Filled
+pub mod Fillings
 -- term-back: a term of a legal description comes back from its word; rising-few, rising-pairs: ascending numbers are few
-pub mod Packed
+pub mod PackedTerms
 -- term-words, order-words, term-of, body-of, bodies-of: what stands where in the table and the store of a description
-pub mod Stored
+pub mod Stores
 -- decoded: the table and the store of a legal description stand for it; list-stored, length-ruleWords: a term's list
-pub mod Decoded
+pub mod TableTerms

@@ -67,15 +67,15 @@ unfoldable pub storeOf : D.Description → D.Order → List ℕ
 storeOf d o = filled 3072 0 (termsWords (d .terms)) ++ filled 32 0 (orderWords o)
 
 -- The table.
-abbrev pub placeOf : {A : Type 0} → ℕ → List A → Place
-placeOf n xs = record { at = 32 * n; entries = length xs }
+abbrev pub listPlace : {A : Type 0} → ℕ → List A → Place
+listPlace n xs = record { at = 32 * n; entries = length xs }
 
 abbrev pub operatorFor : ℕ → D.Operator → Operator
-operatorFor n (D.block ns) = Block (placeOf n ns)
-operatorFor n (D.hide ns) = Hide (placeOf n ns)
-operatorFor n (D.rename ps) = Rename (placeOf n ps)
-operatorFor n (D.comm rs) = Comm (placeOf n rs)
-operatorFor n (D.allow ls) = Allow (placeOf n ls)
+operatorFor n (D.block ns) = Block (listPlace n ns)
+operatorFor n (D.hide ns) = Hide (listPlace n ns)
+operatorFor n (D.rename ps) = Rename (listPlace n ps)
+operatorFor n (D.comm rs) = Comm (listPlace n rs)
+operatorFor n (D.allow ls) = Allow (listPlace n ls)
 
 abbrev pub termFor : ℕ → D.Term → Term
 termFor n (D.act a) = Act a
@@ -98,7 +98,7 @@ slotsFrom n (t ∷ ts) = termWord (termFor n t) ∷ slotsFrom (suc n) ts
 
 abbrev pub orderFor : D.Order → Order
 orderFor D.all = All
-orderFor (D.only ls) = Only (placeOf 96 ls)
+orderFor (D.only ls) = Only (listPlace 96 ls)
 
 unfoldable pub tableOf : D.Description → Table
 tableOf d =

@@ -25,7 +25,7 @@ use Rattle.words.proofs.Rests.{rest-cons, literal-other, literal-more}
 use Rattle.words.proofs.Steps.{onward-assoc, back-stuck, back-past}
 use Rattle.entries.specs.Entries.{saidOf, seen, nameEntry}
 use Rattle.entries.specs.declared.Said as C
-use Rattle.lists.specs.Lists.{over}
+use Rattle.lists.specs.Lists.{overlaid}
 use Rattle.tails.specs.Lines.{LineTerm, LineRead, Storeless}
 use Rattle.tails.specs.Plains.{PlainRead, madeOf, plainTail}
 use Rattle.tails.specs.declared.TermStep.{TermStep}
@@ -89,8 +89,8 @@ plain-bare n (LMerge t u) p = (refl, refl)
 plain-bare n (Sync t u) p = (refl, refl)
 plain-bare n (Wrap o t) p = absurd p
 
-pub over-nothing : (store : List ℕ) → store ≡ over [] store
-unfolding over
+pub over-nothing : (store : List ℕ) → store ≡ overlaid [] store
+unfolding overlaid
 over-nothing store = refl
 
 plain-line : (words : List Text) (line : Text) (due : Past Line) (r : TermStep) → PlainRead line due r → Storeless words line due r

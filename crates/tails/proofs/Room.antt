@@ -11,7 +11,7 @@ use Rattle.grammar.specs.Text.{Past, stuck}
 use Rattle.grammar.specs.Forms.{Line, ofList}
 use Rattle.words.specs.Steps.{Stands}
 use Rattle.tails.specs.Plains.{plainTail}
-use Rattle.tails.specs.Wraps.{wrapOf, contents, listed}
+use Rattle.tails.specs.Wraps.{wrapOf, contents, wrapListed}
 use Rattle.tails.specs.Tails.{tailOf, withRoom}
 
 module _ (names : List ℕ) (n : ℕ) where
@@ -29,5 +29,5 @@ module _ (names : List ℕ) (n : ℕ) where
       pub plain-room : (k : ℕ) (s : Text) → k < 12 → plainTail k s ≡ withRoom names n (tailOf k s) s
       plain-room k s h = rw (le-leb (length names) 12 few, lt-ltb n 96 fits, lt-ltb k 12 h)
 
-      pub wrap-room : (k : ℕ) (s : Text) → 12 ≤ k → ofList (contents (wrapOf k)) (listed (wrapOf k)) s ≡ withRoom names n (tailOf k s) s
+      pub wrap-room : (k : ℕ) (s : Text) → 12 ≤ k → ofList (contents (wrapOf k)) (wrapListed (wrapOf k)) s ≡ withRoom names n (tailOf k s) s
       wrap-room k s h = rw (le-leb (length names) 12 few, lt-ltb n 96 fits, le-ltb k 12 h)

@@ -17,7 +17,7 @@ use Rattle.faults.specs.declared.Found as G
 use Rattle.faults.specs.declared.Found.the-variants.{Fine}
 use Rattle.faults.proofs.Uniqueness.{found-unique}
 use Rattle.words.proofs.Uniqueness.{place-unique, apart}
-use Rattle.lists.specs.Lists.{over}
+use Rattle.lists.specs.Lists.{overlaid}
 use Rattle.tails.specs.Lines.{LineRead}
 use Rattle.tails.specs.Tails.{TailRead}
 use Rattle.tails.specs.declared.TermStep.{TermStep}
@@ -97,7 +97,7 @@ module _ (words : List Text) (n : ℕ) (line : Text) (due : Past Line) (before :
   made l = termFor n (termSaid words l)
 
   abbrev stores : Line → List ℕ
-  stores l = over (termWords (termSaid words l)) before
+  stores l = overlaid (termWords (termSaid words l)) before
 
   line-meets : (after : List ℕ) (r : TermStep) → LineRead words n line due before after r
       → Meets due made (wordsOfFault words) stores after (termSeen line r) × Inside line r

@@ -22,9 +22,9 @@ use Rattle.grammar.specs.Faults.{operatorSaid, nameNumber, pairSaid, ruleSaid, 
 use Rattle.entries.specs.Tallies.{Said}
 use Rattle.words.specs.Steps.{Stands}
 use Rattle.entries.specs.Entries.{saidPlace, saidOf, nameEntry, pairEntry, ruleEntry, labelEntry}
-use Rattle.lists.specs.Lists.{listFaults, listEntry, listWords, listOf, unlessNone, wholeList, over, ListRead}
+use Rattle.lists.specs.Lists.{listFaults, listEntry, listWords, listOf, unlessNone, wholeList, overlaid, ListRead}
 use Rattle.tails.specs.Lines.{LineTerm}
-use Rattle.tails.specs.Wraps.{WrapKind, Block, Hide, Rename, Comm, Allow, wrapOf, listKind, ContentsOf, contents, listed}
+use Rattle.tails.specs.Wraps.{WrapKind, Block, Hide, Rename, Comm, Allow, wrapOf, listKind, ContentsOf, contents, wrapListed}
 use Rattle.entries.specs.declared.Said as C
 use Rattle.entries.specs.declared.SaidStep.{SaidStep}
 use Rattle.entries.specs.declared.SaidStep.the-variants as S
@@ -78,7 +78,7 @@ listed-entries Rename words s = all-too (pairEntry words) comma pair (suc (lengt
 listed-entries Comm words s = all-too (ruleEntry words) comma rule (suc (length s)) s
 listed-entries Allow words s = labels-too words s (sameText s (ascii "none")) refl
 
-pub listed-faults : (w : WrapKind) (words : List Text) (c : ContentsOf w) → listFaults (listKind w) (entries w words c) ≡ listFault words (listed w c)
+pub listed-faults : (w : WrapKind) (words : List Text) (c : ContentsOf w) → listFaults (listKind w) (entries w words c) ≡ listFault words (wrapListed w c)
 listed-faults Block words c = sym (names-faults words c)
 listed-faults Hide words c = sym (names-faults words c)
 listed-faults Rename words c = sym (pairs-faults words c)
@@ -93,8 +93,8 @@ labels-fine : (words : List Text) (ls : List Parts) → labelsFault words ls ≡
 unfolding labelsFault
 labels-fine words ls e = worse-none (worst (labelFault words) ls) _ e .0
 
-pub listed-words : (w : WrapKind) (words : List Text) (c : ContentsOf w) → listFault words (listed w c) ≡ fine
-    → listWords (listKind w) (entries w words c) ≡ operatorWords (operatorSaid words (listed w c))
+pub listed-words : (w : WrapKind) (words : List Text) (c : ContentsOf w) → listFault words (wrapListed w c) ≡ fine
+    → listWords (listKind w) (entries w words c) ≡ operatorWords (operatorSaid words (wrapListed w c))
 listed-words Block words c e = names-words words c
 listed-words Hide words c e = names-words words c
 listed-words Rename words c e = pairs-words words c
@@ -105,7 +105,7 @@ same-length : {A B D : Type 0} (f : A → B) (g : A → D) (xs : List A) → len
 same-length f g xs = length-map xs f ∙ sym (length-map xs g)
 
 pub listed-operator : (w : WrapKind) (words : List Text) (n : ℕ) (c : ContentsOf w)
-    → wrappedOf w (record { at = 32 * n; entries = length (entries w words c) }) ≡ operatorFor n (operatorSaid words (listed w c))
+    → wrappedOf w (record { at = 32 * n; entries = length (entries w words c) }) ≡ operatorFor n (operatorSaid words (wrapListed w c))
 listed-operator Block words n c = rw (same-length (nameEntry words) (nameNumber words) c)
 listed-operator Hide words n c = rw (same-length (nameEntry words) (nameNumber words) c)
 listed-operator Rename words n c = rw (same-length (pairEntry words) (pairSaid words) c)
@@ -127,7 +127,7 @@ module _ (w : WrapKind) (words : List Text) (line : Text) (from : ℕ) (i : from
 
   pub wrap-went : {e : C.Said} {n : ℕ} → r ≡ S.To e n
       → (c : ContentsOf w) × (past c (drop (from + n) line) ≡ contents w (drop from line)) × (saidOf e ≡ listEntry (listKind w) (entries w words c))
-      × (after ≡ over (listWords (listKind w) (entries w words c)) before)
+      × (after ≡ overlaid (listWords (listKind w) (entries w words c)) before)
   wrap-went {e} g =
       let s = shifted (past (saidOf e)) i (said-went (h .read) g) in
       let b = back-past (λ c. listEntry (listKind w) (entries w words c)) (contents w (drop from line)) (s .says ∙ flat) in
@@ -137,7 +137,7 @@ module _ (w : WrapKind) (words : List Text) (line : Text) (from : ℕ) (i : from
 -- What follows the word.
 module _ (w : WrapKind) where
   abbrev pub after-list : ℕ → ContentsOf w → Text → Past Line
-  after-list t l o = onward (ended o) (λ _ m. past (wraps (listed w l) t) m)
+  after-list t l o = onward (ended o) (λ _ m. past (wraps (wrapListed w l) t) m)
 
   abbrev pub after-space : ℕ → Unit {0} → Text → Past Line
   after-space t u p = onward (contents w p) (after-list t)
@@ -145,14 +145,14 @@ module _ (w : WrapKind) where
   abbrev pub after-operand : ℕ → Text → Past Line
   after-operand t q = onward (literal (space ∷ []) q) (after-space t)
 
-  pub wrap-seen : (s : Text) → onward (operand s) after-operand ≡ ofList (contents w) (listed w) s
+  pub wrap-seen : (s : Text) → onward (operand s) after-operand ≡ ofList (contents w) (wrapListed w) s
   unfolding ofList
   wrap-seen s = onward-assoc (literal (space ∷ []) s) (λ _ q. Rattle.grammar.specs.Text.number q) after-operand
 
 -- The answers on a line of a kind with a list: by its operand, by the space after it, by its list, and by the end.
 module _ (w : WrapKind) (words : List Text) (line : Text) where
   abbrev Due : Past Line
-  Due = ofList (contents w) (listed w) line
+  Due = ofList (contents w) (wrapListed w) line
 
   pub no-operand : {t : Text} {p : ℕ} → Stands line p (stuck t) (operand line) → Stands line p (stuck t) Due
   no-operand s = become (wrap-seen w line) (stops (after-operand w) s)
@@ -182,7 +182,7 @@ module _ (w : WrapKind) (words : List Text) (line : Text) where
 
       module _ {said : C.Said} {n : ℕ} (g : l ≡ S.To said n) where
         abbrev end : ContentsOf w → Unit {0} → Text → Past Line
-        end c u m = past (wraps (listed w c) t) m
+        end c u m = past (wraps (wrapListed w c) t) m
 
         pub no-end : from + 1 + n < length line → Stands line (from + 1 + n) (stuck (drop (from + 1 + n) line)) Due
         no-end k =
@@ -197,13 +197,13 @@ module _ (w : WrapKind) (words : List Text) (line : Text) where
             let c = wrap-went w words line (from + 1) i list g in
             let ending = ap (λ d. onward d (end (c .0))) (ended-none line (from + 1 + n) k) ∙ ap (λ d. onward d (after-list w t)) (c .1) in
             record {
-              line = wraps (listed w (c .0)) t;
+              line = wraps (wrapListed w (c .0)) t;
               says = beyond ending (inside (sym (ap saidPlace g))) .says;
               term =
                   ap (λ p. Wrap p t)
                   (o ∙ ap (λ i. wrappedOf w (record { at = 32 * number; entries = i })) (ap (λ d. d .first) (c .2)) ∙ listed-operator w words number (c .0));
               faults = ap (λ d. d .found) (c .2) ∙ listed-faults w words (c .0);
-              stored = λ z. c .3 ∙ ap (λ ws. over ws before) (listed-words w words (c .0) z);
+              stored = λ z. c .3 ∙ ap (λ ws. overlaid ws before) (listed-words w words (c .0) z);
             }
 
 -- every other place is that of allow

@@ -13,7 +13,7 @@ use Rattle.grammar.specs.Faults.{fine, termSaid, wordsOfFault}
 use Rattle.faults.specs.CodedFaults.{foundOf}
 use Rattle.faults.specs.declared.Found as G
 use Rattle.words.specs.Steps.{Stands}
-use Rattle.lists.specs.Lists.{over}
+use Rattle.lists.specs.Lists.{overlaid}
 use Rattle.tails.specs.declared.TermStep.{TermStep}
 use Rattle.tails.specs.declared.TermStep.the-variants as T
 
@@ -23,7 +23,7 @@ pub record LineTerm (words : List Text) (n : ℕ) (due : Past Line) (before afte
   pub says : past line [] ≡ due
   pub term : x ≡ termFor n (termSaid words line)
   pub faults : foundOf f ≡ wordsOfFault words line
-  pub stored : wordsOfFault words line ≡ fine → after ≡ over (termWords (termSaid words line)) before
+  pub stored : wordsOfFault words line ≡ fine → after ≡ overlaid (termWords (termSaid words line)) before
 
 -- where it is stuck the place lies in the line
 abbrev pub LineRead : List Text → ℕ → Text → Past Line → List ℕ → List ℕ → TermStep → Type 0

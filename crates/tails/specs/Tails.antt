@@ -12,12 +12,12 @@ use Rattle.grammar.specs.Text.{Past, stuck}
 use Rattle.grammar.specs.Forms.{Line, ofList}
 use Rattle.tails.specs.Lines.{LineRead}
 use Rattle.tails.specs.Plains.{plainTail}
-use Rattle.tails.specs.Wraps.{wrapOf, contents, listed}
+use Rattle.tails.specs.Wraps.{wrapOf, contents, wrapListed}
 use Rattle.tails.specs.declared.TermStep.{TermStep}
 
 -- by the kind's place among all kinds: the first twelve have no list
 abbrev pub tailOf : ℕ → Text → Past Line
-tailOf k s = pick (ltb k 12) (plainTail k s) (ofList (contents (wrapOf k)) (listed (wrapOf k)) s)
+tailOf k s = pick (ltb k 12) (plainTail k s) (ofList (contents (wrapOf k)) (wrapListed (wrapOf k)) s)
 
 -- A description has at most 12 names and 96 terms; with more names, or at a number past the last, nothing is read.
 abbrev pub withRoom : List ℕ → ℕ → Past Line → Text → Past Line

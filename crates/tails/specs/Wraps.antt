@@ -44,12 +44,12 @@ contents Rename = separated comma pair
 contents Comm = separated comma rule
 contents Allow = labelList
 
-abbrev pub listed : (w : WrapKind) → ContentsOf w → Listed
-listed Block ws = F.block ws
-listed Hide ws = F.hide ws
-listed Rename ps = F.rename ps
-listed Comm rs = F.comm rs
-listed Allow ls = F.allow ls
+abbrev pub wrapListed : (w : WrapKind) → ContentsOf w → Listed
+wrapListed Block ws = F.block ws
+wrapListed Hide ws = F.hide ws
+wrapListed Rename ps = F.rename ps
+wrapListed Comm rs = F.comm rs
+wrapListed Allow ls = F.allow ls
 
 -- the term of a kind with a list, at its number, with the list's fault
 abbrev pub wrapStep : ℕ → ℕ → ℕ → Said → TermStep

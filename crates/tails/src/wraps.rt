@@ -6,7 +6,7 @@ ghost use lib.ListN.{length};
 ghost use Rattle.table.specs.Decoded.{nameOf};
 ghost use Rattle.grammar.specs.Forms.{ofList};
 ghost use Rattle.tails.specs.Lines.{LineRead};
-ghost use Rattle.tails.specs.Wraps.{wrapOf, listKind, contents, listed, wrapStep};
+ghost use Rattle.tails.specs.Wraps.{wrapOf, listKind, contents, wrapListed, wrapStep};
 use crate::TermStep;
 use entries::ListKind;
 use entries::Said;
@@ -53,7 +53,7 @@ fn wrapped(k: usize, t: usize, n: usize, said: Said) -> TermStep
 pub fn read_wrap(k: usize, rest: &[u8], names: &[u64], n: usize, store: &mut [u64]) -> TermStep
     requires { ⌜ (length (now names) ≤ 12) × (n < 96) ⌝ }
     ensures { λ r. ⌜ LineRead (map (nameOf 8) (now (names .entry))) n (now (rest .entry))
-        (ofList (contents (wrapOf k)) (listed (wrapOf k)) (now (rest .entry))) (now (store .entry)) (now (store .exit)) r ⌝ }
+        (ofList (contents (wrapOf k)) (wrapListed (wrapOf k)) (now (rest .entry))) (now (store .entry)) (now (store .exit)) r ⌝ }
 {
     let operand = number_after(rest, b' ');
     let Step::To(t, after) = operand else {

@@ -12,8 +12,8 @@ use Rattle.slots.specs.declared.Term.{Term}
 use Rattle.table.specs.Decoded.{nameOf}
 use Rattle.table.specs.Encoded.{filled, termWords, termsWords, termFor, slotsFrom}
 use Rattle.slots.specs.Packing.{termWord}
-use Rattle.table.proofs.Filled.{slots-more, part-free, part-more}
-use Rattle.lists.specs.Lists.{over}
+use Rattle.table.proofs.Fillings.{slots-more, part-free, part-more}
+use Rattle.lists.specs.Lists.{overlaid}
 use Rattle.grammar.specs.Text.{Past, stuck}
 use Rattle.grammar.specs.Forms.{Line, termLine}
 use Rattle.grammar.specs.Faults.{termSaid, termFault}
@@ -92,14 +92,14 @@ module _ {text names : List ℕ} {equations : ℕ} {slots : List ℕ} {n : ℕ} 
           }
 
 -- A list over words that are all 0, and what the store then holds.
-pub over-free : (n : ℕ) (ws : List ℕ) → over ws (filled n 0 []) ≡ filled n 0 ws
-unfolding over filled
+pub over-free : (n : ℕ) (ws : List ℕ) → overlaid ws (filled n 0 []) ≡ filled n 0 ws
+unfolding overlaid filled
 over-free n [] = refl
 over-free zero (w ∷ ws) = refl
 over-free (suc n) (w ∷ ws) = ap {B = List ℕ} (λ l. w ∷ l) (over-free n ws)
 
 module _ (ts : List D.Term) (n k : ℕ) (store : List ℕ) (h : n < 96) (e : n ≡ length ts) (w : k ≡ 32) (s : store ≡ filled 3072 0 (termsWords ts)) where
-  pub store-more : {after : List ℕ} (t : D.Term) → after ≡ over (termWords t) (take k (drop (32 * n) store))
+  pub store-more : {after : List ℕ} (t : D.Term) → after ≡ overlaid (termWords t) (take k (drop (32 * n) store))
       → take (32 * n) store ++ (after ++ drop k (drop (32 * n) store)) ≡ filled 3072 0 (termsWords (ts ++ (t ∷ [])))
   store-more t q =
       rw (q, w, s, part-free 3072 (32 * n) (3040 - 32 * n) ts (omega arith) (omega arith), over-free 32 (termWords t))

@@ -9,7 +9,7 @@ use Rattle.meaning.specs.Bytes.{Text}
 use Rattle.meaning.specs.Descriptions as D
 use Rattle.table.specs.Decoded.{nameOf}
 use Rattle.table.specs.Encoded.{filled, slotsFrom, termsWords}
-use Rattle.table.proofs.Filled.{length-filled}
+use Rattle.table.proofs.Fillings.{length-filled}
 use Rattle.faults.specs.declared.Fault as F
 use Rattle.faults.specs.declared.Fault.the-variants.{Form}
 use Rattle.grammar.specs.Reading.{Taken, Walk, takeTerm, oneLine, lines}

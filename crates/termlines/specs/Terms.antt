@@ -11,7 +11,7 @@ use Rattle.table.specs.Decoded.{nameOf}
 use Rattle.table.specs.Encoded.{filled, termWords, termFor, slotsFrom, termsWords}
 use Rattle.slots.specs.Packing.{termWord}
 use Rattle.faults.specs.CodedFaults.{faultOf}
-use Rattle.lists.specs.Lists.{over}
+use Rattle.lists.specs.Lists.{overlaid}
 use Rattle.grammar.specs.Reading.{Walk, reached, halted, oneLine, lines, takeTerm}
 use Rattle.textlines.specs.Walks.{TookOf, inRoom}
 use Rattle.textlines.specs.declared.Progress.{Progress}
@@ -28,7 +28,7 @@ pub record TermTo (terms : List D.Term) (text : Text) (n : ℕ) (due : Walk (Lis
   pub term : D.Term
   pub says : reached (terms ++ (term ∷ [])) (suc n) (drop took text) ≡ due
   pub kept : w ≡ termWord (termFor (length terms) term)
-  pub stored : after ≡ over (termWords term) before
+  pub stored : after ≡ overlaid (termWords term) before
 
 abbrev pub TermWalks : List D.Term → Text → ℕ → Walk (List D.Term) → List ℕ → List ℕ → Progress → Type 0
 TermWalks terms text n due before after (To w took) = TermTo terms text n due before after w took

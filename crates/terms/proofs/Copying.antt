@@ -18,7 +18,7 @@ use Rattle.meaning.proofs.Growth.{round-length, at-body}
 use Rattle.meaning.proofs.Least.{term-legal}
 use Rattle.meaning.proofs.Outcomes.{Same, SameFor, made-same}
 use Rattle.table.specs.Encoded.{termFor, tableOf}
-use Rattle.table.proofs.Stored.{body-of}
+use Rattle.table.proofs.Stores.{body-of}
 use Rattle.sets.specs.declared.Built.{Built}
 use Rattle.parts.specs.Parts.{roomAt}
 use Rattle.sets.specs.Building.{Grown}

@@ -18,13 +18,13 @@ use Rattle.meaning.proofs.Bags.{length-several, size-several, size-empty}
 use Rattle.meaning.proofs.Carried.{length-worked}
 use Rattle.meaning.proofs.Least.{term-legal}
 use Rattle.table.specs.Encoded.{operatorFor, termFor, storeOf, tableOf}
-use Rattle.table.proofs.Stored.{body-of}
+use Rattle.table.proofs.Stores.{body-of}
 use Rattle.labels.proofs.Words.{number-empty}
 use Rattle.labels.proofs.Refinement.{Packs, single-number}
 use Rattle.sets.specs.declared.Built.{Built}
 use Rattle.ways.specs.declared.Way.{Way}
 use Rattle.parts.specs.Parts.{roomAt}
-use Rattle.sets.specs.Building.{next, Grown}
+use Rattle.sets.specs.Building.{andThen, Grown}
 use Rattle.composing.specs.Making.{leafBuilt}
 use Rattle.growth.specs.Fresh.{throughBuilt}
 use Rattle.wrapping.specs.Ways.{wayFor}
@@ -94,7 +94,8 @@ module _ (d : Description) (o : Order) (k n : ℕ) (older before this work work�
   kind (sync t u) e l g = joint-arm d k n older before this work work′ r ready more t u (l .0 .0) (l .0 .1) (ap (shape d) e) g
   kind (wrap op t) e l g =
       let Wrapped : Way → List ℕ → Type 0 =
-      λ way ws. Grown (λ s. next (copyBuilt room old s) (throughBuilt room way ws (newOf (placeOf d k n) before this work t))) (placeOf d k n) 0 work work′ r in
+      λ way ws. Grown
+      (λ s. andThen (copyBuilt room old s) (throughBuilt room way ws (newOf (placeOf d k n) before this work t))) (placeOf d k n) 0 work work′ r in
       through-grown-arm d k n older before this work work′ r ready more op t (l .0) (l .1) (ap (shape d) e)
       (subst (λ (way : Way). Wrapped way (wayWords (names d) op)) (way-same d o n t more (ready .legal .termsCount .1) narrow op)
       (subst (Wrapped (wayFor (operatorFor n op))) (words-same d o n t more (ready .legal .termsCount .1) narrow op e (l .1)) g))

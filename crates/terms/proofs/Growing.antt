@@ -17,16 +17,16 @@ use Rattle.meaning.specs.Legal.{Each, LegalRule, LegalOperator}
 use Rattle.meaning.specs.Rounds.{Shape, reference, one, either, both, through, shape, made, image, replaced, applied, communicated, roundSets, equationSets}
 use Rattle.meaning.proofs.Bags.{plus-comm}
 use Rattle.meaning.proofs.Digits.{number-injective}
-use Rattle.meaning.proofs.Sorted.{Within}
+use Rattle.meaning.proofs.Ascent.{Within}
 use Rattle.meaning.proofs.Members.{Sum, in-append, in-spread, in-spread→, in-product, in-product→, in-ascending}
-use Rattle.meaning.proofs.Made.{sum-grows}
+use Rattle.meaning.proofs.Shapes.{sum-grows}
 use Rattle.meaning.proofs.Operators.{in-applied, in-applied→, fewer-left, communicated-self}
 use Rattle.meaning.proofs.Outcomes.{SameFor, made-same}
 use Rattle.meaning.proofs.Growth.{round-grows, round-length, at-body}
 use Rattle.labels.proofs.Refinement.{packs-small}
 use Rattle.sets.specs.declared.Built.{Built}
 use Rattle.ways.specs.declared.Way.the-variants.{Copy}
-use Rattle.sets.specs.Building.{Building, next, Grown}
+use Rattle.sets.specs.Building.{Building, andThen, Grown}
 use Rattle.products.specs.Multiplying.{multiplied}
 use Rattle.comm.proofs.Communication.{rule-legal}
 use Rattle.sets.proofs.Refinement.{AllPack}
@@ -190,7 +190,7 @@ module _ (A′ A B′ B : List Label) (x : New A′ A) (y : New B′ B) where
 -- A set copied and added to, where the one copied is of labels of the whole alone.
 module _ (names room : ℕ) where
   grown : (M N : List Label) (f : List ℕ → Building) → AllPack names M → Within M N → Settled names room N (f (map number (ascending M)))
-      → Settled names room N (next (copyBuilt room (map number (ascending M)) []) f)
+      → Settled names room N (andThen (copyBuilt room (map number (ascending M)) []) f)
   grown M N f p w x = settled-next names room M N (copyBuilt room (map number (ascending M)) []) f w (copied-settled names room M p) (λ q. x)
 
   made-or : (N : List Label) (first more : List ℕ → Building) (s : List Label) → Settled names room N (first []) → Settled names room N (more (map number s))
@@ -232,7 +232,7 @@ module _ (names room : ℕ) (few : names ≤ 12) where
   through-grown : (o : Operator) → LegalOperator names o → (L N : List Label) → AllPack names L → AllPack names N → AllPack names (spread (image names o) L)
       → Within (spread (image names o) L) (spread (image names o) N)
       → Settled names room (spread (image names o) N)
-      (next (copyBuilt room (map number (ascending (spread (image names o) L))) [])
+      (andThen (copyBuilt room (map number (ascending (spread (image names o) L))) [])
       (throughBuilt room (wayOf o) (wayWords names o) (fresh (map number L) (map number N))))
   through-grown o h L N p q r w =
       let x = new-labels names L N p q in
@@ -247,7 +247,7 @@ module _ (names room : ℕ) (few : names ≤ 12) where
   module _ (A′ A B′ B : List Label) (p′ : AllPack names A′) (p : AllPack names A) (q′ : AllPack names B′) (q : AllPack names B) (up : ascending A ≡ A)
       (also : ascending B ≡ B) where
     either-grown : AllPack names (A′ ++ B′) → Within (A′ ++ B′) (A ++ B)
-        → Settled names room (A ++ B) (next (copyBuilt room (map number (ascending (A′ ++ B′))) [])
+        → Settled names room (A ++ B) (andThen (copyBuilt room (map number (ascending (A′ ++ B′))) [])
         (madeOr (eitherBuilt room (map number A) (map number B))
         (eitherAdded room (fresh (map number A′) (map number A)) (fresh (map number B′) (map number B)))))
     either-grown r w =
@@ -264,7 +264,7 @@ module _ (names room : ℕ) (few : names ≤ 12) where
         (either-more names room (x .list) (y .list) M (new-packs A′ A x p) (new-packs B′ B y q) r))))
 
     both-grown : AllPack names (A′ ++ B′ ++ product A′ B′) → Within (A′ ++ B′ ++ product A′ B′) (A ++ B ++ product A B)
-        → Settled names room (A ++ B ++ product A B) (next (copyBuilt room (map number (ascending (A′ ++ B′ ++ product A′ B′))) [])
+        → Settled names room (A ++ B ++ product A B) (andThen (copyBuilt room (map number (ascending (A′ ++ B′ ++ product A′ B′))) [])
         (madeOr (bothBuilt room (map number A) (map number B))
         (bothAdded room (fresh (map number A′) (map number A)) (map number A) (fresh (map number B′) (map number B)) (map number B))))
     both-grown r w =
@@ -299,7 +299,7 @@ module _ (names room : ℕ) (few : names ≤ 12) (sums : Bool) (eqs old sets : L
   two-grown : AllPack names (at old t) → AllPack names (at sets t) → AllPack names (at old u) → AllPack names (at sets u)
       → ascending (at sets t) ≡ at sets t → ascending (at sets u) ≡ at sets u → AllPack names (made [] old (two sums t u))
       → Within (made [] old (two sums t u)) (made eqs sets (two sums t u))
-      → Settled names room (made eqs sets (two sums t u)) (next (copyBuilt room (map number (ascending (made [] old (two sums t u)))) [])
+      → Settled names room (made eqs sets (two sums t u)) (andThen (copyBuilt room (map number (ascending (made [] old (two sums t u)))) [])
       (madeOr (wholeOf sums room (map number (at sets t)) (map number (at sets u)))
       (addedOf sums room (fresh (map number (at old t)) (map number (at sets t))) (map number (at sets t))
       (fresh (map number (at old u)) (map number (at sets u))) (map number (at sets u)))))
@@ -367,7 +367,7 @@ module _ (d : Description) (k n : ℕ) (older before this work work′ : List �
         (round-grows d k n a (in-old a m)))
 
   pub through-grown-arm : (op : Operator) (t : ℕ) → t < n → LegalOperator (names d) op → shape d (termAt d n) ≡ through (image (names d) op) t
-      → Grown (λ s. next (copyBuilt room old s) (throughBuilt room (wayOf op) (wayWords (names d) op) (newOf (placeOf d k n) before this work t)))
+      → Grown (λ s. andThen (copyBuilt room old s) (throughBuilt room (wayOf op) (wayWords (names d) op) (newOf (placeOf d k n) before this work t)))
       (placeOf d k n) 0 work work′ answer
       → Worked d k n work work′ answer
   unfolding spread
@@ -375,7 +375,7 @@ module _ (d : Description) (k n : ℕ) (older before this work work′ : List �
       let s = through (image (names d) op) t in
       let looks : Looks d k n s = λ eqs sets j. j t h in
       let build : List ℕ → Building =
-      λ w. next (copyBuilt room old w) (throughBuilt room (wayOf op) (wayWords (names d) op) (newOf (placeOf d k n) before this work t)) in
+      λ w. andThen (copyBuilt room old w) (throughBuilt room (wayOf op) (wayWords (names d) op) (newOf (placeOf d k n) before this work t)) in
       arm d k n older before this work work′ answer r more build g
       (through-grown-fits room old (wayOf op) (wayWords (names d) op) (newOf (placeOf d k n) before this work t))
       (shaped d k n older before this work work′ answer r more s (build []) e

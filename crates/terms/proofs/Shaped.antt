@@ -15,13 +15,13 @@ use Rattle.meaning.specs.Sets.{_∈_, ascending, spread, product}
 use Rattle.meaning.specs.Descriptions.{Operator, block, hide, rename, comm, allow, Pair, Rule}
 use Rattle.meaning.specs.Legal.{Each, LegalLabel, LegalPair, LegalOperator}
 use Rattle.meaning.specs.Rounds.{image, replaced}
-use Rattle.meaning.proofs.Sorted.{Within}
+use Rattle.meaning.proofs.Ascent.{Within}
 use Rattle.meaning.proofs.Members.{in-append}
 use Rattle.areas.proofs.Entries.{pairWords, labelWords, ruleLabels}
 use Rattle.labels.proofs.Refinement.{Packs}
 use Rattle.ways.specs.declared.Way.{Way}
 use Rattle.ways.specs.declared.Way.the-variants.{Copy, Block, Hide, Rename, Comm, Allow}
-use Rattle.sets.specs.Building.{Building, done, stopped, goesOn, next, enter}
+use Rattle.sets.specs.Building.{Building, done, stopped, goesOn, andThen, enter}
 use Rattle.products.specs.Multiplying.{multiplied}
 use Rattle.merging.specs.Joining.{united}
 use Rattle.sets.proofs.Refinement.{AllPack, ascending-same, TooMuch, too-much-more, Outcome, enter-outcome}
@@ -61,8 +61,8 @@ module _ (names room : ℕ) where
 
   -- one step after another, where the first makes labels of the whole alone
   pub settled-next : (M N : List Label) (b : Building) (f : List ℕ → Building) → Within M N → Settled names room M b
-      → (AllPack names M → Settled names room N (f (map number (ascending M)))) → Settled names room N (next b f)
-  settled-next M N b f w (inl x) more = subst (λ (c : Building). Settled names room N (next c f)) (sym (x .built)) (more (x .packs))
+      → (AllPack names M → Settled names room N (f (map number (ascending M)))) → Settled names room N (andThen b f)
+  settled-next M N b f w (inl x) more = subst (λ (c : Building). Settled names room N (andThen c f)) (sym (x .built)) (more (x .packs))
   settled-next M N b f w (inr x) more = inr (ap (λ (t : Bool). goesOn t b f .whole) (x .0) ∙ x .0, too-much-more room M N w (x .1))
 
   nothing-packs : AllPack names []

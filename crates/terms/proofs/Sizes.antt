@@ -10,10 +10,10 @@ use Rattle.meaning.specs.Labels.{Label}
 use Rattle.meaning.specs.Sets.{at}
 use Rattle.meaning.specs.Descriptions.{Description, termCount}
 use Rattle.meaning.specs.Rounds.{roundSets}
-use Rattle.meaning.proofs.Sorted.{once-count}
+use Rattle.meaning.proofs.Ascent.{once-count}
 use Rattle.meaning.proofs.Members.{ascending-unique}
 use Rattle.meaning.proofs.Growth.{round-grows, round-ascends}
-use Rattle.meaning.proofs.Stable.{once-round}
+use Rattle.meaning.proofs.Stability.{once-round}
 use Rattle.places.specs.Starts.{startIn}
 use Rattle.places.specs.Sameness.{sizeAt, stays}
 use Rattle.terms.specs.Laid.{Begins}

@@ -10,7 +10,7 @@ use Rattle.meaning.specs.Labels.{number}
 use Rattle.meaning.specs.Descriptions.{Description, Order, Rule, Operator, block, hide, rename, comm, allow, wrap, names, termCount, termAt}
 use Rattle.meaning.specs.Legal.{Each, LegalRule, LegalOperator}
 use Rattle.table.specs.Encoded as T
-use Rattle.table.proofs.Decoded.{length-ruleWords, list-stored}
+use Rattle.table.proofs.TableTerms.{length-ruleWords, list-stored}
 use Rattle.areas.proofs.Entries.{ruleLabels}
 use Rattle.labels.proofs.Refinement.{single-number}
 use Rattle.wrapping.specs.Exchanging.{exchangeWords, exchangeList}

@@ -13,7 +13,7 @@ use Rattle.sets.specs.declared.Built.{Built}
 use Rattle.sets.specs.declared.Built.the-variants.{TooLarge, Holds}
 use Rattle.parts.specs.Parts.{part, partBefore, roomAt, laid}
 use Rattle.sets.specs.Building.{Grown}
-use Rattle.parts.proofs.Laid.{part-end}
+use Rattle.parts.proofs.LaidSets.{part-end}
 use Rattle.transfers.specs.Laying.{copyBuilt}
 
 pub part-taken : (ls : List ℕ) (from n : ℕ) → part from (from + n) ls ≡ take n (drop from ls)

@@ -10,7 +10,7 @@ use lib.ListN.{length, getD, set, length-set}
 use Rattle.meaning.specs.Descriptions as D
 use Rattle.table.specs.Encoded.{storeOf}
 use Rattle.slots.specs.Packing.{wordTerm}
-use Rattle.table.proofs.Stored.{term-of}
+use Rattle.table.proofs.Stores.{term-of}
 use Rattle.sets.specs.declared.Built.{Built}
 use Rattle.sets.specs.declared.Built.the-variants.{TooLarge, Holds}
 use Rattle.places.specs.Starts.{half, whole, startIn}

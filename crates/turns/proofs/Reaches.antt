@@ -20,7 +20,7 @@ use Rattle.meaning.proofs.Alike.{alike}
 use Rattle.table.specs.declared.Table.{Table}
 use Rattle.areas.specs.Areas.{zeroed}
 use Rattle.table.specs.Encoded.{storeOf, tableOf}
-use Rattle.areas.proofs.Zeroed.{zeroed-front}
+use Rattle.areas.proofs.Zeroes.{zeroed-front}
 use Rattle.parts.specs.Parts.{part}
 use Rattle.places.specs.Starts.{half, whole, startIn, partOf}
 use Rattle.places.proofs.Beginnings.{start-low}

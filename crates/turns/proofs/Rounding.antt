@@ -18,10 +18,10 @@ use Rattle.meaning.specs.Rounds.{roundSets, next, bodySets}
 use Rattle.meaning.specs.Limits.{total}
 use Rattle.meaning.specs.Answers.{listed, cut}
 use Rattle.meaning.proofs.Carried.{length-worked}
-use Rattle.meaning.proofs.Stable.{Stable}
+use Rattle.meaning.proofs.Stability.{Stable}
 use Rattle.meaning.proofs.Outcomes.{passed-answer, stable-answer, rounds-so-far}
 use Rattle.table.specs.Encoded.{tableOf}
-use Rattle.table.proofs.Stored.{bodies-of}
+use Rattle.table.proofs.Stores.{bodies-of}
 use Rattle.transfers.specs.Moving.{lowered, loweredIn}
 use Rattle.places.specs.Sameness.{allStay}
 use Rattle.places.specs.Starts.{half, whole, startIn}

@@ -16,7 +16,7 @@ use Rattle.meaning.specs.Legal.{Each}
 use Rattle.meaning.specs.Rounds.{roundSets}
 use Rattle.meaning.specs.Limits.{total}
 use Rattle.meaning.proofs.Tests.{and-left, and-right, and-both}
-use Rattle.meaning.proofs.Stable.{Stable}
+use Rattle.meaning.proofs.Stability.{Stable}
 use Rattle.terms.specs.Laid.{flat, Begins}
 use Rattle.places.specs.Sameness.{stays, allStay}
 use Rattle.places.specs.Starts.{half, whole}

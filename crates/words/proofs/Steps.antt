@@ -12,7 +12,7 @@ use Rattle.meaning.specs.Bytes.{Text}
 use Rattle.grammar.specs.Text.{Past, past, stuck, onward, byte, starts, literal}
 use Rattle.words.specs.declared.Step.{Step}
 use Rattle.words.specs.declared.Step.the-variants.{To, Stuck}
-use Rattle.words.specs.Steps.{placeOf, Stands, Steps}
+use Rattle.words.specs.Steps.{stepPlace, Stands, Steps}
 use Rattle.words.proofs.Rests.{literal-other, literal-more}
 
 -- Said of any answer.
@@ -38,8 +38,8 @@ module _ {A : Type 0} (answer : Text → Past A) {line : Text} {at n : ℕ} {due
       record { says = ap answer (sym (drop-drop n at line)) ∙ s .says; within = omega (arith, s .within, length-drop at line) }
 
 -- What is read off a step that was stuck is where it was.
-pub stuck-there : {r : Step} {p q : ℕ} → r ≡ Stuck p → q ≡ placeOf r → r ≡ Stuck q
-stuck-there e f = e ∙ ap Stuck (sym (f ∙ ap placeOf e))
+pub stuck-there : {r : Step} {p q : ℕ} → r ≡ Stuck p → q ≡ stepPlace r → r ≡ Stuck q
+stuck-there e f = e ∙ ap Stuck (sym (f ∙ ap stepPlace e))
 
 -- A step taken apart, at the start of a line and at a place in it.
 module _ {A : Type 0} {f : ℕ → A} {line : Text} {r : Step} {due : Past A} (s : Steps f line r due) where

@@ -9,7 +9,7 @@ use Rattle.meaning.proofs.Alike.{alike}
 use Rattle.table.specs.Decoded.{nameOf}
 use Rattle.table.specs.Encoded.{wordOf}
 use Rattle.grammar.specs.Text.{Past, past, stuck, onward}
-use Rattle.words.specs.Steps.{Steps, stepOf, placeOf, Passes}
+use Rattle.words.specs.Steps.{Steps, stepOf, stepPlace, Passes}
 use Rattle.words.specs.declared.Step.{Step}
 use Rattle.words.specs.declared.Step.the-variants.{To, Stuck}
 use Rattle.words.proofs.Looked.{word-name}
@@ -27,7 +27,7 @@ pub apart : {A : Type 0} {a : A} {s t : Text} → past a s ≡ stuck t → ⊥
 apart e = let z : _≡_ {A = ℕ} 0 1 = cc in omega arith
 
 module _ {A : Type 0} (value : ℕ → A) (back : A → ℕ) (returns : (v : ℕ) → v < 2 ^ 64 → back (value v) ≡ v) (line : Text) where
-  same-steps : (r s : Step) → InWord r → InWord s → placeOf r ≤ length line → placeOf s ≤ length line
+  same-steps : (r s : Step) → InWord r → InWord s → stepPlace r ≤ length line → stepPlace s ≤ length line
       → stepOf value line r ≡ stepOf value line s → r ≡ s
   unfolding InWord
   same-steps (To v m) (To w n) a b h k e =

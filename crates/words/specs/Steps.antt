@@ -19,9 +19,9 @@ abbrev pub digitOf : Text → ℕ
 digitOf [] = 10
 digitOf (b ∷ s) = digitIf (isDigit b) b
 
-abbrev pub placeOf : Step → ℕ
-placeOf (To v next) = next
-placeOf (Stuck next) = next
+abbrev pub stepPlace : Step → ℕ
+stepPlace (To v next) = next
+stepPlace (Stuck next) = next
 
 -- A step, with what its number says.
 abbrev pub stepOf : {A : Type 0} → (ℕ → A) → Text → Step → Past A
@@ -34,7 +34,7 @@ pub record Stands {A : Type 0} (line : Text) (place : ℕ) (answer due : Past A)
   pub within : place ≤ length line
 
 pub record Steps {A : Type 0} (value : ℕ → A) (line : Text) (r : Step) (due : Past A) : Type 0 where
-  pub stands : Stands line (placeOf r) (stepOf value line r) due
+  pub stands : Stands line (stepPlace r) (stepOf value line r) due
 
 -- A word that must stand there says no number: the step's is 0.
 abbrev pub valueOf : Step → ℕ

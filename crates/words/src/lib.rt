@@ -9,7 +9,7 @@ pub mod numbers;
 ghost use mathlib.Core.Bool.{_&&_};
 ghost use mathlib.Core.Path.{_≡_};
 ghost use lib.Dec.{leb};
-ghost use Rattle.words.specs.Steps.{placeOf};
+ghost use Rattle.words.specs.Steps.{stepPlace};
 
 // What was read, a number or a packed name, and how many bytes it took; or after how many bytes the reading was stuck.
 pub enum Step {
@@ -19,7 +19,7 @@ pub enum Step {
 
 // After how many bytes a step was stuck; of one that read something, how many that took.
 pub fn stuck_at(s: Step) -> usize
-    ensures { λ r. ⌜ r ≡ placeOf s ⌝ }
+    ensures { λ r. ⌜ r ≡ stepPlace s ⌝ }
 {
     match s {
         Step::To(_, next) => next,

@@ -6,7 +6,7 @@ use native.Mathlib.Numerals.{add-one}
 use native.Mathlib.Omega.{arith}
 use lib.ListN.{length, length-set}
 use Rattle.areas.specs.Areas.{zeroed}
-use Rattle.areas.proofs.Zeroed.{zeroed-set, zeroed-all}
+use Rattle.areas.proofs.Zeroes.{zeroed-set, zeroed-all}
 use Rattle.areas.proofs.clear.Statement.{statement}
 use Rattle.areas.proofs.clear.Tie as tie
 

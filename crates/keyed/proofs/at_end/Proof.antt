@@ -7,7 +7,7 @@ use lib.ListN.{length}
 use borrow.Author.Tests.{lt-ltb, le-ltb}
 use Rattle.faults.proofs.Calls.{asks-nothing}
 use Rattle.words.proofs.Steps.{stuck-there}
-use Rattle.words.specs.Steps.{placeOf}
+use Rattle.words.specs.Steps.{stepPlace}
 use Rattle.keyed.proofs.at_end.Statement.{statement}
 use Rattle.keyed.proofs.at_end.Tie as tie
 
@@ -24,7 +24,7 @@ returns : tie.Need-returns
 returns c = rw (stuck-there (c .before .enum-told .given .1) (c .stuck-at .ensures))
 
 add-next : tie.Need-add-next
-add-next c = omega (arith, ap placeOf (c .before .s .given .1))
+add-next c = omega (arith, ap stepPlace (c .before .s .given .1))
 
 returns-2 : tie.Need-returns-2
 returns-2 c =

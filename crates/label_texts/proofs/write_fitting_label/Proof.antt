@@ -5,7 +5,7 @@ use native.Mathlib.Omega.{arith}
 use Rattle.meaning.specs.Bytes.{Text}
 use Rattle.grammar.specs.Marks.{labelText}
 use Rattle.grammar.specs.Printed.{printedLabel}
-use Rattle.label_texts.specs.Packed.{wordsOf, countsOf}
+use Rattle.label_texts.specs.Packed.{nameTexts, countsOf}
 use Rattle.grammar.proofs.Underway.{copied→written}
 use Rattle.label_texts.proofs.Tau.{parts-written, tau-written, parts-within, tau-length}
 use borrow.Author.Needs.{needs}
@@ -13,7 +13,7 @@ use Rattle.label_texts.proofs.write_fitting_label.Statement.{statement}
 use Rattle.label_texts.proofs.write_fitting_label.Tie as tie
 
 abbrev parts : tie.Start → Text
-parts s = labelText (wordsOf (s .args .names)) (countsOf (s .args .label))
+parts s = labelText (nameTexts (s .args .names)) (countsOf (s .args .label))
 
 write-parts-requires : tie.Need-write-parts-requires
 unfolding printedLabel

@@ -4,7 +4,7 @@ use borrow.Author.Needs.{needs}
 use lib.ListN.{length}
 use Rattle.grammar.specs.Printed.{printedLabel}
 use Rattle.grammar.proofs.Areas.{test-fits, fitting→printed, unfitting→printed}
-use Rattle.label_texts.specs.Packed.{wordsOf, countsOf}
+use Rattle.label_texts.specs.Packed.{nameTexts, countsOf}
 use Rattle.label_texts.proofs.write_label.Statement.{statement}
 use Rattle.label_texts.proofs.write_label.Tie as tie
 use Rattle.label_texts.proofs.write_label.Reads as reads
@@ -17,7 +17,7 @@ write-fitting-label-requires : tie.Need-write-fitting-label-requires
 write-fitting-label-requires c κs =
     let tested = c .before .before in
     let a = tested .before .before .args in
-    test-fits (length (printedLabel (wordsOf (a .names)) (countsOf (a .label)))) (length (a .text .now)) (tested .label-fits .ensures) (c .before .if1 .taken)
+    test-fits (length (printedLabel (nameTexts (a .names)) (countsOf (a .label)))) (length (a .text .now)) (tested .label-fits .ensures) (c .before .if1 .taken)
 
 same-length : tie.Need-same-length
 same-length c = search needs

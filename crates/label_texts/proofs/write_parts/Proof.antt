@@ -5,7 +5,7 @@ use Prim.Native.Nat.{_-_, _≤_}
 use native.Mathlib.Nat.{le-refl}
 use native.Mathlib.Omega.{arith}
 use Rattle.grammar.specs.Marks.{partTexts, labelText}
-use Rattle.label_texts.specs.Packed.{wordsOf, countsOf}
+use Rattle.label_texts.specs.Packed.{nameTexts, countsOf}
 use Rattle.grammar.proofs.Underway.{Underway, underway-start, underway-kept, underway-room}
 use Rattle.label_texts.proofs.Parts.{toCome, partsFrom, parts-start, parts-room, parts-again, parts-early, parts-end}
 use Rattle.label_texts.proofs.write_parts.Statement.{statement}
@@ -13,13 +13,13 @@ use Rattle.label_texts.proofs.write_parts.Tie as tie
 
 abbrev Inv-loop : tie.InvT-loop
 Inv-loop text₀ label names rest₀ at₀ i₀ text rest at i =
-    Underway (labelText (wordsOf names) (countsOf label)) (toCome at (partsFrom names i rest)) text₀ text at × (i ≤ 12)
+    Underway (labelText (nameTexts names) (countsOf label)) (toCome at (partsFrom names i rest)) text₀ text at × (i ≤ 12)
 
 abbrev μ-loop : tie.MeasureT-loop
 μ-loop text₀ label names rest₀ at₀ i₀ text rest at i = 12 - i
 
 loop-holds : tie.Need-loop-holds Inv-loop μ-loop
-loop-holds c = (underway-start (parts-start (partTexts (wordsOf (c .before .args .t2)) (countsOf (c .before .args .label)))) (c .before .pre), omega arith)
+loop-holds c = (underway-start (parts-start (partTexts (nameTexts (c .before .args .t2)) (countsOf (c .before .args .label)))) (c .before .pre), omega arith)
 
 same-length : tie.Need-same-length Inv-loop μ-loop
 same-length c = underway-kept (c .before .before .loop .inv .0)

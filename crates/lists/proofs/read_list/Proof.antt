@@ -15,7 +15,7 @@ use Rattle.words.specs.Steps.{Stands}
 use Rattle.words.proofs.Steps.{otherwise}
 use Rattle.entries.specs.Tallies.{Said}
 use Rattle.entries.specs.Entries.{saidOf, entryOf}
-use Rattle.lists.specs.Lists.{weightFor, limitFor, wordCount, entryWord, entryStored, listEntry, listWords, over}
+use Rattle.lists.specs.Lists.{weightFor, limitFor, wordCount, entryWord, entryStored, listEntry, listWords, overlaid}
 use Rattle.entries.proofs.Seen.{said-stuck-there, said-went-on, said-stays-on, said-same, said-few}
 use Rattle.entries.proofs.Tallied.{Tallied, tallied-none, tallied-more}
 use Rattle.entries.proofs.Gathered.{Progress, begun, list-stuck, list-ends, list-goes-on, ended-with, stuck-with}
@@ -178,7 +178,7 @@ returns-2 c =
     record {
       read =
           record { stands = otherwise (ended-with (listEntry (a .kind)) s) (said-same (tallied (put .before .before .before) .faults) (f .entries-are) refl) };
-      stored = λ es p h. f .store-is ∙ ap (λ l. over (listWords (a .kind) l) (a .store .now)) (as-read (s .says) h);
+      stored = λ es p h. f .store-is ∙ ap (λ l. overlaid (listWords (a .kind) l) (a .store .now)) (as-read (s .says) h);
     }
 
 -- the comma lies in the line

@@ -1,7 +1,7 @@
 -- `areas::rows::move_up` meets its contract. The loop's invariant is `Moving`: the labels from the i-th on are moved; the
 -- measure is i. Assumes nothing.
 use native.Mathlib.Omega.{arith}
-use Rattle.areas.proofs.Moving.{Moving, moving-start, moving-step, moving-end, movedUp-past, moving-length, moving-place}
+use Rattle.areas.proofs.Moves.{Moving, moving-start, moving-step, moving-end, movedUp-past, moving-length, moving-place}
 use Rattle.areas.proofs.rows.move_up.Statement.{statement}
 use Rattle.areas.proofs.rows.move_up.Tie as tie
 

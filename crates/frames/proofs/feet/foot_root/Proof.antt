@@ -6,7 +6,7 @@ use lib.Dec.{ltb}
 use lib.ListN.{take}
 use Rattle.meaning.specs.Bytes.{ascii}
 use Rattle.meaning.specs.Answers.{range}
-use Rattle.table.proofs.Filled.{filled-replicate}
+use Rattle.table.proofs.Fillings.{filled-replicate}
 use Rattle.grammar.specs.Reading.{walk}
 use Rattle.faults.proofs.Calls.{asks-nothing}
 use Rattle.textlines.proofs.Walks.{gone-before}

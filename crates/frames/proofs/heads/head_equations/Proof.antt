@@ -5,7 +5,7 @@ use Prim.Native.Nat.{suc, _+_}
 use native.Mathlib.Omega.{arith}
 use Rattle.meaning.specs.Bytes.{ascii}
 use Rattle.meaning.specs.Answers.{form}
-use Rattle.grammar.specs.Reading.{equationCount}
+use Rattle.grammar.specs.Reading.{equationsInRange}
 use Rattle.faults.proofs.Calls.{asks-nothing}
 use Rattle.textlines.proofs.Walks.{gone-before, gone-below}
 use Rattle.frames.specs.Heads.{noHead}
@@ -42,7 +42,7 @@ returns c =
     let read = c .before .before .before .take-number .ensures in
     let told = c .before .enum-told .given .1 in
     head-bad _ (a .text .now) (c .no-head .ensures ∙ ap noHead told)
-    (number-bad (ascii "equations=") 0 17 equationCount equations-test form (a .text .now) (a .from) (2 + a .named) read told)
+    (number-bad (ascii "equations=") 0 17 equationsInRange equations-test form (a .text .now) (a .from) (2 + a .named) read told)
     (omega (arith, gone-before (read .walks) told, start .pre .1 .few))
 
 add-next : tie.Need-add-next
@@ -66,7 +66,7 @@ returns-2 c =
     let s : 3 + a .named ≡ suc (2 + a .named) = omega arith in
     let k = c .head-terms .ensures in
     head-on _ (a .text .now)
-    (number-to (ascii "equations=") 0 17 equationCount equations-test form (a .text .now) (a .from) (2 + a .named)
+    (number-to (ascii "equations=") 0 17 equationsInRange equations-test form (a .text .now) (a .from) (2 + a .named)
     (c .before .before .before .before .take-number .ensures) (to .1))
     (rw s at k)
 

@@ -5,7 +5,7 @@ use Prim.Native.Nat.{suc, _+_}
 use native.Mathlib.Omega.{arith}
 use Rattle.meaning.specs.Bytes.{ascii}
 use Rattle.meaning.specs.Answers.{form}
-use Rattle.grammar.specs.Reading.{termCount}
+use Rattle.grammar.specs.Reading.{termsInRange}
 use Rattle.faults.proofs.Calls.{asks-nothing}
 use Rattle.textlines.proofs.Walks.{gone-before, gone-below}
 use Rattle.frames.specs.Heads.{noHead}
@@ -42,7 +42,7 @@ returns c =
     let read = c .before .before .before .take-number .ensures in
     let told = c .before .enum-told .given .1 in
     head-bad _ (a .text .now) (c .no-head .ensures ∙ ap noHead told)
-    (number-bad (ascii "terms=") 1 97 termCount terms-test form (a .text .now) (a .from) (3 + a .named) read told)
+    (number-bad (ascii "terms=") 1 97 termsInRange terms-test form (a .text .now) (a .from) (3 + a .named) read told)
     (omega (arith, gone-before (read .walks) told, start .pre .1 .few))
 
 add-end : tie.Need-add-end
@@ -57,7 +57,7 @@ returns-2 c =
     let a = start .args in
     let read = c .before .before .before .take-number .ensures in
     let to = c .before .given .given .1 in
-    head-on _ (a .text .now) (number-to (ascii "terms=") 1 97 termCount terms-test form (a .text .now) (a .from) (3 + a .named) read to)
+    head-on _ (a .text .now) (number-to (ascii "terms=") 1 97 termsInRange terms-test form (a .text .now) (a .from) (3 + a .named) read to)
     (head-end (a .text .now) (number-on (a .text .now) (a .from) read to (start .pre .0)) (start .pre .1) (start .pre .2)
     (omega (arith, gone-below read to)) (omega arith))
 

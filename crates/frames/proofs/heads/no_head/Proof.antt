@@ -1,7 +1,7 @@
 -- `frames::heads::no_head` meets its contract.
 -- Assumes nothing.
 use mathlib.Core.Path.{ap}
-use Rattle.table.proofs.Filled.{filled-replicate}
+use Rattle.table.proofs.Fillings.{filled-replicate}
 use Rattle.frames.specs.declared.heads.Head.{Head}
 use Rattle.frames.proofs.heads.no_head.Statement.{statement}
 use Rattle.frames.proofs.heads.no_head.Tie as tie

@@ -4,7 +4,7 @@ use mathlib.Core.Path.{_≡_, refl, ap, _∙_}
 use native.Mathlib.Omega.{arith}
 use Rattle.meaning.specs.Bytes.{ascii}
 use Rattle.meaning.specs.Answers.{form}
-use Rattle.grammar.specs.Reading.{nameCount}
+use Rattle.grammar.specs.Reading.{namesInRange}
 use Rattle.faults.proofs.Calls.{asks-nothing}
 use Rattle.textlines.specs.Lines.{between}
 use Rattle.textlines.proofs.Walks.{gone-to, gone-within, gone-bad, gone-before, gone-below}
@@ -30,7 +30,7 @@ returns c =
     let read = c .before .before .before .take-number .ensures in
     let told = c .before .enum-told .given .1 in
     head-bad _ (a .text .now) (c .no-head .ensures ∙ ap noHead told)
-    (gone-bad (read .walks) told ∙ other-test (ascii "names=") (between 1 13) nameCount names-test form 1 (a .text .now))
+    (gone-bad (read .walks) told ∙ other-test (ascii "names=") (between 1 13) namesInRange names-test form 1 (a .text .now))
     (omega (arith, gone-before (read .walks) told))
 
 head-names-requires : tie.Need-head-names-requires
@@ -45,7 +45,7 @@ returns-2 c =
     let a = c .before .before .before .before .before .before .before .args in
     head-on _ (a .text .now)
     (gone-to (c .before .before .before .before .take-number .ensures .walks) (c .before .before .given .given .1)
-    ∙ other-test (ascii "names=") (between 1 13) nameCount names-test form 1 (a .text .now))
+    ∙ other-test (ascii "names=") (between 1 13) namesInRange names-test form 1 (a .text .now))
     (c .head-names .ensures)
 
 pub take-head-spec : {M : Type 1} → statement M

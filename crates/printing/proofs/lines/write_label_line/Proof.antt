@@ -9,7 +9,7 @@ use lib.ListN.{length}
 use Rattle.meaning.specs.Bytes.{Text, ascii}
 use Rattle.grammar.specs.Forms.{lf}
 use Rattle.grammar.specs.Printed.{printedLabel, line}
-use Rattle.label_texts.specs.Packed.{wordsOf, countsOf}
+use Rattle.label_texts.specs.Packed.{nameTexts, countsOf}
 use Rattle.grammar.proofs.Areas.{printed→written}
 use Rattle.grammar.proofs.Underway.{Underway, lent, copied→written, underway-room, next-room}
 use Rattle.printing.proofs.Line.{key→underway, Ended, value→ended}
@@ -17,7 +17,7 @@ use Rattle.printing.proofs.lines.write_label_line.Statement.{statement}
 use Rattle.printing.proofs.lines.write_label_line.Tie as tie
 
 abbrev value : tie.Start → Text
-value s = printedLabel (wordsOf (s .args .names)) (countsOf (s .args .label))
+value s = printedLabel (nameTexts (s .args .names)) (countsOf (s .args .label))
 
 slice-aggregate-copy : tie.Need-slice-aggregate-copy
 slice-aggregate-copy c = refl

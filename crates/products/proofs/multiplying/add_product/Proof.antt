@@ -7,7 +7,7 @@ use borrow.Author.Needs.{needs}
 use Rattle.parts.specs.Parts.{wordsOf}
 use Rattle.products.specs.Multiplying.{row}
 use Rattle.products.proofs.Products.{steady-row, row-stays}
-use Rattle.sets.proofs.Walking.{Walk, walk-start, walk-length, walk-end, walk-holds, walk-large, walked-part}
+use Rattle.sets.proofs.Walks.{Walk, walk-start, walk-length, walk-end, walk-holds, walk-large, walked-part}
 use Rattle.products.proofs.multiplying.add_product.Statement.{statement}
 use Rattle.products.proofs.multiplying.add_product.Tie as tie
 

@@ -6,7 +6,7 @@ use native.Mathlib.Omega.{arith}
 use borrow.Author.Needs.{needs}
 use Rattle.products.specs.Multiplying.{added}
 use Rattle.products.proofs.Products.{steady-added}
-use Rattle.sets.proofs.Walking.{Walk, walk-start, walk-length, walk-end, walk-holds, walk-large, walked-part}
+use Rattle.sets.proofs.Walks.{Walk, walk-start, walk-length, walk-end, walk-holds, walk-large, walked-part}
 use Rattle.products.proofs.multiplying.add_row.Statement.{statement}
 use Rattle.products.proofs.multiplying.add_row.Tie as tie
 

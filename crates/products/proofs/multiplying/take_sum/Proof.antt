@@ -1,7 +1,7 @@
 -- `products::multiplying::take_sum` meets its contract. Assumes nothing.
 use mathlib.Core.Path.{refl, sym}
 use borrow.Author.Needs.{needs}
-use Rattle.parts.proofs.Laid.{laid-self}
+use Rattle.parts.proofs.LaidSets.{laid-self}
 use Rattle.products.proofs.multiplying.take_sum.Statement.{statement}
 use Rattle.products.proofs.multiplying.take_sum.Tie as tie
 

@@ -6,7 +6,7 @@ use mathlib.Core.List.{[]}
 use native.Mathlib.Omega.{arith}
 use lib.ListN.{length}
 use Rattle.table.specs.Encoded.{filled}
-use Rattle.table.proofs.Filled.{length-filled, zeroed-filled}
+use Rattle.table.proofs.Fillings.{length-filled, zeroed-filled}
 use Rattle.faults.proofs.Calls.{asks-nothing}
 use Rattle.reading.proofs.Stores.{kept-completed, cleared-completed, not-fine}
 use Rattle.reading.proofs.whole.read_cleared.Statement.{statement}

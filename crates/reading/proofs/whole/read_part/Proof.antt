@@ -6,7 +6,7 @@ use mathlib.Core.List.{[], _++_}
 use native.Mathlib.Omega.{arith}
 use lib.ListN.{length, length-take}
 use lib.Seq.{length-take-le}
-use Rattle.table.proofs.Filled.{length-filled}
+use Rattle.table.proofs.Fillings.{length-filled}
 use Rattle.grammar.specs.Reading.{takeTerm, lines}
 use Rattle.faults.proofs.Calls.{asks-nothing}
 use Rattle.textlines.proofs.Sequences.{room-there}

@@ -2,7 +2,7 @@
 -- Assumes nothing.
 use mathlib.Core.List.{[], _∷_}
 use mathlib.Core.Path.{refl, sym, _∙_}
-use Rattle.rimecutter.proofs.Responding.{short-responded, long-responded, bad-responded, worked-responded}
+use Rattle.rimecutter.proofs.Responses.{short-responded, long-responded, bad-responded, worked-responded}
 use Rattle.rimecutter.proofs.calls.respond.Statement.{statement}
 use Rattle.rimecutter.proofs.calls.respond.Tie as tie
 

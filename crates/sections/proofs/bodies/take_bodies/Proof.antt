@@ -4,7 +4,7 @@ use mathlib.Core.Path.{refl}
 use Prim.Native.Nat.{_-_}
 use native.Mathlib.Omega.{arith}
 use lib.ListN.{length, take, drop}
-use Rattle.table.proofs.Filled.{filled-replicate}
+use Rattle.table.proofs.Fillings.{filled-replicate}
 use Rattle.faults.proofs.Calls.{asks-nothing}
 use Rattle.grammar.specs.Reading.{takeBody}
 use Rattle.sections.proofs.Arrays.{section-over, place-more, SoFar, so-far-start, so-far-within, so-far-step, so-far-halt, so-far-end}

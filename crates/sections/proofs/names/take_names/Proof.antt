@@ -7,7 +7,7 @@ use native.Mathlib.Omega.{arith}
 use lib.ListN.{getD}
 use lib.Seq.{length-take-le}
 use Rattle.table.specs.Decoded.{nameOf}
-use Rattle.table.proofs.Filled.{filled-replicate}
+use Rattle.table.proofs.Fillings.{filled-replicate}
 use Rattle.faults.proofs.Calls.{asks-nothing}
 use Rattle.grammar.specs.Reading.{takeName}
 use Rattle.sections.proofs.Arrays.{section-over, padded-length, SoFar, so-far-start, so-far-within, so-far-step, so-far-halt, so-far-end}

@@ -1,6 +1,6 @@
 -- `slots::packing::packed` meets its contract: both sides are one sum.
 -- Assumes nothing.
-use Rattle.slots.specs.Packing.{packed}
+use Rattle.slots.specs.Packing.{packedTerm}
 use borrow.Author.Needs.{needs}
 use mathlib.Core.Path.{refl}
 use Rattle.slots.proofs.packing.packed.Statement.{statement}
@@ -25,7 +25,7 @@ add-result-3 : tie.Need-add-result-3
 add-result-3 c = search needs
 
 returns : tie.Need-returns
-unfolding packed
+unfolding packedTerm
 returns c = refl
 
 pub packed-spec : {M : Type 1} → statement M

@@ -1,7 +1,7 @@
 -- `termlines::terms::no_terms` meets its contract: an array of zeros.
 -- Assumes nothing.
 use mathlib.Core.Path.{refl}
-use Rattle.table.proofs.Filled.{filled-replicate}
+use Rattle.table.proofs.Fillings.{filled-replicate}
 use Rattle.termlines.proofs.terms.no_terms.Statement.{statement}
 use Rattle.termlines.proofs.terms.no_terms.Tie as tie
 

@@ -6,7 +6,7 @@ use native.Mathlib.Omega.{arith}
 use borrow.Author.Needs.{needs}
 use Rattle.ways.specs.Imaging.{imaged}
 use Rattle.ways.proofs.Images.{steady-imaged}
-use Rattle.sets.proofs.Walking.{Walk, walk-start, walk-length, walk-end, walk-holds, walk-large, walked-part}
+use Rattle.sets.proofs.Walks.{Walk, walk-start, walk-length, walk-end, walk-holds, walk-large, walked-part}
 use Rattle.ways.proofs.imaging.add_image.Statement.{statement}
 use Rattle.ways.proofs.imaging.add_image.Tie as tie
 

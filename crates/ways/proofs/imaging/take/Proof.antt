@@ -5,7 +5,7 @@ use lib.ListN.{length}
 use Rattle.parts.specs.Parts.{roomAt}
 use Rattle.sets.specs.Building.{done}
 use Rattle.comm.specs.Rules.{exchangesIn}
-use Rattle.parts.proofs.Laid.{laid-self}
+use Rattle.parts.proofs.LaidSets.{laid-self}
 use Rattle.sets.proofs.Steps.{going-start, going-end, grown-as}
 use Rattle.comm.proofs.Closure.{closed-alone}
 use Rattle.ways.proofs.imaging.take.Statement.{statement}

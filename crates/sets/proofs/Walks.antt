@@ -15,8 +15,8 @@ use Rattle.labels.specs.Packing.{packed}
 use Rattle.parts.specs.declared.Part.{Part}
 use Rattle.parts.specs.declared.Target.{Target}
 use Rattle.parts.specs.Parts.{setAt, laid, partBefore, wordsOf, roomAt, reachOf}
-use Rattle.sets.specs.Building.{Building, answerOf, next, each, Grown, GrownAt}
-use Rattle.parts.proofs.Laid.{setAt-reach, getD-laid, take-laid, part-end}
+use Rattle.sets.specs.Building.{Building, answerOf, andThen, each, Grown, GrownAt}
+use Rattle.parts.proofs.LaidSets.{setAt-reach, getD-laid, take-laid, part-end}
 use Rattle.sets.proofs.Steps.{Steady, Going, going-start, going-length, going-end, going-as, going-holds, going-large, laid-set}
 
 -- A part before a place does not change while the set is built.
@@ -78,7 +78,7 @@ module _ {step : ℕ → ℕ → List ℕ → Building} {at most : ℕ} {before 
         ≡⟨ ap (λ (ls : List ℕ). getD ls i 0) (x .going .held) ⟩ getD (laid at (x .going .set) before) i 0
         ≡⟨ getD-laid at (x .going .set) before i (omega arith) (omega arith) ⟩ getD before i 0 ∎
 
-    walk-going : Going at before now count (λ s. next (stepHere (label .word) s) rest) (each stepHere (drop from (take end before)) (setAt at start before))
+    walk-going : Going at before now count (λ s. andThen (stepHere (label .word) s) rest) (each stepHere (drop from (take end before)) (setAt at start before))
     unfolding each
     walk-going = going-as _ (x .going) (λ s. rw (slice-cons i end before 0 l (x .within .1), ← read-before, add-one i))
 

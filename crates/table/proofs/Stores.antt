@@ -9,8 +9,8 @@ use lib.ListN.{length, getD, take, drop, length-append, length-drop}
 use lib.Seq.{drop-cons, drop-nil, take-append-le, drop-append-le, drop-append-add, drop-at}
 use Rattle.table.specs.Encoded.{filled, termWords, orderWords, termsWords, storeOf, termFor, slotsFrom, tableOf}
 use Rattle.slots.specs.Packing.{termWord, wordTerm}
-use Rattle.table.proofs.Filled.{length-filled, length-slots}
-use Rattle.table.proofs.Packed.{term-back}
+use Rattle.table.proofs.Fillings.{length-filled, length-slots}
+use Rattle.table.proofs.PackedTerms.{term-back}
 use Rattle.meaning.specs.Descriptions as D
 use Rattle.meaning.specs.Legal.{Legal}
 use Rattle.meaning.proofs.Least.{term-legal}

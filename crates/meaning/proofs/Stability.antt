@@ -14,7 +14,7 @@ use Rattle.meaning.specs.Descriptions.{Description}
 use Rattle.meaning.specs.Rounds.{worked, bodySets, next, roundSets, equationSets, InSet}
 use Rattle.meaning.specs.Limits.{Once, total}
 use Rattle.meaning.proofs.Order.{_≺_, ≺-irrefl, ≺-trans}
-use Rattle.meaning.proofs.Sorted.{sorted-once, once-count}
+use Rattle.meaning.proofs.Ascent.{sorted-once, once-count}
 use Rattle.meaning.proofs.Members.{ascending-unique}
 use Rattle.meaning.proofs.Growth.{AllWithin, round-grows, rounds-grow, round-ascends}
 

@@ -18,7 +18,7 @@ use Rattle.grammar.specs.Reading.{Reading, read, overlong, badLine, readText}
 use Rattle.grammar.proofs.Acceptance.{accepted→}
 use Rattle.table.specs.Encoded.{tableOf, storeOf}
 use Rattle.areas.specs.Areas.{zeroed}
-use Rattle.areas.proofs.Zeroed.{zeroed-front}
+use Rattle.areas.proofs.Zeroes.{zeroed-front}
 use Rattle.faults.specs.CodedFaults.{faultOf}
 use Rattle.faults.specs.declared.Fault as F
 use Rattle.rimecutter.specs.declared.Answer.{Answer}
@@ -138,7 +138,7 @@ module _ (text : Text) (work answer : List ℕ) where
 
       -- What the rounds find.
       module _ (work′ answer′ : List ℕ) (f : R.Answer) (worked : Answered (r .table) after (r .order) work answer work′ answer′ f) where
-        outcome : (d : D.Description) (x : Outcome) → f ≡ alphabetOf x → answer′ ≡ Q.answerWords x answer
+        outcome : (d : D.Description) (x : Outcome) → f ≡ alphabetOf x → answer′ ≡ Q.answerArea x answer
             → work′ ≡ cleared work → Responded (ofOutcome d x) work work′ answer answer′ (record { answer = answerFor f; names = tableOf d .names })
         unfolding tableOf
         outcome d tooLarge e a w =

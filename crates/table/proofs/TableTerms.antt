@@ -18,8 +18,8 @@ use Rattle.slots.specs.Packing.{wordTerm}
 use Rattle.table.specs.Encoded.{ruleWords, operatorWords, termWords, storeOf, operatorFor, termFor, tableOf}
 use Rattle.table.specs.Encoded as E
 use Rattle.table.specs.Decoded.{listIn, rulesOf, operatorOf, termOf}
-use Rattle.table.proofs.Packed.{rising-few, rising-pairs}
-use Rattle.table.proofs.Stored.{term-words, term-of}
+use Rattle.table.proofs.PackedTerms.{rising-few, rising-pairs}
+use Rattle.table.proofs.Stores.{term-words, term-of}
 
 -- Entries that are read as they were stored.
 label-back : {names : ℕ} (a : Label) → LegalLabel names a → labelOf names (number a) ≡ a

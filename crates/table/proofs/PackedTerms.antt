@@ -9,8 +9,8 @@ use Rattle.meaning.specs.Sets.{Rising}
 use Rattle.meaning.specs.Descriptions as D
 use Rattle.meaning.specs.Legal.{Each, LegalPair, LegalOperator, LegalTerm}
 use Rattle.table.specs.Encoded.{termFor}
-use Rattle.slots.specs.Packing.{packed, termWord, kindTerm, wordTerm}
-use Rattle.slots.proofs.Packed.{wordTerm-small}
+use Rattle.slots.specs.Packing.{packedTerm, termWord, kindTerm, wordTerm}
+use Rattle.slots.proofs.PackedKinds.{wordTerm-small}
 
 -- Strictly ascending numbers below m are at most m.
 rising-from : (m x : ℕ) (xs : List ℕ) → Rising (x ∷ xs) → Each (λ y. y < m) (x ∷ xs) → x + suc (length xs) ≤ m
@@ -30,7 +30,7 @@ rising-pairs m ps low up = omega (arith, rising-few m (map (λ p. p .left) ps) u
 
 -- The terms of a legal description: every number of theirs is small.
 module _ (d : D.Description) (narrow : D.names d ≤ 12) (few : D.equations d ≤ 16) (n : ℕ) (h : n < 96) where
-  listed-back : (k u entries : ℕ) → k < 32 → u < n → entries ≤ 32 → wordTerm (packed k (32 * n) u entries) ≡ kindTerm k (32 * n) u entries
+  listed-back : (k u entries : ℕ) → k < 32 → u < n → entries ≤ 32 → wordTerm (packedTerm k (32 * n) u entries) ≡ kindTerm k (32 * n) u entries
   listed-back k u entries s b e = wordTerm-small k (32 * n) u entries s (omega arith) (omega arith) (omega arith)
 
   wrap-back : (o : D.Operator) (u : ℕ) → u < n → LegalOperator (D.names d) o
@@ -41,10 +41,10 @@ module _ (d : D.Description) (narrow : D.names d ≤ 12) (few : D.equations d �
   wrap-back (D.comm rs) u b l = listed-back 15 u (length rs) (omega arith) b (omega (arith, l .1))
   wrap-back (D.allow ls) u b l = listed-back 16 u (length ls) (omega arith) b (omega (arith, l .0))
 
-  two-back : (k t u : ℕ) → k < 32 → (t < n) × (u < n) → wordTerm (packed k t u 0) ≡ kindTerm k t u 0
+  two-back : (k t u : ℕ) → k < 32 → (t < n) × (u < n) → wordTerm (packedTerm k t u 0) ≡ kindTerm k t u 0
   two-back k t u s b = wordTerm-small k t u 0 s (omega (arith, b .0)) (omega (arith, b .1)) (omega arith)
 
-  one-back : (k u : ℕ) → k < 32 → u < 96 → wordTerm (packed k 0 u 0) ≡ kindTerm k 0 u 0
+  one-back : (k u : ℕ) → k < 32 → u < 96 → wordTerm (packedTerm k 0 u 0) ≡ kindTerm k 0 u 0
   one-back k u s b = wordTerm-small k 0 u 0 s (omega arith) (omega arith) (omega arith)
 
   pub term-back : (t : D.Term) → LegalTerm d n t → wordTerm (termWord (termFor n t)) ≡ termFor n t
