@@ -98,8 +98,8 @@ whole→ t =
     ends-reached (λ end. record {
       writes = unfold written in (cc);
       legal = record {
-        namesInRange = (omega arith, omega arith);
-        equationsInRange = omega arith;
+        nameCount = (omega arith, omega arith);
+        equationCount = omega arith;
         termsCount = (omega arith, omega arith);
         terms = legal-terms d (omega arith) [] terms refl (omega arith) .0 (subst (λ k. LegalAfter (NewTerm (length words) k) [] terms) (sym (a₆ .1)) (a₅ .2));
         bodies = legal-bodies (length terms) (omega arith) [] bodies .0 (subst (λ k. LegalAfter (NewBody k) [] bodies) (sym (a₅ .1)) (a₆ .2));
