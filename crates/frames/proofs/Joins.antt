@@ -1,9 +1,8 @@
 -- The lines around the terms are lines of the whole text.
 -- Assumes nothing.
-use mathlib.Core.Path.{_≡_, refl, ap, _∙_}
+use mathlib.Core.Path.{_≡_, refl, sym, ap, _∙_}
 use mathlib.Core.List.{List, []}
 use Prim.Native.Nat.{ℕ, suc, _+_, _≤_}
-use native.Mathlib.Omega.{arith}
 use lib.Dec.{ltb}
 use lib.ListN.{take, drop}
 use Rattle.meaning.specs.Bytes.{Text, ascii}
@@ -11,12 +10,12 @@ use Rattle.meaning.specs.Descriptions.{Term, Description}
 use Rattle.meaning.specs.Answers.{form, range}
 use Rattle.faults.specs.CodedFaults.{faultOf}
 use Rattle.faults.specs.declared.Fault as F
-use Rattle.grammar.specs.Reading.{Taken, taken, faulty, takeNumber, namesInRange, equationsInRange, termsInRange, takeName, takeBody}
-use Rattle.grammar.specs.Reading.{Cut, cut, noLine, firstLine, Walk, reached, halted, walk, afterLine, lineWalk, oneLine, lines}
+use Rattle.grammar.specs.Reading.{Taken, takeNumber, namesInRange, equationsInRange, termsInRange, takeName, takeBody}
+use Rattle.grammar.specs.Reading.{Walk, reached, halted, walk, oneLine, lines}
 use Rattle.grammar.specs.Reading.{Whole, fromOrder, fromRoot, fromBodies, fromTerms, fromCounts, fromNames, wholeText}
 use Rattle.textlines.specs.declared.Progress.the-variants.{To, Bad}
 use Rattle.textlines.proofs.Walks.{gone-to, gone-bad}
-use Rattle.textlines.proofs.Sequences.{later, later-to, later-bad, room-there}
+use Rattle.textlines.proofs.Sequences.{later, line-later, later-to, later-bad, room-there}
 use Rattle.frames.specs.Heads.{Heading, headTerms, headEquations, headNames, headText}
 use Rattle.frames.specs.Feet.{Footing, withBodies, footRoot, footText, FootRead}
 use Rattle.frames.specs.declared.feet.Foot.{Foot}
@@ -88,23 +87,12 @@ module _ (before : ℕ) where
       cases (reached b line r) e = later-to before do-take n a s e
       cases (halted f line) e = later-bad before do-take n a s e
 
-  one-later : {A : Type 0} (do-take : Text → Taken A) (line : ℕ) (s : Text) → later before (oneLine do-take line s) ≡ oneLine do-take (before + line) s
-  one-later {A} do-take line s = by-cut (firstLine s)
-    where
-      by-taken : (t : Taken A) (rest : Text) → later before (afterLine line t rest) ≡ afterLine (before + line) t rest
-      by-taken (taken a) rest = let e : before + suc line ≡ suc (before + line) = omega arith in ap (λ n. reached a n rest) e
-      by-taken (faulty f) rest = refl
-
-      by-cut : (c : Cut) → later before (lineWalk do-take line c) ≡ lineWalk do-take (before + line) c
-      by-cut (cut l rest) = by-taken (do-take l) rest
-      by-cut noLine = refl
-
   root-later : (t : ℕ) (bodies : List ℕ) (line : ℕ) (s : Text) → later before (footRoot t bodies line s) ≡ footRoot t bodies (before + line) s
   root-later t bodies line s =
       walk-later (oneLine (takeNumber (ascii "root=") (λ r. ltb r t) range) line s)
       (withBodies bodies) (withBodies bodies) (λ root line s. refl)
       ∙ ap (λ w. walk w (withBodies bodies))
-      (one-later (takeNumber (ascii "root=") (λ r. ltb r t) range) line s)
+      (sym (line-later before (takeNumber (ascii "root=") (λ r. ltb r t) range) line s))
 
   foot-later : (e t : ℕ) (s : Text) → later before (footText e t 0 s) ≡ footText e t before s
   foot-later e t s =

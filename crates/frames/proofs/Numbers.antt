@@ -14,12 +14,12 @@ use Rattle.faults.specs.CodedFaults.{faultOf}
 use Rattle.faults.specs.declared.Fault as F
 use Rattle.grammar.specs.Text.{Past, past, stuck}
 use Rattle.grammar.specs.Forms.{countLine}
-use Rattle.grammar.specs.Reading.{takenIf, formed, takeNumber, namesInRange, equationsInRange, termsInRange}
-use Rattle.grammar.specs.Reading.{Cut, cut, noLine, firstLine, Walk, reached, halted, afterLine, lineWalk, oneLine}
+use Rattle.grammar.specs.Reading.{Taken, takenIf, formed, takeNumber, namesInRange, equationsInRange, termsInRange}
+use Rattle.grammar.specs.Reading.{Cut, cut, noLine, firstLine, reached, halted, afterLine, lineWalk, oneLine}
 use Rattle.textlines.specs.Lines.{between, NumberTo}
 use Rattle.textlines.specs.declared.Progress.{Progress}
 use Rattle.textlines.specs.declared.Progress.the-variants.{To, Bad}
-use Rattle.textlines.proofs.Walks.{gone-to, gone-within, gone-bad, rest-lent, rest-length}
+use Rattle.textlines.proofs.Walks.{gone-to, gone-within, gone-bad, gone-below, rest-lent, rest-length}
 
 module _ (key : Text) (f g : ℕ → Bool) (same : (n : ℕ) → f n ≡ g n) (x : Fault) (line : ℕ) where
   pub other-test : (s : Text) → oneLine (takeNumber key f x) line s ≡ oneLine (takeNumber key g x) line s
@@ -60,18 +60,27 @@ restOf text from = take (length text - from) (drop from text)
 pub drop-rest : (text : Text) (from took : ℕ) → drop took (restOf text from) ≡ drop (from + took) text
 drop-rest text from took = rw (rest-lent text from) (drop-drop took from text)
 
-module _ (key : Text) (low below : ℕ) (test : ℕ → Bool) (same : (n : ℕ) → between low below n ≡ test n) (x : Fault) (text : Text) (from line : ℕ)
-    {r : Progress} (w : NumberTo (restOf text from) line below r (oneLine (takeNumber key (between low below) x) line (restOf text from))) where
-  tested : oneLine (takeNumber key (between low below) x) line (restOf text from) ≡ oneLine (takeNumber key test x) line (drop from text)
-  tested = other-test key (between low below) test same x line (restOf text from) ∙ ap (oneLine (takeNumber key test x) line) (rest-lent text from)
+-- A number's line in the rest, as one in the whole text.
+module _ (text : Text) (from : ℕ) (do-take : Text → Taken ℕ) {line below : ℕ} {r : Progress}
+    (w : NumberTo (restOf text from) line below r (oneLine do-take line (restOf text from))) where
+  pub from-bad : {f : F.Fault} {n : ℕ} → r ≡ Bad f n → NumberTo text line below r (oneLine do-take line (drop from text))
+  from-bad e =
+      let k = rw (e, rest-lent text from) at w in
+      rw e (record { walks = record { says = k .walks .says; within = k .walks .within }; bounded = k .bounded })
 
-  pub number-to : {v took : ℕ} → r ≡ To v took → reached v (suc line) (drop (from + took) text) ≡ oneLine (takeNumber key test x) line (drop from text)
-  number-to {took = took} e = rw (← drop-rest text from took) (gone-to (w .walks) e ∙ tested)
+  pub from-on : {v took : ℕ} → r ≡ To v took → from ≤ length text → from + took ≤ length text
+  from-on e h = omega (arith, gone-within (w .walks) e, rest-length text from)
 
-  pub number-bad : {f : F.Fault} {n : ℕ} → r ≡ Bad f n → halted (faultOf f) n ≡ oneLine (takeNumber key test x) line (drop from text)
-  number-bad e = gone-bad (w .walks) e ∙ tested
+  pub from-to : {v took : ℕ} → r ≡ To v took → from ≤ length text → NumberTo text line below (To v (from + took)) (oneLine do-take line (drop from text))
+  from-to {took = took} e h =
+      let s = gone-to (w .walks) e ∙ ap (oneLine do-take line) (rest-lent text from) in
+      record { walks = record { says = rw (← drop-rest text from took) s; within = from-on e h }; bounded = gone-below w e }
 
--- How far the text is read then.
-pub number-on : (text : Text) (from : ℕ) {line below : ℕ} {r : Progress} {due : Walk ℕ} → NumberTo (restOf text from) line below r due
-    → {v took : ℕ} → r ≡ To v took → from ≤ length text → from + took ≤ length text
-number-on text from w e h = omega (arith, gone-within (w .walks) e, rest-length text from)
+-- By the test that the definitions give.
+module _ (key : Text) (low below : ℕ) (test : ℕ → Bool) (same : (n : ℕ) → between low below n ≡ test n) (x : Fault) (line : ℕ) (s : Text)
+    {text : Text} {r : Progress} (w : NumberTo text line below r (oneLine (takeNumber key (between low below) x) line s)) where
+  pub number-to : {v took : ℕ} → r ≡ To v took → reached v (suc line) (drop took text) ≡ oneLine (takeNumber key test x) line s
+  number-to e = gone-to (w .walks) e ∙ other-test key (between low below) test same x line s
+
+  pub number-bad : {f : F.Fault} {n : ℕ} → r ≡ Bad f n → halted (faultOf f) n ≡ oneLine (takeNumber key test x) line s
+  number-bad e = gone-bad (w .walks) e ∙ other-test key (between low below) test same x line s

@@ -4,10 +4,10 @@ ghost use Prim.Native.Nat.{_≤_};
 ghost use lib.ListN.{length, take, drop};
 ghost use Rattle.sections.specs.Arrays.{Padded};
 ghost use Rattle.frames.specs.Feet.{FootWalks, FootRead, footRoot};
+use crate::counted::number_from;
 use faults::Fault;
 use sections::bodies::take_bodies;
 use textlines::Progress;
-use textlines::take_number;
 
 // The root is the number of the progress; the bodies are in their array with 0 behind them, all 0 after a bad line.
 pub struct Foot {
@@ -21,14 +21,13 @@ fn foot_root(text: &[u8], from: usize, equations: usize, terms: u64, bodies: [us
     ensures { λ r. ⌜ FootWalks (now (text .entry)) equations
         (footRoot terms (take equations bodies) equations (drop from (now (text .entry)))) r ⌝ }
 {
-    let given = take_number(&text[from..], equations, b"root=", 0, terms, Fault::Range);
-    let Progress::To(root, took) = given else {
+    let given = number_from(text, from, equations, b"root=", 0, terms, Fault::Range);
+    let Progress::To(root, end) = given else {
         return Foot {
             progress: given,
             bodies: [0usize; 16],
         };
     };
-    let end = from + took;
     Foot {
         progress: Progress::To(root, end),
         bodies,

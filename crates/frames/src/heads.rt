@@ -5,6 +5,7 @@ ghost use Prim.Native.Nat.{ℕ, _+_, _≤_};
 ghost use lib.ListN.{length, take, drop};
 ghost use Rattle.table.specs.Decoded.{nameOf};
 ghost use Rattle.frames.specs.Heads.{noHead, Named, HeadWalks, HeadRead, headNames, headEquations, headTerms};
+use crate::counted::number_from;
 use faults::Fault;
 use sections::names::take_names;
 use textlines::Progress;
@@ -48,11 +49,10 @@ fn head_terms(text: &[u8], from: usize, names: [u64; 12], named: usize, equation
     ensures { λ r. ⌜ HeadWalks (now (text .entry))
         (headTerms (map (nameOf 8) (take named names)) equations (3 + named) (drop from (now (text .entry)))) r ⌝ }
 {
-    let given = take_number(&text[from..], 3 + named, b"terms=", 1, 97, Fault::Form);
-    let Progress::To(terms, took) = given else {
+    let given = number_from(text, from, 3 + named, b"terms=", 1, 97, Fault::Form);
+    let Progress::To(terms, end) = given else {
         return no_head(given);
     };
-    let end = from + took;
     Head {
         progress: Progress::To(0, end),
         names,
@@ -68,11 +68,10 @@ fn head_equations(text: &[u8], from: usize, names: [u64; 12], named: usize) -> H
     ensures { λ r. ⌜ HeadWalks (now (text .entry))
         (headEquations (map (nameOf 8) (take named names)) (2 + named) (drop from (now (text .entry)))) r ⌝ }
 {
-    let given = take_number(&text[from..], 2 + named, b"equations=", 0, 17, Fault::Form);
-    let Progress::To(equations, took) = given else {
-        return no_head(given);
+    let counted = number_from(text, from, 2 + named, b"equations=", 0, 17, Fault::Form);
+    let Progress::To(equations, next) = counted else {
+        return no_head(counted);
     };
-    let next = from + took;
     head_terms(text, next, names, named, equations as usize)
 }
 

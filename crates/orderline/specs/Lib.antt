@@ -1,2 +1,2 @@
--- What the order's line gives, in the table and in its list store.
+-- What the order's line gives as the last of its text, in the table and in its list store.
 pub mod Orders

@@ -1,16 +1,14 @@
 -- The whole text: sections one after the other, and what is left when they are read.
 -- Assumes nothing.
 use mathlib.Core.Path.{_≡_, refl, sym, ap, _∙_}
-use mathlib.Core.List.{List, [], _++_, map, append-nil}
-use Prim.Native.Nat.{ℕ, suc, _+_, _-_, _≤_, _<_}
-use native.Mathlib.Numerals.{add-one}
+use mathlib.Core.List.{List, [], _∷_, _++_, map, append-nil}
+use Prim.Native.Nat.{ℕ, _+_, _-_, _≤_}
 use native.Mathlib.Omega.{arith}
-use lib.ListN.{length, take, drop, length-append, length-map, drop-of-length-le}
-use lib.Seq.{take-at, drop-at, take-all, length-take-le}
+use lib.ListN.{length, take, drop, length-drop, length-map, drop-of-length-le}
+use lib.Seq.{take-at, length-take-le}
 use Rattle.meaning.specs.Bytes.{Text}
 use Rattle.meaning.specs.Descriptions as D
 use Rattle.meaning.specs.Answers as A
-use Rattle.meaning.specs.Answers.{form}
 use Rattle.table.specs.declared.Order.{Order}
 use Rattle.table.specs.declared.Table.{Table}
 use Rattle.table.specs.Decoded.{nameOf}
@@ -20,18 +18,20 @@ use Rattle.faults.specs.CodedFaults.{faultOf}
 use Rattle.faults.specs.declared.Fault.{Fault}
 use Rattle.faults.specs.declared.Fault.the-variants.{Form, Name, Range, Amount, Operand}
 use Rattle.lists.specs.Lists.{overlaid}
-use Rattle.words.proofs.Rests.{rest-cons}
 use Rattle.grammar.specs.Reading.{takeOrder, Walk, reached, halted, walk, oneLine, Reading, read, badLine}
 use Rattle.grammar.specs.Reading.{Whole, fromOrder, fromBodies, fromTerms, wholeText, described}
 use Rattle.sections.specs.Arrays.{Padded}
 use Rattle.textlines.specs.declared.Progress.{Progress}
 use Rattle.textlines.specs.declared.Progress.the-variants.{Bad}
+use Rattle.textlines.proofs.Walks.{rest-length}
+use Rattle.textlines.proofs.Sequences.{later, line-later, room-there}
 use Rattle.sections.proofs.Arrays.{padded-length}
 use Rattle.sections.proofs.NameLines.{words-back, taken-fit}
 use Rattle.frames.specs.Heads.{Named, headText}
 use Rattle.frames.specs.Feet.{footText}
 use Rattle.frames.proofs.Joins.{withRoot, head-joins, foot-joins}
 use Rattle.termlines.proofs.Lines.{over-free}
+use Rattle.orderline.specs.Orders.{nothingAfter, orderFirst, orderLast}
 use Rattle.reading.specs.Stored.{faultFor, refusing, readFor, Ended}
 use Rattle.reading.specs.declared.Answer.the-variants as N
 use Rattle.reading.specs.declared.Read.{Read}
@@ -68,60 +68,64 @@ module _ {after : List ℕ} {r : Read} where
       → Ended (described (fromBodies words terms e t line s)) after r
   by-foot words terms e t line s h = rw (foot-joins words terms e t line s) at h
 
--- The order's line, and the end of the text.
-module _ (d : D.Description) (line : ℕ) (text : Text) where
+-- The order's line as the last of the whole text: so many lines stand before it.
+abbrev endOf : D.Description → Walk D.Order → Reading
+endOf d (reached o line s) = read d o
+endOf d (halted f line) = badLine f line
+
+module _ (d : D.Description) (line : ℕ) (text : Text) (names : List ℕ) (few : length names ≤ 12) (n : map (nameOf 8) names ≡ d .words) where
   abbrev withOrder : D.Order → ℕ → Text → Walk Whole
   withOrder o line s = reached (record { given = d; order = o }) line s
 
-  pub order-bad : {f : A.Fault} {l : ℕ} → halted f l ≡ oneLine (takeOrder (d .words)) line text → badLine f l ≡ described (fromOrder d line text)
-  order-bad q = ap (λ w. described (walk w withOrder)) q
+  by-walk : (w : Walk D.Order) → endOf d (later line (nothingAfter w)) ≡ described (walk (later line w) withOrder)
+  by-walk (reached o l []) = refl
+  by-walk (reached o l (b ∷ s)) = refl
+  by-walk (halted f l) = refl
 
-  module _ {o : D.Order} (end : ℕ) (q : reached o (suc line) (drop end text) ≡ oneLine (takeOrder (d .words)) line text) where
-    order-read : described (withOrder o (suc line) (drop end text)) ≡ described (fromOrder d line text)
-    order-read = ap (λ w. described (walk w withOrder)) q
+  order-joins : endOf d (later line (orderLast names text)) ≡ described (fromOrder d line text)
+  order-joins =
+      let e : line + 0 ≡ line = omega arith in
+      let do-take = takeOrder (map (nameOf 8) names) in
+      let same : described (walk (oneLine do-take (line + 0) text) withOrder) ≡ described (fromOrder d line text) = rw (e, n) in
+      ap (λ w. endOf d (later line w)) (room-there (nothingAfter (orderFirst names text)) few)
+      ∙ by-walk (orderFirst names text)
+      ∙ ap (λ w. described (walk w withOrder)) (sym (line-later line do-take 0 text))
+      ∙ same
 
-    pub order-short : end < length text → badLine form (line + 1) ≡ described (fromOrder d line text)
-    order-short h = rw (add-one line) (rw (rest-cons text end h) at order-read)
+  pub order-refused : {f : A.Fault} {l : ℕ} → halted f l ≡ orderLast names text → badLine f (line + l) ≡ described (fromOrder d line text)
+  order-refused q = ap (λ w. endOf d (later line w)) q ∙ order-joins
 
-    pub order-whole : length text ≤ end → read d o ≡ described (fromOrder d line text)
-    order-whole h = rw (drop-of-length-le text h) at order-read
+  pub order-read : {o : D.Order} {l : ℕ} {s : Text} → reached o l s ≡ orderLast names text → read d o ≡ described (fromOrder d line text)
+  order-read q = ap (λ w. endOf d (later line w)) q ∙ order-joins
 
--- The order's words.
-module _ (n : ℕ) (front ws : List ℕ) {store : List ℕ} (l : length front ≡ n) (s : store ≡ front ++ filled 32 0 []) where
-  behind : drop n store ≡ filled 32 0 []
-  behind = rw s (drop-at front (filled 32 0 []) n l)
+-- The order's words behind the terms'.
+words-stored : (n : ℕ) (store : List ℕ) {front after : List ℕ} (ws : List ℕ) → take n store ≡ front → length store ≡ n + 32
+    → after ≡ overlaid ws (filled (length (take (length store - n) (drop n store))) 0 [])
+    → take n store ++ (after ++ drop (length store - n) (drop n store)) ≡ front ++ filled 32 0 ws
+words-stored n store ws b l q =
+    let size : length store - n ≡ 32 = omega arith in
+    let w : length (drop n store) ≤ 32 = omega (arith, length-drop n store) in
+    let z : drop 32 (drop n store) ≡ [] = drop-of-length-le (drop n store) w in
+    rw (q, rest-length store n, size, b, z, append-nil, over-free 32 ws)
 
-  size : length store - n ≡ 32
-  size = let e = length-filled {A = ℕ} 0 32 [] in rw (s, length-append) (omega arith)
-
-  pub words-stored : {after : List ℕ} → after ≡ overlaid ws (take (length store - n) (drop n store)) → take n store ++
-      (after ++ drop (length store - n) (drop n store)) ≡ front ++ filled 32 0 ws
-  words-stored q =
-      let b : take n store ≡ front = rw s (take-at front (filled 32 0 []) n l) in
-      let e = length-filled {A = ℕ} 0 32 [] in
-      let f : length (filled {A = ℕ} 32 0 []) ≤ 32 = omega arith in
-      let z : drop 32 (filled {A = ℕ} 32 0 []) ≡ [] = drop-of-length-le (filled 32 0 []) f in
-      let y : take 32 (filled {A = ℕ} 32 0 []) ≡ filled 32 0 [] = take-all 32 (filled 32 0 []) f in
-      rw (q, size, behind, b, y, z, append-nil, over-free 32 ws)
-
-pub order-stored : (d : D.Description) (o : D.Order) {store after : List ℕ} → store ≡ filled 3072 0 (termsWords (d .terms)) ++ filled 32 0 []
-    → after ≡ overlaid (orderWords o) (take (length store - 3072) (drop 3072 store))
+pub order-stored : (d : D.Description) (o : D.Order) (store : List ℕ) {after : List ℕ} → take 3072 store ≡ filled 3072 0 (termsWords (d .terms))
+    → length store ≡ 3104 → after ≡ overlaid (orderWords o) (filled (length (take (length store - 3072) (drop 3072 store))) 0 [])
     → take 3072 store ++ (after ++ drop (length store - 3072) (drop 3072 store)) ≡ storeOf d o
 unfolding storeOf
-order-stored d o s q = words-stored 3072 (filled 3072 0 (termsWords (d .terms))) (orderWords o) (length-filled 0 3072 (termsWords (d .terms))) s q
+order-stored d o store s l q = words-stored 3072 store (orderWords o) s l q
 
 -- What is returned of a text that is read.
 pub table-read : (d : D.Description) (o : D.Order) {t : Table} {x : Order} → t ≡ tableOf d → x ≡ orderFor o
     → _≡_ {A = Read} (record { answer = N.Fine; table = t; order = x }) (readFor (read d o))
 table-read d o e q = rw (e, q)
 
--- A store that is all 0, in two parts.
-module _ (n m k : ℕ) {store : List ℕ} (s : store ≡ filled n 0 []) (e : n ≡ m + k) where
-  pub front-free : take m store ≡ filled m 0 []
-  front-free = rw (s, filled-two {A = ℕ} 0 n m k e) (take-at (filled m 0 []) (filled k 0 []) m (length-filled 0 m []))
+-- The start of a store that holds terms, and of one that is all 0.
+pub front-held : (ts : List D.Term) (rest : List ℕ) {lists store : List ℕ} → store ≡ lists ++ rest → lists ≡ filled 3072 0 (termsWords ts)
+    → take 3072 store ≡ filled 3072 0 (termsWords ts)
+front-held ts rest k e = rw (k, e) (take-at (filled 3072 0 (termsWords ts)) rest 3072 (length-filled 0 3072 (termsWords ts)))
 
-  pub rest-free : drop m store ≡ filled k 0 []
-  rest-free = rw (s, filled-two {A = ℕ} 0 n m k e) (drop-at (filled m 0 []) (filled k 0 []) m (length-filled 0 m []))
+pub front-free : (n m k : ℕ) {store : List ℕ} → store ≡ filled n 0 [] → n ≡ m + k → take m store ≡ filled m 0 []
+front-free n m k s e = rw (s, filled-two {A = ℕ} 0 n m k e) (take-at (filled m 0 []) (filled k 0 []) m (length-filled 0 m []))
 
 -- The table of what was read before the order.
 same-table : {names names′ bodies bodies′ : List ℕ} {named named′ equations equations′ terms terms′ root : ℕ} {slots slots′ : List ℕ}
@@ -145,9 +149,3 @@ table-held names named count slots terms bodies equations root n s c b few =
     let f : names ≡ filled 12 0 (map wordOf (map (nameOf 8) (take named names))) = rw
     (words-back (take named names) (taken-fit named names (n .fits))) (n .laid .padded) in
     same-table f (sym w) (b .padded) (sym e) s (sym c)
-
-pub held-length : {store : List ℕ} (ts : List D.Term) → store ≡ filled 3072 0 (termsWords ts) ++ filled 32 0 [] → length store ≡ 3104
-held-length ts s =
-    let a = length-filled {A = ℕ} 0 3072 (termsWords ts) in
-    let b = length-filled {A = ℕ} 0 32 [] in
-    rw (s, length-append) (omega arith)

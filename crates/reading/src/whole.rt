@@ -1,16 +1,15 @@
 // The lines of the whole text: those before the terms, the terms, those after them. Each function is lent the text from its first
 // line on.
 ghost use mathlib.Core.Path.{_≡_};
-ghost use mathlib.Core.List.{List, [], map};
-ghost use Prim.Native.Nat.{ℕ, _+_, _^_, _≤_, _<_};
+ghost use mathlib.Core.List.{List, []};
+ghost use Prim.Native.Nat.{ℕ, _+_, _^_, _<_};
 ghost use lib.ListN.{length};
 ghost use Rattle.meaning.specs.Descriptions as D;
-ghost use Rattle.table.specs.Decoded.{nameOf};
 ghost use Rattle.table.specs.Encoded.{filled};
 ghost use Rattle.grammar.specs.Reading.{fromOrder, fromBodies, fromTerms, wholeText, described};
 ghost use Rattle.frames.specs.Heads.{headingOf};
 ghost use Rattle.reading.specs.Stored.{refusing, Ended, Completed};
-ghost use Rattle.reading.specs.Parts.{EndRead, Headed, Sized, TermsPart, HeldTerms, Held};
+ghost use Rattle.reading.specs.Parts.{Headed, Sized, TermsPart, HeldTerms, Held};
 use crate::Answer;
 use crate::Read;
 use areas::clear;
@@ -18,8 +17,7 @@ use faults::Fault;
 use frames::feet::take_foot;
 use frames::heads::Head;
 use frames::heads::take_head;
-use orderline::Ordered;
-use orderline::take_order;
+use orderline::take_end;
 use table::Order;
 use table::STORE_WORDS;
 use table::Table;
@@ -50,39 +48,19 @@ fn bad(p: Progress, before: usize) -> Read
     }
 }
 
-// The order's line, which is the text's last: bytes after it are a fault of the line that they begin.
-fn read_end(text: &[u8], line: usize, names: &[u64], store: &mut [u64]) -> Ordered
-    requires { ⌜ Sized (now text) line (length (now names)) (now store) ⌝ }
-    ensures { λ r. ⌜ ((d : D.Description) → map (nameOf 8) (now (names .entry)) ≡ d .words
-        → EndRead d line (described (fromOrder d line (now (text .entry)))) (now (store .entry)) (now (store .exit)) r) ⌝ }
-{
-    let last = take_order(text, line, names, &mut store[3072..]);
-    let progress = last.progress;
-    let Progress::To(_, end) = progress else {
-        return last;
-    };
-    if end < text.len() {
-        return Ordered {
-            progress: Progress::Bad(Fault::Form, line + 1),
-            order: Order::All,
-        };
-    }
-    last
-}
-
-// The order, after a table that is whole.
+// The order, after a table that is whole; its words are the store's last.
 fn read_order(text: &[u8], line: usize, table: Table, store: &mut [u64]) -> Read
-    requires { ⌜ Sized (now text) line (table .named) (now store) ⌝ }
+    requires { ⌜ Sized line (table .named) (table .names) (now store) ⌝ }
     ensures { λ r. ⌜ ((d : D.Description) → Held d table (now (store .entry))
         → Ended (described (fromOrder d line (now (text .entry)))) (now (store .exit)) r) ⌝ }
 {
     let names = table.names;
     let named = table.named;
-    let last = read_end(text, line, &names[..named], store);
+    let last = take_end(text, &names[..named], &mut store[3072..]);
     let progress = last.progress;
     let order = last.order;
     let Progress::To(_, _) = progress else {
-        return bad(progress, 0);
+        return bad(progress, line);
     };
     Read {
         answer: Answer::Fine,
@@ -93,7 +71,7 @@ fn read_order(text: &[u8], line: usize, table: Table, store: &mut [u64]) -> Read
 
 // The lines from the bodies' on.
 fn read_foot(text: &[u8], head: Head, slots: [u64; 96], store: &mut [u64]) -> Read
-    requires { ⌜ (length (now text) ≤ 8192) × Headed head × (length (now store) ≡ 3104) ⌝ }
+    requires { ⌜ Headed head × (length (now store) ≡ 3104) ⌝ }
     ensures { λ r. ⌜ ((terms : List D.Term) → HeldTerms terms (head .terms) slots (now (store .entry))
         → Ended (described (fromBodies (headingOf head .words) terms (head .equations) (head .terms)
         (4 + head .named + head .terms) (now (text .entry)))) (now (store .exit)) r) ⌝ }
@@ -124,7 +102,7 @@ fn read_foot(text: &[u8], head: Head, slots: [u64; 96], store: &mut [u64]) -> Re
 
 // The lines of terms, whose lists go to the first 3,072 words of the store.
 fn read_part(text: &[u8], head: Head, store: &mut [u64]) -> Terms
-    requires { ⌜ (length (now text) ≤ 8192) × Headed head × (now store ≡ filled 3104 0 []) ⌝ }
+    requires { ⌜ Headed head × (now store ≡ filled 3104 0 []) ⌝ }
     ensures { λ r. ⌜ TermsPart (now (text .entry)) head (now (store .exit)) r ⌝ }
 {
     let names = head.names;
@@ -136,7 +114,7 @@ fn read_part(text: &[u8], head: Head, store: &mut [u64]) -> Terms
 
 // The lines from the terms' on.
 fn read_terms(text: &[u8], head: Head, store: &mut [u64]) -> Read
-    requires { ⌜ (length (now text) ≤ 8192) × Headed head × (now store ≡ filled 3104 0 []) ⌝ }
+    requires { ⌜ Headed head × (now store ≡ filled 3104 0 []) ⌝ }
     ensures { λ r. ⌜ Ended (described (fromTerms (headingOf head .words) (head .equations) (head .terms) (4 + head .named) (now (text .entry))))
         (now (store .exit)) r ⌝ }
 {
@@ -149,9 +127,9 @@ fn read_terms(text: &[u8], head: Head, store: &mut [u64]) -> Read
     read_foot(&text[at..], head, slots, store)
 }
 
-// All lines of a text of at most 8,192 bytes, into a store that is 0.
+// All lines of a text, into a store that is 0.
 fn read_lines(text: &[u8], store: &mut [u64]) -> Read
-    requires { ⌜ (length (now text) ≤ 8192) × (now store ≡ filled 3104 0 []) ⌝ }
+    requires { ⌜ now store ≡ filled 3104 0 [] ⌝ }
     ensures { λ r. ⌜ Ended (described (wholeText (now (text .entry)))) (now (store .exit)) r ⌝ }
 {
     let head = take_head(text);
@@ -164,7 +142,7 @@ fn read_lines(text: &[u8], store: &mut [u64]) -> Read
 
 // The same into a store of any words, which are 0 after a refusal.
 pub fn read_cleared(text: &[u8], store: &mut [u64]) -> Read
-    requires { ⌜ (length (now text) ≤ 8192) × (length (now store) ≡ 3104) ⌝ }
+    requires { ⌜ length (now store) ≡ 3104 ⌝ }
     ensures { λ r. ⌜ Completed (described (wholeText (now (text .entry)))) (now (store .exit)) r ⌝ }
 {
     clear(store, STORE_WORDS);

@@ -17,7 +17,8 @@ use Rattle.textlines.specs.declared.Progress.{Progress}
 use Rattle.textlines.specs.declared.Progress.the-variants.{To, Bad}
 use Rattle.textlines.proofs.Walks.{rest-length}
 use Rattle.textlines.proofs.Sequences.{Onto, lines-start, lines-step, lines-halt, lines-end, room-there, room-lacks}
-use Rattle.termlines.specs.Terms.{TermLine, TermWalks, Termed, NextTerm, NextWalks, TermsAt, TermsAnswer}
+use Rattle.termlines.specs.Terms.{TermLine, TermWalks, Termed, NextTerm, NextWalks, noTerms, TermsAt, TermsRead}
+use Rattle.termlines.specs.declared.terms.Terms.{Terms}
 use Rattle.termlines.proofs.Lines.{store-more, slot-more, one-more}
 
 -- A term's own words of the store: the 32 from `32 * n` on, as the code counts them.
@@ -64,12 +65,11 @@ pub record TermsSoFar (text names : List ℕ) (equations count : ℕ) (before sl
   pub places : length slots ≡ 96
   pub within : from ≤ length text
   pub upto : n ≤ count
-  pub read : TermsAt text names before → ReadTerms text names equations count slots store from n
+  pub read : TermsAt names before → ReadTerms text names equations count slots store from n
 
 module _ (text names : List ℕ) (equations count : ℕ) (before : List ℕ) where
-  pub terms-over : (after : List ℕ) {slots : List ℕ} {r : Progress} → 96 < count → (r ≡ Bad Form 0) × (slots ≡ filled 96 0 [])
-      → TermsAnswer text names equations count before after slots r
-  terms-over after h z = λ at. rw (z .0) (record { says = sym (room-lacks _ h); within = omega arith; cleared = z .1 })
+  pub terms-over : (after : List ℕ) {r : Terms} → 96 < count → r ≡ noTerms (Bad Form 0) → TermsRead text names equations count before after r
+  terms-over after h z = rw z (record { came = λ at. record { says = sym (room-lacks _ h); within = omega arith; cleared = refl } })
 
   pub terms-start : TermsSoFar text names equations count before (replicate 96 0) before 0 0
   unfolding filled slotsFrom termsWords
@@ -93,12 +93,11 @@ module _ {text names : List ℕ} {equations count : ℕ} {before slots store : L
   rest = take (length text - from) (drop from text)
 
   module _ (more : n < count) {after : List ℕ} {r : Progress} (t : NextTerm rest names equations slots n store after r) where
-    next-said : (at : TermsAt text names before)
+    next-said : (at : TermsAt names before)
         → NextWalks (s .read at .terms) rest n (oneLine (taking names equations (s .read at .terms)) n rest) after r
     next-said at =
-        let l = rest-length text from in
         let so-far = s .read at in
-        t .said (so-far .terms) (so-far .termed) (so-far .counted) (record { slot = omega arith; few = at .few; short = omega (arith, at .short) })
+        t .said (so-far .terms) (so-far .termed) (so-far .counted) (record { slot = omega arith; few = at .few })
 
     pub terms-within : {w took : ℕ} → r ≡ To w took → from + took ≤ length text
     terms-within e = let l = rest-length text from in omega (arith, s .within, (rw e at t) .within)
@@ -122,21 +121,26 @@ module _ {text names : List ℕ} {equations count : ℕ} {before slots store : L
               };
         }
 
-    pub terms-halt : {f : F.Fault} {line : ℕ} {q : Progress} {zeros : List ℕ} → r ≡ Bad f line → (q ≡ r) × (zeros ≡ filled 96 0 [])
-        → TermsAnswer text names equations count before after zeros q
-    terms-halt e z = λ at.
-        let g = rw e at (next-said at) in
-        let w = (rw e at t) .within in
-        rw (z .0, e) (record { says = lines-halt (s .read at .onto) more g ∙ sym (room-there _ most); within = omega (arith, w); cleared = z .1 })
+    pub terms-halt : {f : F.Fault} {line : ℕ} {q : Terms} → r ≡ Bad f line → q ≡ noTerms r → TermsRead text names equations count before after q
+    terms-halt e z =
+        rw (z, e) (record {
+          came = λ at.
+              let g = rw e at (next-said at) in
+              let w = (rw e at t) .within in
+              record { says = lines-halt (s .read at .onto) more g ∙ sym (room-there _ most); within = omega (arith, w); cleared = refl };
+        })
 
-  pub terms-end : count ≤ n → TermsAnswer text names equations count before store slots (To 0 from)
-  terms-end h = λ at.
-      let so-far = s .read at in
+  pub terms-end : count ≤ n → TermsRead text names equations count before store (record { progress = To 0 from; slots = slots })
+  terms-end h =
       record {
-        plain = refl;
-        terms = so-far .terms;
-        says = lines-end (so-far .onto) h ∙ sym (room-there _ most);
-        within = s .within;
-        counted = omega (arith, so-far .counted, s .upto);
-        termed = so-far .termed;
+        came = λ at.
+            let so-far = s .read at in
+            record {
+              plain = refl;
+              terms = so-far .terms;
+              says = lines-end (so-far .onto) h ∙ sym (room-there _ most);
+              within = s .within;
+              counted = omega (arith, so-far .counted, s .upto);
+              termed = so-far .termed;
+            };
       }

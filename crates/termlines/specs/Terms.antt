@@ -16,12 +16,12 @@ use Rattle.grammar.specs.Reading.{Walk, reached, halted, oneLine, lines, takeTe
 use Rattle.textlines.specs.Walks.{TookOf, inRoom}
 use Rattle.textlines.specs.declared.Progress.{Progress}
 use Rattle.textlines.specs.declared.Progress.the-variants.{To, Bad}
+use Rattle.termlines.specs.declared.terms.Terms.{Terms}
 
--- What is asked of a term's number, of the names and of the text.
-pub record TermAt (text names : List ℕ) (n : ℕ) : Type 0 where
+-- What is asked of a term's number and of the names.
+pub record TermAt (names : List ℕ) (n : ℕ) : Type 0 where
   pub slot : n < 96
   pub few : length names ≤ 12
-  pub short : length text ≤ 8192
 
 -- One term more, its list over the start of its part of the store.
 pub record TermTo (terms : List D.Term) (text : Text) (n : ℕ) (due : Walk (List D.Term)) (before after : List ℕ) (w took : ℕ) : Type 0 where
@@ -37,7 +37,7 @@ TermWalks terms text n due before after (Bad f line) = halted (faultOf f) line �
 -- The same after the terms before it, which are those of the slots.
 pub record TermLine (text : Text) (names : List ℕ) (equations : ℕ) (slots : List ℕ) (n : ℕ) (before after : List ℕ) (r : Progress) : Type 0 where
   pub within : TookOf text (suc n) r
-  pub said : (terms : List D.Term) → slots ≡ filled 96 0 (slotsFrom 0 terms) → n ≡ length terms → TermAt text names n
+  pub said : (terms : List D.Term) → slots ≡ filled 96 0 (slotsFrom 0 terms) → n ≡ length terms → TermAt names n
       → TermWalks terms text n (oneLine (takeTerm (map (nameOf 8) names) equations terms) n text) before after r
 
 -- Some terms, as they stand in the table and in the store.
@@ -58,7 +58,7 @@ NextWalks terms text n due after (Bad f line) = halted (faultOf f) line ≡ due
 
 pub record NextTerm (text : Text) (names : List ℕ) (equations : ℕ) (slots : List ℕ) (n : ℕ) (before after : List ℕ) (r : Progress) : Type 0 where
   pub within : TookOf text (suc n) r
-  pub said : (terms : List D.Term) → Termed terms slots before → n ≡ length terms → TermAt text names n
+  pub said : (terms : List D.Term) → Termed terms slots before → n ≡ length terms → TermAt names n
       → NextWalks terms text n (oneLine (takeTerm (map (nameOf 8) names) equations terms) n text) after r
 
 -- All terms that were asked for; none where a line is bad.
@@ -79,12 +79,15 @@ abbrev pub TermsWalk : Text → Walk (List D.Term) → ℕ → List ℕ → List
 TermsWalk text due count after slots (To v took) = TermsTo text due count after slots v took
 TermsWalk text due count after slots (Bad f line) = TermsBad due count slots (faultOf f) line
 
--- Every text that is short enough, with few enough names and a store of 3,072 words that are 0.
-pub record TermsAt (text names store : List ℕ) : Type 0 where
+-- What is left of a progress after which no term counts.
+abbrev pub noTerms : Progress → Terms
+noTerms p = record { progress = p; slots = filled 96 0 [] }
+
+-- Every text, with few enough names and a store of 3,072 words that are 0.
+pub record TermsAt (names store : List ℕ) : Type 0 where
   pub few : length names ≤ 12
-  pub short : length text ≤ 8192
   pub free : store ≡ filled 3072 0 []
 
-abbrev pub TermsAnswer : Text → List ℕ → (equations count : ℕ) → List ℕ → List ℕ → List ℕ → Progress → Type 0
-TermsAnswer text names equations count before after slots r =
-    TermsAt text names before → TermsWalk text (inRoom 96 count (lines (takeTerm (map (nameOf 8) names) equations) count [] 0 text)) count after slots r
+pub record TermsRead (text names : List ℕ) (equations count : ℕ) (before after : List ℕ) (r : Terms) : Type 0 where
+  pub came : TermsAt names before
+      → TermsWalk text (inRoom 96 count (lines (takeTerm (map (nameOf 8) names) equations) count [] 0 text)) count after (r .slots) (r .progress)

@@ -1,9 +1,7 @@
 // The lines of terms.
 ghost use mathlib.Core.Path.{_≡_};
-ghost use mathlib.Core.List.{[]};
 ghost use Prim.Native.Nat.{_<_};
-ghost use Rattle.table.specs.Encoded.{filled};
-ghost use Rattle.termlines.specs.Terms.{TermLine, NextTerm, TermsAnswer};
+ghost use Rattle.termlines.specs.Terms.{TermLine, NextTerm, noTerms, TermsRead};
 use faults::Fault;
 use faults::Found;
 use forms::terms::read_term;
@@ -13,23 +11,23 @@ use tails::TermStep;
 use textlines::Progress;
 use textlines::line_end;
 
-// The line's number is the term's; its number after reading is its packed term.
+// The line's number is the term's; its number after reading is its packed term. Its list goes to its part of the store.
 fn take_term(
     text: &[u8],
     names: &[u64],
     equations: usize,
     slots: &[u64],
     n: usize,
-    store: &mut [u64],
+    part: &mut [u64],
 ) -> Progress
     ensures { λ r. ⌜ TermLine (now (text .entry)) (now (names .entry)) equations (now (slots .entry)) n
-        (now (store .entry)) (now (store .exit)) r ⌝ }
+        (now (part .entry)) (now (part .exit)) r ⌝ }
 {
     let end = line_end(text);
     if text.len() <= end {
         return Progress::Bad(Fault::Form, n);
     }
-    let step = read_term(&text[..end], names, equations, slots, n, store);
+    let step = read_term(&text[..end], names, equations, slots, n, part);
     let TermStep::To(term, found) = step else {
         return Progress::Bad(Fault::Form, n);
     };
@@ -70,7 +68,7 @@ pub struct Terms {
 
 // What is left of a progress after which no term counts.
 fn no_terms(progress: Progress) -> Terms
-    ensures { λ r. ⌜ (r .progress ≡ progress) × (r .slots ≡ filled 96 0 []) ⌝ }
+    ensures { λ r. ⌜ r ≡ noTerms progress ⌝ }
 {
     Terms {
         progress,
@@ -86,8 +84,7 @@ pub fn take_terms(
     count: usize,
     store: &mut [u64],
 ) -> Terms
-    ensures { λ r. ⌜ TermsAnswer (now (text .entry)) (now (names .entry)) equations count
-        (now (store .entry)) (now (store .exit)) (r .slots) (r .progress) ⌝ }
+    ensures { λ r. ⌜ TermsRead (now (text .entry)) (now (names .entry)) equations count (now (store .entry)) (now (store .exit)) r ⌝ }
 {
     if TERMS < count {
         return no_terms(Progress::Bad(Fault::Form, 0));

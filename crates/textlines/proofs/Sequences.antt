@@ -56,7 +56,7 @@ later before (reached a line s) = reached a (before + line) s
 later before (halted f line) = halted f (before + line)
 
 module _ {A : Type 0} (before : ℕ) where
-  line-later : (do-take : Text → Taken A) (line : ℕ) (s : Text) → oneLine do-take (before + line) s ≡ later before (oneLine do-take line s)
+  pub line-later : (do-take : Text → Taken A) (line : ℕ) (s : Text) → oneLine do-take (before + line) s ≡ later before (oneLine do-take line s)
   line-later do-take line s = by-cut (firstLine s)
     where
       by-taken : (t : Taken A) (rest : Text) → afterLine (before + line) t rest ≡ later before (afterLine line t rest)

@@ -28,7 +28,7 @@ use Rattle.terms.proofs.Areas.{laid-part}
 use Rattle.keeping.specs.Settling.{alone}
 use Rattle.turns.specs.declared.Found.{Found}
 use Rattle.turns.specs.declared.Found.the-variants as F
-use Rattle.turns.specs.declared.stages.Counts.{Counts}
+use Rattle.passes.specs.declared.closing.Counts.{Counts}
 use Rattle.turns.specs.declared.stages.Last.{Last}
 use Rattle.turns.specs.declared.stages.Last.the-variants as L
 use Rattle.turns.specs.Settling.{Concluded}

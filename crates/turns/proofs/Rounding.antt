@@ -31,12 +31,14 @@ use Rattle.transfers.proofs.Lowering.{lowered-all}
 use Rattle.terms.specs.Laid.{flat, Begins}
 use Rattle.terms.specs.Working.{Kept}
 use Rattle.terms.proofs.Passing.{kept-self, kept-trans}
-use Rattle.turns.specs.declared.stages.Counts.{Counts}
+use Rattle.passes.specs.Passes.{RoundLaid}
+use Rattle.passes.specs.RoundEnds.{RoundDone, Between, Passable}
+use Rattle.passes.proofs.Turning.{none-over}
+use Rattle.passes.proofs.Progress.{laid→passed}
+use Rattle.passes.specs.declared.closing.Counts.{Counts}
 use Rattle.turns.specs.declared.stages.Last.{Last}
 use Rattle.turns.specs.declared.stages.Last.the-variants as L
-use Rattle.turns.specs.Passes.{RoundDone, Between, Passed}
 use Rattle.turns.specs.Stages.{Startable, Describes, LastMade}
-use Rattle.turns.proofs.Turning.{none-over}
 use Rattle.turns.proofs.Staying.{stable-if, unstable-if, between-lowered, kept-lowered}
 
 -- Before the first round there is nothing.
@@ -76,7 +78,6 @@ cut-all (a ∷ s) = ap (λ (r : List Label). a ∷ r) (cut-all s)
 
 -- How far the rounds have come.
 pub record Turned (slots bodies : List ℕ) (counts : Counts) (store work₀ work older before this : List ℕ) (k : ℕ) : Type 0 where
-  pub slotted : length slots ≡ 96
   pub few : counts .terms ≤ 96
   pub equations : counts .equations ≤ length bodies
   pub room : whole ≤ length work₀
@@ -89,11 +90,10 @@ pub record Turned (slots bodies : List ℕ) (counts : Counts) (store work₀ wor
 
 module _ {slots bodies : List ℕ} {counts : Counts} {store work₀ : List ℕ} where
   pub turned-start : {before this : List ℕ}
-      → Startable slots bodies counts before this work₀
+      → Startable bodies counts before this work₀
       → Turned slots bodies counts store work₀ work₀ (replicate 97 0) before this 0
   turned-start h =
       rw (h .nothing, h .none) (record {
-        slotted = h .slotted;
         few = h .few;
         equations = h .equations;
         room = h .room;
@@ -106,6 +106,10 @@ module _ {slots bodies : List ℕ} {counts : Counts} {store work₀ : List ℕ} 
       })
 
   module _ {work older before this : List ℕ} {k : ℕ} (t : Turned slots bodies counts store work₀ work older before this k) where
+    -- what the next round needs
+    passable : Passable (counts .terms) this work
+    passable = record { few = t .few; size = t .sizeThis; first = t .first; room = omega (arith, t .room, t .long) }
+
     -- 2,049 rounds are enough
     pub turned-end : 2049 ≤ k → LastMade slots bodies counts store work₀ before this work L.TooLarge
     turned-end h =
@@ -117,22 +121,22 @@ module _ {slots bodies : List ℕ} {counts : Counts} {store work₀ : List ℕ} 
         }
 
     pub turned-large : {starts now : List ℕ}
-        → Passed slots bodies (counts .terms) store older before work starts now false
+        → RoundLaid slots bodies (counts .terms) store older before this work starts now false
         → length starts ≡ length this
         → LastMade slots bodies counts store work₀ before starts now L.TooLarge
-    turned-large {starts} {now} p long =
+    turned-large {starts} {now} l long =
         record {
           sizeBefore = t .size;
           sizeThis = long ∙ t .sizeThis;
           right = λ d o e.
               let x = t .right d o e in
-              let y = p .right d o k (e .read) (e .stored) (x .0) in
+              let y = laid→passed passable l .right d o k (e .read) (e .stored) (x .0) in
               record { outcome = passed-answer d D.all (suc k) (y .passed); kept = kept-trans work₀ work now (x .1) (y .kept) };
         }
 
-    module _ {starts now : List ℕ} (p : Passed slots bodies (counts .terms) store older before work starts now true) where
+    module _ {starts now : List ℕ} (l : RoundLaid slots bodies (counts .terms) store older before this work starts now true) where
       done : (d : D.Description) (o : D.Order) → Describes d o slots bodies counts store → RoundDone d k before starts work now
-      done d o e = p .right d o k (e .read) (e .stored) (t .right d o e .0)
+      done d o e = laid→passed passable l .right d o k (e .read) (e .stored) (t .right d o e .0)
 
       -- the bodies of the table are those of the description
       same-bodies : (d : D.Description) (o : D.Order)
@@ -178,7 +182,6 @@ module _ {slots bodies : List ℕ} {counts : Counts} {store work₀ : List ℕ} 
           let h : count ≤ half = start-low starts (counts .terms) in
           let v : work′ ≡ lowered count now = w ∙ lowered-all count now h (omega (arith, t .room)) in
           record {
-            slotted = t .slotted;
             few = t .few;
             equations = t .equations;
             room = t .room;
@@ -186,7 +189,7 @@ module _ {slots bodies : List ℕ} {counts : Counts} {store work₀ : List ℕ} 
             sizeOlder = t .size;
             size = size ∙ t .sizeThis;
             sizeThis = size ∙ t .sizeThis;
-            first = p .first;
+            first = laid→passed passable l .first;
             right = λ d o e.
                 let x = t .right d o e in
                 let y = done d o e in

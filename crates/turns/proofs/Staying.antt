@@ -21,7 +21,7 @@ use Rattle.terms.specs.Laid.{flat, Begins}
 use Rattle.places.specs.Sameness.{stays, allStay}
 use Rattle.places.specs.Starts.{half, whole}
 use Rattle.terms.specs.Working.{Kept}
-use Rattle.turns.specs.Passes.{RoundDone, Between}
+use Rattle.passes.specs.RoundEnds.{RoundDone, Between}
 use Rattle.terms.proofs.Areas.{length-flat}
 use Rattle.terms.proofs.Passing.{at-most}
 use Rattle.terms.proofs.Sizes.{stays→, →stays}

@@ -17,7 +17,7 @@ use Rattle.places.specs.Starts.{whole}
 use Rattle.keeping.specs.Settling.{alone}
 use Rattle.turns.specs.declared.Found.{Found}
 use Rattle.turns.specs.declared.Found.the-variants.{TooLarge, At}
-use Rattle.turns.specs.declared.stages.Counts.{Counts}
+use Rattle.passes.specs.declared.closing.Counts.{Counts}
 
 -- An outcome as the code finds it, and its labels.
 abbrev pub foundOf : Outcome → Found

@@ -1,11 +1,10 @@
 -- What round after round comes to, for the table of a legal description. Only private functions cite this.
 -- Assumes nothing.
 use mathlib.Core.Path.{_≡_}
-use mathlib.Core.Bool.{true, false}
 use mathlib.Core.List.{List}
 use Prim.Native.Nat.{ℕ, _≤_}
 use lib.Dec.{T}
-use lib.ListN.{length, take, replicate}
+use lib.ListN.{length, replicate}
 use Rattle.meaning.specs.Sets.{at}
 use Rattle.meaning.specs.Descriptions.{Description, Order, all, termCount}
 use Rattle.meaning.specs.Legal.{Legal}
@@ -13,39 +12,16 @@ use Rattle.meaning.specs.Rounds.{roundSets}
 use Rattle.meaning.specs.Limits.{over}
 use Rattle.meaning.specs.Answers.{tooLarge, listed, answer}
 use Rattle.table.specs.Encoded.{storeOf, tableOf}
-use Rattle.places.specs.Starts.{half, whole, startIn}
-use Rattle.places.specs.Sameness.{allStay}
-use Rattle.transfers.specs.Moving.{loweredIn}
+use Rattle.places.specs.Starts.{half, whole}
 use Rattle.terms.specs.Laid.{Laid}
 use Rattle.terms.specs.Working.{Kept}
-use Rattle.turns.specs.declared.stages.Counts.{Counts}
-use Rattle.turns.specs.declared.stages.Turn.{Turn}
-use Rattle.turns.specs.declared.stages.Turn.the-variants as T
+use Rattle.passes.specs.declared.closing.Counts.{Counts}
+use Rattle.passes.specs.RoundEnds.{Read}
 use Rattle.turns.specs.declared.stages.Last.{Last}
 use Rattle.turns.specs.declared.stages.Last.the-variants as L
-use Rattle.turns.specs.Passes.{Read, Passed}
-
--- A round and what follows it: the equations' sets stayed; or they did not, and the sets of the round are copied down.
-pub record AtRest (slots bodies : List ℕ) (counts : Counts) (store older before work this′ work′ : List ℕ) : Type 0 where
-  pub passed : Passed slots bodies (counts .terms) store older before work this′ work′ true
-  pub same : allStay before this′ (take (counts .equations) bodies) ≡ true
-
-pub record WentOn (slots bodies : List ℕ) (counts : Counts) (store older before work this′ work′ : List ℕ) : Type 0 where
-  pub worked : List ℕ
-  pub passed : Passed slots bodies (counts .terms) store older before work this′ worked true
-  pub changed : allStay before this′ (take (counts .equations) bodies) ≡ false
-  pub long : length worked ≡ length work
-  pub words : work′ ≡ loweredIn (startIn this′ (counts .terms)) worked
-
-abbrev pub TurnMade : (slots bodies : List ℕ) (counts : Counts) (store older before work this′ work′ : List ℕ) → Turn → Type 0
-TurnMade slots bodies counts store older before work this′ work′ T.TooLarge =
-    Passed slots bodies (counts .terms) store older before work this′ work′ false
-TurnMade slots bodies counts store older before work this′ work′ T.Stable = AtRest slots bodies counts store older before work this′ work′
-TurnMade slots bodies counts store older before work this′ work′ T.Goes = WentOn slots bodies counts store older before work this′ work′
 
 -- What the rounds need before the first: no set begins anywhere but at 0.
-pub record Startable (slots bodies : List ℕ) (counts : Counts) (before this work : List ℕ) : Type 0 where
-  pub slotted : length slots ≡ 96
+pub record Startable (bodies : List ℕ) (counts : Counts) (before this work : List ℕ) : Type 0 where
   pub few : counts .terms ≤ 96
   pub equations : counts .equations ≤ length bodies
   pub room : whole ≤ length work

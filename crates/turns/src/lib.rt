@@ -1,12 +1,11 @@
 // The rounds of a description: the sets of all terms in a lent work area, round after round, until the equations' sets stay or a
 // limit is passed.
-mod passes;
 mod settling;
 mod stages;
 
 use crate::settling::conclude;
-use crate::stages::Counts;
 use crate::stages::turn_on;
+use passes::closing::Counts;
 use places::starts::part_at;
 use table::EQUATIONS;
 use table::TERMS;

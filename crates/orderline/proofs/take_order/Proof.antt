@@ -15,13 +15,7 @@ use Rattle.orderline.proofs.take_order.Statement.{statement}
 use Rattle.orderline.proofs.take_order.Tie as tie
 
 returns : tie.Need-returns
-returns c =
-    λ few short. record {
-      says = line-lacks _ (c .before .before .before .before .before .args .line) (c .before .line-end .ensures)
-          (c .if1 .taken);
-      here = refl;
-      none = refl;
-    }
+returns c = record { came = record { says = line-lacks _ 0 (c .before .line-end .ensures) (c .if1 .taken); low = omega arith; none = refl } }
 
 slice-aggregate-read-order : tie.Need-slice-aggregate-read-order
 slice-aggregate-read-order c = sym (length-take-le _ _ (c .before .before .line-end .ensures .within))
@@ -36,16 +30,18 @@ same-length : tie.Need-same-length
 same-length c = search needs
 
 returns-2 : tie.Need-returns-2
-returns-2 c = λ few short.
+returns-2 c =
     let there = c .before .before .before .before .before .before .before in
     let start = there .before .before .before .before .before in
     let a = start .args in
-    let t = c .before .before .before .before .read-order .ensures few in
+    let t = c .before .before .before .before .read-order .ensures (start .pre) in
     let k = rw (c .enum-told .given .1) at t in
     record {
-      says = line-there _ (a .line) (there .before .line-end .ensures) (there .if1 .left) (order-stuck (map (nameOf 8) (a .names .now)) _ k);
-      here = refl;
-      none = refl;
+      came = record {
+        says = line-there _ 0 (there .before .line-end .ensures) (there .if1 .left) (order-stuck (map (nameOf 8) (a .names .now)) _ k);
+        low = omega arith;
+        none = refl;
+      };
     }
 
 enum-known-found : tie.Need-enum-known-found
@@ -55,18 +51,20 @@ same-length-2 : tie.Need-same-length-2
 same-length-2 c = search needs
 
 returns-3 : tie.Need-returns-3
-returns-3 c = λ few short.
+returns-3 c =
     let there = c .before .before .before .before .before .before .before .before .before .before .before in
     let start = there .before .before .before .before .before in
     let a = start .args in
-    let t = c .before .before .before .before .before .before .before .before .read-order .ensures few in
+    let t = c .before .before .before .before .before .before .before .before .read-order .ensures (start .pre) in
     let k = rw (c .before .before .before .before .step .given .1) at t in
     record {
-      says =
-          line-there _ (a .line) (there .before .line-end .ensures) (there .if1 .left)
-          (order-faulty (map (nameOf 8) (a .names .now)) _ k (c .before .found .given .1));
-      here = refl;
-      none = refl;
+      came = record {
+        says =
+            line-there _ 0 (there .before .line-end .ensures) (there .if1 .left)
+            (order-faulty (map (nameOf 8) (a .names .now)) _ k (c .before .found .given .1));
+        low = omega arith;
+        none = refl;
+      };
     }
 
 enum-told-2 : tie.Need-enum-told-2
@@ -79,21 +77,23 @@ same-length-3 : tie.Need-same-length-3
 same-length-3 c = search needs
 
 returns-4 : tie.Need-returns-4
-returns-4 c = λ few short.
+returns-4 c =
     let there = c .before .before .before .before .before .before .before .before .before .before in
     let start = there .before .before .before .before .before in
     let a = start .args in
-    let t = c .before .before .before .before .before .before .before .read-order .ensures few in
+    let t = c .before .before .before .before .before .before .before .read-order .ensures (start .pre) in
     let k = rw (c .before .before .before .step .given .1) at t in
     record {
-      plain = refl;
-      order = orderSaid (map (nameOf 8) (a .names .now)) (k .line);
-      says =
-          line-there _ (a .line) (there .before .line-end .ensures) (there .if1 .left)
-          (order-fine (map (nameOf 8) (a .names .now)) _ k (c .enum-told2 .given .1));
-      within = omega (arith, there .if1 .left);
-      kept = k .order;
-      stored = k .stored (sym (found-fine (k .faults) (c .enum-told2 .given .1)));
+      came = record {
+        plain = refl;
+        order = orderSaid (map (nameOf 8) (a .names .now)) (k .line);
+        says =
+            line-there _ 0 (there .before .line-end .ensures) (there .if1 .left)
+            (order-fine (map (nameOf 8) (a .names .now)) _ k (c .enum-told2 .given .1));
+        within = omega (arith, there .if1 .left);
+        kept = k .order;
+        stored = k .stored (sym (found-fine (k .faults) (c .enum-told2 .given .1)));
+      };
     }
 
 pub take-order-spec : {M : Type 1} → statement M

@@ -1,7 +1,7 @@
 -- `reading::read_description` meets its contract: refusal 1 first, then the lines.
 -- Assumes nothing.
 use borrow.Author.Needs.{needs}
-use mathlib.Core.Path.{_≡_, sym}
+use mathlib.Core.Path.{sym}
 use native.Mathlib.Omega.{arith}
 use lib.ListN.{length}
 use lib.Seq.{length-take-le}
@@ -32,7 +32,7 @@ slice-aggregate-read-cleared c = sym (length-take-le 3104 (c .before .before .be
 
 read-cleared-requires : tie.Need-read-cleared-requires
 read-cleared-requires c κs =
-    (omega (arith, c .before .before .if1 .left), length-take-le 3104 (c .before .before .before .before .before .args .store .now) (c .before .if2 .left))
+    length-take-le 3104 (c .before .before .before .before .before .args .store .now) (c .before .if2 .left)
 
 same-length : tie.Need-same-length
 same-length c = search needs

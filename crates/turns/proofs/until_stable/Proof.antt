@@ -30,7 +30,6 @@ turn-on-requires c κs =
     let fits = rw (not-false (tested .result) (c .before .before .before .before .before .before .before .if1 .left)) at (tested .ensures) in
     let sixteen : length (table .bodies) ≡ 16 = search needs in
     record {
-      slotted = search needs;
       few = fits .1;
       equations = omega (arith, fits .2);
       room = fits .0;

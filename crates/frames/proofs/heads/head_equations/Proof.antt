@@ -3,75 +3,63 @@
 use mathlib.Core.Path.{_≡_, refl, ap, _∙_}
 use Prim.Native.Nat.{suc, _+_}
 use native.Mathlib.Omega.{arith}
+use lib.ListN.{drop}
 use Rattle.meaning.specs.Bytes.{ascii}
 use Rattle.meaning.specs.Answers.{form}
 use Rattle.grammar.specs.Reading.{equationsInRange}
 use Rattle.faults.proofs.Calls.{asks-nothing}
-use Rattle.textlines.proofs.Walks.{gone-before, gone-below}
+use Rattle.textlines.proofs.Walks.{gone-within, gone-before, gone-below}
 use Rattle.frames.specs.Heads.{noHead}
-use Rattle.frames.proofs.Numbers.{equations-test, number-to, number-bad, number-on}
+use Rattle.frames.proofs.Numbers.{equations-test, number-to, number-bad}
 use Rattle.frames.proofs.Onwards.{head-bad, head-on}
 use Rattle.frames.proofs.heads.head_equations.Statement.{statement}
 use Rattle.frames.proofs.heads.head_equations.Tie as tie
 
-sub-take-number : tie.Need-sub-take-number
-sub-take-number c = c .before .pre .0
+add-number-from : tie.Need-add-number-from
+add-number-from c = omega (arith, c .before .pre .1 .few)
 
-part-take-number-start : tie.Need-part-take-number-start
-part-take-number-start c = c .before .pre .0
+slice-aggregate-number-from : tie.Need-slice-aggregate-number-from
+slice-aggregate-number-from c = refl
 
-part-take-number-end : tie.Need-part-take-number-end
-part-take-number-end c = omega arith
+number-from-requires : tie.Need-number-from-requires
+number-from-requires c κs = c .before .before .pre .0
 
-add-take-number : tie.Need-add-take-number
-add-take-number c = omega (arith, c .before .before .pre .1 .few)
-
-slice-aggregate-take-number : tie.Need-slice-aggregate-take-number
-slice-aggregate-take-number c = refl
-
-enum-known-given : tie.Need-enum-known-given
-enum-known-given c = c .match .keys1
+enum-known-counted : tie.Need-enum-known-counted
+enum-known-counted c = c .match .keys1
 
 enum-told : tie.Need-enum-told
 enum-told c = c .match .keys2
 
 returns : tie.Need-returns
 returns c =
-    let start = c .before .before .before .before .before .before .before in
-    let a = start .args in
-    let read = c .before .before .before .take-number .ensures in
     let told = c .before .enum-told .given .1 in
+    let read = c .before .before .before .number-from .ensures in
+    let start = c .before .before .before .before .before .before in
+    let a = start .args in
     head-bad _ (a .text .now) (c .no-head .ensures ∙ ap noHead told)
-    (number-bad (ascii "equations=") 0 17 equationsInRange equations-test form (a .text .now) (a .from) (2 + a .named) read told)
+    (number-bad (ascii "equations=") 0 17 equationsInRange equations-test form (2 + a .named) (drop (a .from) (a .text .now)) read told)
     (omega (arith, gone-before (read .walks) told, start .pre .1 .few))
-
-add-next : tie.Need-add-next
-add-next c =
-    let start = c .before .before .before .before .before .before .before in
-    let read = c .before .before .before .take-number .ensures in
-    omega (arith, number-on (start .args .text .now) (start .args .from) read (c .before .given .given .1) (start .pre .0))
 
 head-terms-requires : tie.Need-head-terms-requires
 head-terms-requires c κs =
-    let start = c .before .before .before .before .before .before .before in
+    let start = c .before .before .before .before .before .before in
     let a = start .args in
-    let read = c .before .before .before .take-number .ensures in
-    let to = c .before .given .given .1 in
-    (number-on (a .text .now) (a .from) read to (start .pre .0), start .pre .1, omega (arith, gone-below read to))
+    let read = c .before .before .before .number-from .ensures in
+    let to = c .before .counted .given .1 in
+    (gone-within (read .walks) to, start .pre .1, omega (arith, gone-below read to))
 
 returns-2 : tie.Need-returns-2
 returns-2 c =
-    let a = c .before .before .before .before .before .before .before .before .args in
-    let to = c .before .before .given .given in
+    let a = c .before .before .before .before .before .before .before .args in
+    let to = c .before .before .counted .given in
     let s : 3 + a .named ≡ suc (2 + a .named) = omega arith in
     let k = c .head-terms .ensures in
     head-on _ (a .text .now)
-    (number-to (ascii "equations=") 0 17 equationsInRange equations-test form (a .text .now) (a .from) (2 + a .named)
-    (c .before .before .before .before .take-number .ensures) (to .1))
+    (number-to (ascii "equations=") 0 17 equationsInRange equations-test form (2 + a .named) (drop (a .from) (a .text .now))
+    (c .before .before .before .before .number-from .ensures) (to .1))
     (rw s at k)
 
 pub head-equations-spec : {M : Type 1} → statement M
 head-equations-spec =
     tie.close
-    (tie.spec sub-take-number part-take-number-start part-take-number-end add-take-number slice-aggregate-take-number asks-nothing
-    enum-known-given enum-told asks-nothing returns add-next head-terms-requires returns-2)
+    (tie.spec add-number-from slice-aggregate-number-from number-from-requires enum-known-counted enum-told asks-nothing returns head-terms-requires returns-2)

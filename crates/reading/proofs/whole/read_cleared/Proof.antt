@@ -14,10 +14,10 @@ use Rattle.reading.proofs.whole.read_cleared.Tie as tie
 
 -- the store once it is 0
 zeros : (c : tie.After-clear) → c .clear .last .0 ≡ filled 3104 0 []
-zeros c = let l = c .before .before .before .before .pre .1 in c .clear .ensures ∙ zeroed-filled 3104 _ (omega (arith, l)) ∙ ap (λ n. filled n 0 []) l
+zeros c = let l = c .before .before .before .before .pre in c .clear .ensures ∙ zeroed-filled 3104 _ (omega (arith, l)) ∙ ap (λ n. filled n 0 []) l
 
 read-lines-requires : tie.Need-read-lines-requires
-read-lines-requires c κs = (c .before .before .before .before .before .before .before .pre .0, zeros (c .before .before .before))
+read-lines-requires c κs = zeros (c .before .before .before)
 
 enum-told : tie.Need-enum-told
 enum-told c = c .match .keys1

@@ -1,10 +1,9 @@
 -- `reading::whole::read_lines` meets its contract: the lines before the terms, and those from them on.
 -- Assumes nothing.
 use borrow.Author.Needs.{needs}
-use mathlib.Core.Path.{_≡_, refl}
 use native.Mathlib.Omega.{arith}
 use Rattle.faults.proofs.Calls.{asks-nothing}
-use Rattle.textlines.proofs.Walks.{rest-lent, rest-length}
+use Rattle.textlines.proofs.Walks.{rest-lent}
 use Rattle.reading.proofs.Wholes.{ends-bad, ends-on, by-head}
 use Rattle.reading.proofs.whole.read_lines.Statement.{statement}
 use Rattle.reading.proofs.whole.read_lines.Tie as tie
@@ -38,8 +37,7 @@ read-terms-requires c κs =
     let start = c .before .before .before .before .before .before .before .before in
     let to = c .before .before .before .progress .given in
     let k = rw (to .1) at (c .before .before .before .before .before .take-head .ensures .came) in
-    let l = rest-length (start .args .text .now) (to .0 .1 .0) in
-    (omega (arith, start .pre .0), record { held = k .held; equated = k .equated; counted = k .counted }, start .pre .1)
+    (record { held = k .held; equated = k .equated; counted = k .counted }, start .pre)
 
 same-length : tie.Need-same-length
 same-length c = search needs

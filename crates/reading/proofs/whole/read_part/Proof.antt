@@ -2,9 +2,9 @@
 -- Assumes nothing.
 use borrow.Author.Needs.{needs}
 use mathlib.Core.Path.{_≡_, refl, sym, ap, _∙_}
-use mathlib.Core.List.{[], _++_}
+use mathlib.Core.List.{[]}
 use native.Mathlib.Omega.{arith}
-use lib.ListN.{length, length-take}
+use lib.ListN.{length, drop, length-take}
 use lib.Seq.{length-take-le}
 use Rattle.table.proofs.Fillings.{length-filled}
 use Rattle.grammar.specs.Reading.{takeTerm, lines}
@@ -12,19 +12,19 @@ use Rattle.faults.proofs.Calls.{asks-nothing}
 use Rattle.textlines.proofs.Sequences.{room-there}
 use Rattle.sections.proofs.Arrays.{padded-length}
 use Rattle.frames.specs.Heads.{headingOf}
-use Rattle.reading.proofs.Wholes.{front-free, rest-free}
+use Rattle.reading.proofs.Wholes.{front-free}
 use Rattle.reading.proofs.whole.read_part.Statement.{statement}
 use Rattle.reading.proofs.whole.read_part.Tie as tie
 
 long : (c : tie.Start) → length (c .args .store .now) ≡ 3104
-long c = ap length (c .pre .2) ∙ length-filled 0 3104 []
+long c = ap length (c .pre .1) ∙ length-filled 0 3104 []
 
 array-share-prefix-names : tie.Need-array-share-prefix-names
-array-share-prefix-names c = let held = c .before .before .before .pre .1 .held in let e = padded-length (held .laid) in omega (arith, held .few)
+array-share-prefix-names c = let held = c .before .before .before .pre .0 .held in let e = padded-length (held .laid) in omega (arith, held .few)
 
 slice-aggregate-take-terms : tie.Need-slice-aggregate-take-terms
 slice-aggregate-take-terms c =
-    let held = c .before .before .before .before .pre .1 .held in
+    let held = c .before .before .before .before .pre .0 .held in
     let e = padded-length (held .laid) in
     sym (length-take-le _ _ (omega (arith, held .few)))
 
@@ -44,16 +44,16 @@ returns c =
     let start = c .before .before .before .before .before .before .before .before in
     let head = start .args .head in
     let text = start .args .text .now in
-    let t = c .before .before .take-terms .ensures (record {
-      few = rw length-take (omega (arith, start .pre .1 .held .few));
-      short = start .pre .0;
-      free = front-free 3104 3072 32 (start .pre .2) refl;
+    let t = c .before .before .take-terms .ensures .came (record {
+      few = rw length-take (omega (arith, start .pre .0 .held .few));
+      free = front-free 3104 3072 32 (start .pre .1) refl;
     }) in
     let due = lines (takeTerm (headingOf head .words) (head .equations)) (head .terms) [] 0 text in
     record {
       lists = c .before .before .take-terms .last .1 .1 .1 .1 .0;
-      kept = ap (λ r. c .before .before .take-terms .last .1 .1 .1 .1 .0 ++ r) (rest-free 3104 3072 32 (start .pre .2) refl);
-      walks = rw (room-there due (start .pre .1 .counted)) at t;
+      rest = drop 3072 (start .args .store .now);
+      kept = refl;
+      walks = rw (room-there due (start .pre .0 .counted)) at t;
     }
 
 pub read-part-spec : {M : Type 1} → statement M

@@ -1,16 +1,17 @@
 -- `reading::whole::read_terms` meets its contract: the terms, and the lines after them.
 -- Assumes nothing.
 use borrow.Author.Needs.{needs}
-use mathlib.Core.Path.{_≡_, refl, ap, _∙_}
-use mathlib.Core.List.{List, [], _++_}
+use mathlib.Core.Path.{refl, ap, _∙_}
+use mathlib.Core.List.{[]}
 use Prim.Native.Nat.{_+_}
 use native.Mathlib.Omega.{arith}
-use Rattle.table.specs.Encoded.{filled}
+use lib.ListN.{length}
+use Rattle.table.proofs.Fillings.{length-filled}
 use Rattle.grammar.specs.Reading.{takeTerm}
-use Rattle.textlines.proofs.Walks.{rest-lent, rest-length}
+use Rattle.textlines.proofs.Walks.{rest-lent}
 use Rattle.textlines.proofs.Sequences.{later-to, later-bad}
 use Rattle.frames.specs.Heads.{headingOf}
-use Rattle.reading.proofs.Wholes.{ends-bad, ends-on, held-length}
+use Rattle.reading.proofs.Wholes.{ends-bad, ends-on, front-held}
 use Rattle.reading.proofs.whole.read_terms.Statement.{statement}
 use Rattle.reading.proofs.whole.read_terms.Tie as tie
 
@@ -24,11 +25,11 @@ enum-told : tie.Need-enum-told
 enum-told c = c .match .keys2
 
 add-bad : tie.Need-add-bad
-add-bad c = omega (arith, c .before .before .before .before .before .before .before .before .before .pre .1 .held .few)
+add-bad c = omega (arith, c .before .before .before .before .before .before .before .before .before .pre .0 .held .few)
 
 bad-requires : tie.Need-bad-requires
 bad-requires c κs = λ f line e.
-    let h = c .before .before .before .before .before .before .before .before .before .pre .1 in
+    let h = c .before .before .before .before .before .before .before .before .before .pre .0 in
     let k = rw e at (c .before .before .before .before .before .read-part .ensures .walks) in
     omega (arith, k .within, h .held .few, h .counted)
 
@@ -60,11 +61,7 @@ part-read-foot-end c = omega arith
 read-foot-requires : tie.Need-read-foot-requires
 read-foot-requires c κs =
     let start = c .before .before .before .before .before .before .before .before .before .before .before .before in
-    let part = c .before .before .before .before .before .before .before .before .read-part .ensures in
-    let to = c .before .before .before .before .progress .given in
-    let k = rw (to .1) at (part .walks) in
-    let l = rest-length (start .args .text .now) (to .0 .1 .0) in
-    (omega (arith, start .pre .0), start .pre .1, held-length (k .terms) (part .kept ∙ ap (λ x. x ++ filled 32 0 []) (k .termed .stored)))
+    (start .pre .0, c .before .before .before .before .before .before .before .store .given ∙ ap length (start .pre .1) ∙ length-filled 0 3104 [])
 
 same-length-2 : tie.Need-same-length-2
 same-length-2 c = search needs
@@ -77,8 +74,8 @@ returns-2 c =
     let part = c .before .before .before .before .before .before .before .before .before .before .before .read-part .ensures in
     let to = c .before .before .before .before .before .before .before .progress .given in
     let k = rw (to .1) at (part .walks) in
-    let stored = part .kept ∙ ap (λ x. x ++ filled 32 0 []) (k .termed .stored) in
-    let h = c .before .before .read-foot .ensures (k .terms) (record { counted = k .counted; kept = k .termed .kept; stored = stored }) in
+    let held = front-held (k .terms) (part .rest) (part .kept) (k .termed .stored) in
+    let h = c .before .before .read-foot .ensures (k .terms) (record { counted = k .counted; kept = k .termed .kept; stored = held }) in
     ends-on _ (later-to (4 + head .named) (takeTerm (headingOf head .words) (head .equations)) (head .terms) [] text (k .says))
     (rw (rest-lent text (to .0 .1 .0)) at h)
 

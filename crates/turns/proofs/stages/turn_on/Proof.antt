@@ -1,9 +1,8 @@
 -- `turns::stages::turn_on` meets its contract: round after round.
 -- Assumes nothing.
-use mathlib.Core.Path.{_≡_, sym, _∙_}
+use mathlib.Core.Path.{sym, _∙_}
 use Prim.Native.Nat.{_-_}
 use native.Mathlib.Omega.{arith}
-use borrow.Author.Needs.{needs}
 use Rattle.turns.proofs.Rounding.{Turned, turned-start, turned-step, turned-large, turned-stable, turned-end}
 use Rattle.turns.proofs.stages.turn_on.Statement.{statement}
 use Rattle.turns.proofs.stages.turn_on.Tie as tie
@@ -22,11 +21,7 @@ slice-aggregate-one-round : tie.Need-slice-aggregate-one-round Inv-loop μ-loop
 slice-aggregate-one-round c = sym (c .before .before .loop .inv .sizeOlder)
 
 one-round-requires : tie.Need-one-round-requires Inv-loop μ-loop
-one-round-requires c κs =
-    let inv = c .before .before .before .before .before .before .loop .inv in (
-      record { slotted = inv .slotted; few = inv .few; size = inv .sizeThis; first = inv .first; room = omega (arith, inv .room, inv .long) },
-      inv .equations,
-    )
+one-round-requires c κs = tt
 
 add-k : tie.Need-add-k Inv-loop μ-loop
 add-k c = omega arith
@@ -44,7 +39,7 @@ returns : tie.Need-returns Inv-loop μ-loop
 returns c =
     let round = c .before .before .before .before .one-round in
     let inv = c .before .before .before .before .before .before .before .before .before .before .before .loop .inv in
-    turned-large inv (rw (c .enum-told .given .1) at (round .ensures)) (round .kept .1 .1 .1 .1 .1 .1 .0)
+    turned-large inv ((rw (c .enum-told .given .1) at (round .ensures)) .laid (inv .equations)) (round .kept .1 .1 .1 .1 .1 .1 .0)
 
 enum-told-2 : tie.Need-enum-told-2 Inv-loop μ-loop
 enum-told-2 c = c .match .keys2
@@ -60,7 +55,7 @@ returns-2 c =
     let round = c .before .before .before .before .one-round in
     let inv = c .before .before .before .before .before .before .before .before .before .before .before .loop .inv in
     let rest = rw (c .enum-told2 .given .1) at (round .ensures) in
-    turned-stable inv (rest .passed) (rest .same) (round .kept .1 .1 .1 .1 .1 .1 .0)
+    turned-stable inv (rest .laid) (rest .same) (round .kept .1 .1 .1 .1 .1 .1 .0)
 
 enum-told-3 : tie.Need-enum-told-3 Inv-loop μ-loop
 enum-told-3 c = c .match .keys3
@@ -73,7 +68,7 @@ loop-again c =
     let round = c .before .before .before .before .before .before .one-round in
     let inv = c .before .before .before .before .before .before .before .before .before .before .before .before .before .loop .inv in
     let went = rw (c .before .before .enum-told3 .given .1) at (round .ensures) in
-    turned-step inv {now = went .worked} (went .passed) (went .changed)
+    turned-step inv {now = went .worked} (went .laid) (went .changed)
     (round .kept .1 .1 .1 .1 .1 .1 .0) (went .long) (round .kept .1 .1 .1 .1 .1 .1 .1 .0) (went .words)
 
 same-length-3 : tie.Need-same-length-3 Inv-loop μ-loop

@@ -1,9 +1,10 @@
--- A round, term by term.
+-- A round of a legal description, term by term.
 -- Assumes nothing.
 use mathlib.Core.Path.{_≡_, refl, sym, ap, subst, _∙_}
-use mathlib.Core.Bool.{true, false}
+use mathlib.Core.Logic.{inl, inr}
+use mathlib.Core.Bool.{Bool, true, false}
 use mathlib.Core.List.{List}
-use Prim.Native.Nat.{ℕ, _+_, _-_, _≤_, _<_, zero-le}
+use Prim.Native.Nat.{ℕ, zero, suc, _+_, _-_, _≤_, _<_, zero-le}
 use native.Mathlib.Numerals.{add-one}
 use native.Mathlib.Omega.{arith}
 use lib.ListN.{length, getD, set, length-set}
@@ -15,24 +16,24 @@ use Rattle.sets.specs.declared.Built.{Built}
 use Rattle.sets.specs.declared.Built.the-variants.{TooLarge, Holds}
 use Rattle.places.specs.Starts.{half, whole, startIn}
 use Rattle.terms.specs.Working.{Ready, Kept, Worked}
-use Rattle.turns.specs.Passes.{Added, NoRoom, NotAdded, RoundOver, Between, Read, Passable, Passed}
+use Rattle.passes.specs.Passes.{Added, NoRoom, NotAdded, Laying, RoundLaid}
+use Rattle.passes.specs.RoundEnds.{RoundOver, Between, Read, Passable, Passed}
 use Rattle.terms.specs.Terms.{TermBuilt}
 use Rattle.places.proofs.Beginnings.{start-other}
 use Rattle.terms.proofs.Passing.{kept-self, kept-trans, next-fits, term-kept, ready-next}
-use Rattle.turns.proofs.Turning.{ready-start, round-done, round-over}
+use Rattle.passes.proofs.Turning.{ready-start, round-done, round-over}
 use Rattle.terms.proofs.Dispatch.{starts-here}
 use Rattle.terms.proofs.Worked.{term-worked}
 
 -- The set of a term of the table, worked out.
-abbrev pub SlotBuilt : (slots bodies : List ℕ) (n : ℕ) (store older before this work work′ : List ℕ) → Built → Type 0
+abbrev SlotBuilt : (slots bodies : List ℕ) (n : ℕ) (store older before this work work′ : List ℕ) → Built → Type 0
 SlotBuilt slots bodies n store older before this work work′ r =
     TermBuilt (wordTerm (getD slots n 0)) store bodies n older before this work work′ r
 
 -- How far the round has come: n terms worked out.
-pub record Progress (slots bodies : List ℕ) (terms : ℕ) (store older before work₀ work this : List ℕ) (n : ℕ) : Type 0 where
+record Progress (slots bodies : List ℕ) (terms : ℕ) (store older before work₀ work this : List ℕ) (n : ℕ) : Type 0 where
   pub within : n ≤ terms
   pub few : terms ≤ 96
-  pub slotted : length slots ≡ 96
   pub size : length this ≡ 97
   pub room : whole ≤ length work₀
   pub long : length work ≡ length work₀
@@ -44,12 +45,11 @@ pub record Progress (slots bodies : List ℕ) (terms : ℕ) (store older before 
       → Ready d k n older before this work × Kept work₀ work
 
 module _ {slots bodies : List ℕ} {terms : ℕ} {store older before work₀ : List ℕ} where
-  pub progress-start : {this : List ℕ} → Passable slots terms this work₀ → Progress slots bodies terms store older before work₀ work₀ this 0
+  progress-start : {this : List ℕ} → Passable terms this work₀ → Progress slots bodies terms store older before work₀ work₀ this 0
   progress-start {this} h =
       record {
         within = zero-le;
         few = h .few;
-        slotted = h .slotted;
         size = h .size;
         room = h .room;
         long = refl;
@@ -58,7 +58,7 @@ module _ {slots bodies : List ℕ} {terms : ℕ} {store older before work₀ : L
       }
 
   module _ {work this : List ℕ} {n : ℕ} (p : Progress slots bodies terms store older before work₀ work this n) where
-    pub progress-end : terms ≤ n → Passed slots bodies terms store older before work₀ this work true
+    progress-end : terms ≤ n → Passed slots bodies terms store older before work₀ this work true
     progress-end h =
         record {
           first = p .first;
@@ -96,7 +96,7 @@ module _ {slots bodies : List ℕ} {terms : ℕ} {store older before work₀ : L
         let here = starts-here d k n older before this work (p .right d o k e f b .0) in
         omega (arith, t .size, next-fits d k n (t .fewer), here)
 
-    pub progress-over : {this′ work′ : List ℕ} {r : Built}
+    progress-over : {this′ work′ : List ℕ} {r : Built}
         → n < terms
         → SlotBuilt slots bodies n store older before this work work′ r
         → NotAdded this n r this′
@@ -119,7 +119,7 @@ module _ {slots bodies : List ℕ} {terms : ℕ} {store older before work₀ : L
             round-over d k n work₀ work work′ (omega (arith, e .2)) (p .right d o k e f b .1) (done work′ TooLarge w more d o k e f b)
         by d o k e f b (Holds count) w h = absurd (let c = counted work′ count more w d o k e f b in omega arith)
 
-    pub progress-step : {this′ work′ : List ℕ} {r : Built}
+    progress-step : {this′ work′ : List ℕ} {r : Built}
         → n < terms
         → SlotBuilt slots bodies n store older before this work work′ r
         → Added this n r this′
@@ -133,7 +133,6 @@ module _ {slots bodies : List ℕ} {terms : ℕ} {store older before work₀ : L
         rw (a .starts) (record {
           within = omega arith;
           few = p .few;
-          slotted = p .slotted;
           size = length-set this (n + 1) start ∙ p .size;
           room = p .room;
           long = l ∙ p .long;
@@ -146,3 +145,23 @@ module _ {slots bodies : List ℕ} {terms : ℕ} {store older before work₀ : L
                 kept-trans work₀ work work′ (x .1) (term-kept d k n older before this work work′ (a .count) (x .0) t fits),
               );
         })
+
+  -- The terms that are left, laid from the n-th on.
+  rest-passed : (many n : ℕ) (this work : List ℕ) {this′ work′ : List ℕ} {fits : Bool}
+      → many + n ≡ terms
+      → Progress slots bodies terms store older before work₀ work this n
+      → Laying slots bodies store older before many n this work this′ work′ fits
+      → Passed slots bodies terms store older before work₀ this′ work′ fits
+  unfolding Laying
+  rest-passed zero n this work e p l = rw (l .0, l .1, l .2) (progress-end p (omega (arith, e)))
+  rest-passed (suc many) n this work e p (inl s) = rw (s .over) (progress-over p (omega (arith, e)) (s .full .made) (s .full .entered))
+  rest-passed (suc many) n this work e p (inr g) =
+      let next = progress-step p (omega (arith, e)) (g .first .made) (g .first .entered) (g .first .long) in
+      rest-passed many (n + 1) (g .starts) (g .words) (omega (arith, e)) next (g .others)
+
+  pub laid→passed : {this this′ work′ : List ℕ} {fits : Bool}
+      → Passable terms this work₀
+      → RoundLaid slots bodies terms store older before this work₀ this′ work′ fits
+      → Passed slots bodies terms store older before work₀ this′ work′ fits
+  laid→passed {this} h l =
+      rest-passed terms 0 this work₀ (omega arith) (progress-start h) (l .all (omega (arith, h .few, h .size)))

@@ -1,12 +1,14 @@
-// One round: the terms' sets, one after the other.
+// One round: the terms' sets, one after the other, and where each of them ends.
+pub mod closing;
+
+use areas::word_at;
 use places::starts::left_of;
 use places::starts::start_of;
 use sets::Built;
-use slots::packing::unpack;
 use terms::next_term;
 ghost use Prim.Native.Nat.{_+_, _<_};
 ghost use lib.ListN.{length};
-ghost use Rattle.turns.specs.Passes.{Entered, Passable, Passed};
+ghost use Rattle.passes.specs.Passes.{Entered, RoundLaid};
 
 // Where the set of a term ends is entered, if there is room for it.
 fn enter(this: &mut [usize], n: usize, built: Built) -> bool
@@ -24,7 +26,7 @@ fn enter(this: &mut [usize], n: usize, built: Built) -> bool
 }
 
 // A round after the one whose sets begin at `before`. Where its own sets begin is written into `this`, over what an earlier
-// round left there; whether they pass no limit is returned.
+// round left there; whether they pass no limit is returned. Nothing changes where `this` is too short for so many terms.
 pub fn pass(
     slots: &[u64],
     bodies: &[usize],
@@ -35,15 +37,17 @@ pub fn pass(
     this: &mut [usize],
     work: &mut [u64],
 ) -> bool
-    requires { ⌜ Passable (now slots) terms (now this) (now work) ⌝ }
-    ensures { λ r. ⌜ Passed
+    ensures { λ r. ⌜ RoundLaid
         (now (slots .entry)) (now (bodies .entry)) terms (now (store .entry)) (now (older .entry)) (now (before .entry))
-        (now (work .entry)) (now (this .exit)) (now (work .exit)) r ⌝ }
+        (now (this .entry)) (now (work .entry)) (now (this .exit)) (now (work .exit)) r ⌝ }
 {
+    if this.len() <= terms {
+        return false;
+    }
     let mut n = 0;
     while n < terms {
-        let term = unpack(slots[n]);
-        let built = next_term(term, store, bodies, n, older, before, this, work);
+        let slot = word_at(slots, n);
+        let built = next_term(slot, store, bodies, n, older, before, this, work);
         if !enter(this, n, built) {
             return false;
         }

@@ -1,10 +1,10 @@
--- `turns::passes::enter` meets its contract.
+-- `passes::enter` meets its contract.
 -- Assumes nothing.
 use mathlib.Core.Path.{refl}
 use native.Mathlib.Omega.{arith}
 use borrow.Author.Needs.{needs}
-use Rattle.turns.proofs.passes.enter.Statement.{statement}
-use Rattle.turns.proofs.passes.enter.Tie as tie
+use Rattle.passes.proofs.enter.Statement.{statement}
+use Rattle.passes.proofs.enter.Tie as tie
 
 enum-known-built : tie.Need-enum-known-built
 enum-known-built c = search needs

@@ -1,41 +1,21 @@
--- What a round comes to, for the table of a legal description. Only private functions cite this: no public contract rests on it.
+-- What a round comes to, for the table of a legal description. No public contract rests on it: that the promise of `pass` comes to
+-- this is `laid→passed` in `proofs/Progress.antt`.
 -- Assumes nothing.
 use mathlib.Core.Path.{_≡_}
 use mathlib.Core.Bool.{Bool, true, false}
 use mathlib.Core.List.{List}
-use Prim.Native.Nat.{ℕ, suc, pred, _+_, _-_, _≤_, _<_}
+use Prim.Native.Nat.{ℕ, suc, pred, _≤_, _<_}
 use lib.Dec.{T}
-use lib.ListN.{length, set}
+use lib.ListN.{length}
 use Rattle.meaning.specs.Descriptions as D
 use Rattle.meaning.specs.Descriptions.{Description, termCount, all}
 use Rattle.meaning.specs.Legal.{Legal}
 use Rattle.meaning.specs.Rounds.{equationSets, roundSets}
 use Rattle.meaning.specs.Limits.{over}
 use Rattle.table.specs.Encoded.{storeOf, tableOf}
-use Rattle.sets.specs.declared.Built.{Built}
-use Rattle.sets.specs.declared.Built.the-variants.{TooLarge, Holds}
 use Rattle.places.specs.Starts.{half, whole, startIn}
 use Rattle.terms.specs.Laid.{Begins, Laid}
 use Rattle.terms.specs.Working.{Kept}
-
--- Where the set of a term ends, with room for it; or that there is none.
-pub record Added (this : List ℕ) (n : ℕ) (built : Built) (this′ : List ℕ) : Type 0 where
-  pub count : ℕ
-  pub holds : built ≡ Holds count
-  pub fits : count ≤ half - startIn this n
-  pub starts : this′ ≡ set this (n + 1) (startIn this n + count)
-
-abbrev pub NoRoom : ℕ → Built → Type 0
-NoRoom left TooLarge = Unit {0}
-NoRoom left (Holds count) = left < count
-
-pub record NotAdded (this : List ℕ) (n : ℕ) (built : Built) (this′ : List ℕ) : Type 0 where
-  pub large : NoRoom (half - startIn this n) built
-  pub starts : this′ ≡ this
-
-abbrev pub Entered : (this : List ℕ) (n : ℕ) (built : Built) (this′ : List ℕ) → Bool → Type 0
-Entered this n built this′ true = Added this n built this′
-Entered this n built this′ false = NotAdded this n built this′
 
 -- A round worked out: its sets in the upper half; or a limit passed.
 pub record RoundDone (d : Description) (k : ℕ) (before this work work′ : List ℕ) : Type 0 where
@@ -66,8 +46,7 @@ abbrev pub Read : D.Description → (slots bodies : List ℕ) → ℕ → Type 0
 Read d slots bodies terms = (slots ≡ tableOf d .slots) × (bodies ≡ tableOf d .bodies) × (terms ≡ D.termCount d)
 
 -- what a round needs of its areas, whatever they hold
-pub record Passable (slots : List ℕ) (terms : ℕ) (this work : List ℕ) : Type 0 where
-  pub slotted : length slots ≡ 96
+pub record Passable (terms : ℕ) (this work : List ℕ) : Type 0 where
   pub few : terms ≤ 96
   pub size : length this ≡ 97
   pub first : startIn this 0 ≡ 0

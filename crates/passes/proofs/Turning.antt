@@ -13,7 +13,7 @@ use Rattle.meaning.proofs.Outcomes.{worked-over}
 use Rattle.terms.specs.Laid.{flat, Laid}
 use Rattle.places.specs.Starts.{half, startIn}
 use Rattle.terms.specs.Working.{partly, Ready, Kept, TermOver}
-use Rattle.turns.specs.Passes.{RoundDone, RoundOver, Between}
+use Rattle.passes.specs.RoundEnds.{RoundDone, RoundOver, Between}
 use Rattle.terms.proofs.Passing.{kept-trans}
 
 pub none-over : T (over []) → ⊥
