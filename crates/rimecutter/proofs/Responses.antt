@@ -28,12 +28,17 @@ use Rattle.reading.specs.declared.Answer as B
 use Rattle.reading.specs.declared.Answer.the-variants.{Fine, Bad, TooLong}
 use Rattle.reading.specs.declared.Read.{Read}
 use Rattle.rounds.specs.declared.Answer as R
+use Rattle.rounds.specs.declared.Answer.the-variants.{TooLarge, Listed}
 use Rattle.rounds.specs.Alphabets as Q
 use Rattle.rounds.specs.Alphabets.{alphabetOf, Answered}
 use Rattle.reading.specs.Stored.{faultFor, readFor, storeFor, withRoom, readWith, Stored}
 use Rattle.rimecutter.specs.Calls.{Call, refusing, tooShort, ofOutcome, ofReading, unlessShort, call, cleared, workWords, answerWords}
 use Rattle.rimecutter.specs.Answers.{verdictFor, Responded}
-use Rattle.rimecutter.specs.Steps.{answerFor}
+
+-- What the call makes of what the rounds answer.
+abbrev pub answerFor : R.Answer → Answer
+answerFor TooLarge = C.TooLarge
+answerFor (Listed rounds labels) = C.Listed rounds labels
 
 abbrev IsFine : B.Answer → Type 0
 IsFine Fine = Unit {0}

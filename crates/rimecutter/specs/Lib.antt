@@ -2,8 +2,6 @@
 pub mod Calls
 -- What the answer of a call says, and what a call leaves
 pub mod Answers
--- What the call makes of what the rounds answer
-pub mod Steps
 -- Which refusal is due, told from the input alone
 pub mod Refusals
 -- What the three demands say of a call

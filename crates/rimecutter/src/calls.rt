@@ -3,7 +3,6 @@ ghost use mathlib.Core.Path.{_≡_};
 ghost use lib.ListN.{length};
 ghost use Rattle.rimecutter.specs.Calls.{call, tooShort};
 ghost use Rattle.rimecutter.specs.Answers.{Responded};
-ghost use Rattle.rimecutter.specs.Steps.{answerFor};
 use crate::Answer;
 use areas::clear;
 use reading::read_description;
@@ -23,16 +22,6 @@ fn too_short(work: usize, answer: usize) -> bool
     ensures { λ r. ⌜ r ≡ tooShort work answer ⌝ }
 {
     work < WORK_WORDS || answer < ANSWER_WORDS
-}
-
-// Apart from `respond`, whose proof would else have a case more and longer ways back to what was read.
-fn from_rounds(found: rounds::Answer) -> Answer
-    ensures { λ r. ⌜ r ≡ answerFor found ⌝ }
-{
-    match found {
-        rounds::Answer::TooLarge => Answer::TooLarge,
-        rounds::Answer::Listed(rounds, labels) => Answer::Listed(rounds, labels),
-    }
 }
 
 // The call, with the names that its answer is printed with. Refusal 1 comes first and touches no area; after it the first 4,096 words
@@ -61,7 +50,11 @@ pub fn respond(description: &[u8], work: &mut [u64], answer: &mut [u64]) -> Resp
         }
         reading::Answer::Fine => {
             let order = read.order;
-            from_rounds(rounds::alphabet(table, &store, order, work, answer))
+            let found = rounds::alphabet(table, &store, order, work, answer);
+            match found {
+                rounds::Answer::TooLarge => Answer::TooLarge,
+                rounds::Answer::Listed(rounds, labels) => Answer::Listed(rounds, labels),
+            }
         }
     };
     Response {
