@@ -13,8 +13,8 @@ use Rattle.ways.specs.declared.Way.the-variants.{Copy}
 use Rattle.sets.specs.Building.{Building, goesOn, andThen}
 use Rattle.products.specs.Multiplying.{row, multiplied}
 use Rattle.ways.specs.Imaging.{imaged}
+use Rattle.merging.specs.Walking.{ascent}
 use Rattle.merging.specs.Joining.{joined, fitting, united}
-use Rattle.parts.specs.Comparing.{ascent}
 use Rattle.sets.proofs.Steps.{Steady, steady-each, steady-enter}
 use Rattle.products.proofs.Products.{steady-row}
 use Rattle.ways.proofs.Images.{steady-imaged}

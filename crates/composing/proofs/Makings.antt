@@ -14,8 +14,8 @@ use Rattle.sets.specs.declared.Built.the-variants.{TooLarge, Holds}
 use Rattle.parts.specs.Parts.{setAt, laid, partBefore, roomAt}
 use Rattle.sets.specs.Building.{Building, done, answerOf, Grown}
 use Rattle.products.specs.Multiplying.{row, multiplied}
+use Rattle.merging.specs.Walking.{ascent}
 use Rattle.merging.specs.Joining.{joined, fitting, united}
-use Rattle.parts.specs.Comparing.{ascent}
 use Rattle.sets.proofs.Steps.{Steady, steady-each, Going, going-last, grown-as, next-holds, next-large, built-holds}
 use Rattle.products.proofs.Products.{steady-row}
 use Rattle.sets.proofs.Walks.{part-stays}

@@ -1,2 +1,3 @@
-// Two parts in one set: their union.
+// Two parts in one set: their union, by one walk over both.
 pub mod joining;
+pub mod walking;

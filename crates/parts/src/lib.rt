@@ -1,6 +1,5 @@
-// Where sets of labels lie in one lent slice of words, and how far a part of it ascends. Places are counted in labels. The parts
-// that a set is built from stand before it: what of such a part stands elsewhere is passed over.
-pub mod comparing;
+// Where sets of labels lie in one lent slice of words. Places are counted in labels. The parts that a set is built from stand before
+// it: what of such a part stands elsewhere is passed over.
 pub mod placing;
 
 // How many labels a set may have.

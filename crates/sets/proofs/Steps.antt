@@ -3,7 +3,7 @@
 -- Assumes nothing.
 use mathlib.Core.Path.{_≡_, refl, sym, ap, ap₂, _∙_, _≡⟨_⟩_, _∎}
 use mathlib.Core.Bool.{Bool, true, false}
-use mathlib.Core.List.{List, [], _∷_, _++_}
+use mathlib.Core.List.{List, [], _∷_}
 use Prim.Native.Nat.{ℕ, suc, _+_, _-_, _≤_, _<_, max}
 use native.Mathlib.Omega.{arith}
 use borrow.Author.Tests.{ltb-true}
@@ -93,17 +93,6 @@ next-holds b more n e = let p = built-holds (b .whole) (length (b .set)) n e in 
 
 pub next-large : (b : Building) (more : List ℕ → Building) → TooLarge ≡ answerOf b → andThen b more ≡ b
 next-large b more e = ap (λ (t : Bool). goesOn t b more) (built-large (b .whole) (length (b .set)) e)
-
--- Each label of one list and then each of another.
-pub each-append : (f : ℕ → List ℕ → Building) (xs ys s : List ℕ) → each f (xs ++ ys) s ≡ andThen (each f xs s) (each f ys)
-unfolding each
-each-append f [] ys s = refl
-each-append f (x ∷ xs) ys s = nested (f x s .whole) (f x s) refl (λ t. each-append f xs ys t)
-  where
-    nested : (t : Bool) (b : Building) → b .whole ≡ t → ((u : List ℕ) → each f (xs ++ ys) u ≡ andThen (each f xs u) (each f ys))
-        → goesOn t b (each f (xs ++ ys)) ≡ andThen (goesOn t b (each f xs)) (each f ys)
-    nested true b e h = h (b .set)
-    nested false b e h = sym (ap (λ (t : Bool). goesOn t b (each f ys)) e)
 
 -- What is laid of a building.
 pub laid-set : (at : ℕ) (ls : List ℕ) {b c : Building} → b ≡ c → laid at (b .set) ls ≡ laid at (c .set) ls
