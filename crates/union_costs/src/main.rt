@@ -93,14 +93,6 @@ fn walked(words: &[u64], part: Part, other: Part, at: usize) -> Cost {
     Cost { drawn, read }
 }
 
-// How many labels a set holds; none if it would pass a limit.
-fn count(answer: Built) -> usize {
-    match answer {
-        Built::TooLarge => 0,
-        Built::Holds(n) => n,
-    }
-}
-
 // A line: what is counted, and how many.
 fn show(text: &[u8], n: usize) {
     io::write_all(STDOUT_FILENO, text);
@@ -109,19 +101,19 @@ fn show(text: &[u8], n: usize) {
 }
 
 fn main() {
-    let mut words = [0u64; WORDS];
+    let mut area = [0u64; WORDS];
     let evens = Part { from: 0, to: SIZE };
     let odds = Part {
         from: SIZE,
         to: BOTH,
     };
-    interleaved(&mut words);
-    show(b"moved=", moved_by_insertions(&mut words, BOTH));
-    let cost = walked(&words, evens, odds, BOTH);
+    interleaved(&mut area);
+    show(b"moved=", moved_by_insertions(&mut area, BOTH));
+    let cost = walked(&area, evens, odds, BOTH);
     show(b"drawn=", cost.drawn);
     show(b"read=", cost.read);
-    show(
-        b"union=",
-        count(union(&mut words, evens, odds, 2 * BOTH, MOST_LABELS)),
-    );
+    let joined = union(&mut area, evens, odds, 2 * BOTH, MOST_LABELS);
+    if let Built::Holds(labels) = joined {
+        show(b"union=", labels);
+    }
 }
