@@ -56,4 +56,5 @@ returns c = search needs
 pub interleaved-spec : {M : Type 1} → statement M
 interleaved-spec =
     tie.close
-    (tie.spec Inv-loop μ-loop loop-holds mul-t8 write-label-requires add-write-label mul-t8-2 add-t13 write-label-requires-2 add-i loop-less loop-again same-length returns)
+    (tie.spec Inv-loop μ-loop loop-holds mul-t8 write-label-requires add-write-label mul-t8-2 add-t13 write-label-requires-2 add-i
+    loop-less loop-again same-length returns)

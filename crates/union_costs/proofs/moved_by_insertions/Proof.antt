@@ -56,4 +56,5 @@ returns c = search needs
 pub moved-by-insertions-spec : {M : Type 1} → statement M
 moved-by-insertions-spec =
     tie.close
-    (tie.spec Inv-loop μ-loop loop-holds read-label-requires place-requires sub-moved add-moved insert-requires add-len loop-less loop-again same-length returns)
+    (tie.spec Inv-loop μ-loop loop-holds read-label-requires place-requires sub-moved add-moved insert-requires add-len loop-less
+    loop-again same-length returns)

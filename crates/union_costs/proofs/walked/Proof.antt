@@ -59,4 +59,5 @@ returns-2 c = search needs
 pub walked-spec : {M : Type 1} → statement M
 walked-spec =
     tie.close
-    (tie.spec Inv-loop μ-loop rest-of-requires rest-of-requires-2 loop-holds draw-requires enum-known-next enum-told returns has-read-requires has-read-requires-2 add-read add-read-2 add-drawn loop-less loop-again returns-2)
+    (tie.spec Inv-loop μ-loop rest-of-requires rest-of-requires-2 loop-holds draw-requires enum-known-next enum-told returns
+    has-read-requires has-read-requires-2 add-read add-read-2 add-drawn loop-less loop-again returns-2)
