@@ -25,7 +25,7 @@ use Rattle.meaning.proofs.Carried.{against-last}
 use Rattle.meaning.proofs.Growth.{round-ascends}
 use Rattle.meaning.proofs.Lengths.{round-full}
 use Rattle.meaning.proofs.Stability.{Stable, union-is-stable, unstable-total}
-use Rattle.meaning.proofs.Operators.{allowed→, →allowed}
+use Rattle.meaning.proofs.Filters.{allowed→, →allowed}
 use Rattle.meaning.proofs.Limits.{long→someLong, over-one, over-some, over-all, round-passes, stable-passes}
 
 -- The parts of equal verdicts.

@@ -1,15 +1,13 @@
--- The laws of bags: sum, size, sub-bag, difference, hiding. None asks anything of the labels' lengths.
+-- The laws of bags: sum, size, sub-bag, difference, actions of one name. None asks anything of the labels' lengths.
 -- Assumes nothing.
 use mathlib.Core.Path.{_≡_, refl, sym, ap, ap₂, _∙_}
-use mathlib.Core.Logic.{inl, inr}
-use mathlib.Core.List.{List, [], _∷_}
+use mathlib.Core.List.{[], _∷_}
 use Prim.Native.Nat.{ℕ, zero, suc, _+_, _*_, _-_, _≤_, zero-le}
-use native.Mathlib.Nat.{add-comm, add-assoc, le-refl, zero-sub, sub-zero, add-zero, zero-add, mul-add}
+use native.Mathlib.Nat.{add-comm, add-assoc, zero-sub, sub-zero, add-zero, zero-add, mul-add}
 use native.Mathlib.Omega.{arith}
 use lib.Dec.{T, leb, eqb, leb→le, le→leb, eqb→eq, eqb-refl}
-use lib.ListN.{length, set, length-set, length-replicate}
-use Rattle.meaning.specs.Labels.{Label, count, size, number, empty, several, plus, inside, minus, clear, without, renamedFrom}
-use Rattle.meaning.specs.Sets.{_∈_}
+use lib.ListN.{length, length-set, length-replicate}
+use Rattle.meaning.specs.Labels.{Label, count, size, number, empty, several, plus, inside, minus}
 use Rattle.meaning.proofs.Tests.{and-left, and-right, and-both}
 
 abbrev cons : {x y : ℕ} {a b : Label} → x ≡ y → a ≡ b → (x ∷ a) ≡ (y ∷ b)
@@ -140,7 +138,7 @@ pub number-minus : (a b : Label) → T (inside b a) → number (minus a b) + num
 unfolding number
 number-minus = weight-minus number (λ n. 32 * n) refl (λ x a. refl) refl (mul-add 32)
 
--- One action, hiding, renaming.
+-- Actions of one name.
 pub length-several : (names n times : ℕ) → length (several names n times) ≡ names
 length-several names n times = length-set (empty names) n times ∙ length-replicate names 0
 
@@ -154,46 +152,3 @@ unfolding size
 size-several zero n times = zero-le
 size-several (suc names) zero times = let e = size-empty names in omega arith
 size-several (suc names) (suc n) times = let ih = size-several names n times in omega arith
-
-pub length-without : (ns : List ℕ) (a : Label) → length (without ns a) ≡ length a
-unfolding without
-length-without [] a = refl
-length-without (n ∷ ns) a = length-set (without ns a) n 0 ∙ length-without ns a
-
-pub length-renamed : (names : ℕ) (map : ℕ → ℕ) (a : Label) (first : ℕ) → length (renamedFrom first names map a) ≡ names
-unfolding renamedFrom
-length-renamed names map [] first = length-replicate names 0
-length-renamed names map (x ∷ a) first =
-    length-plus names (several names (map first) x) (renamedFrom (suc first) names map a) (length-several names (map first) x)
-    (length-renamed names map a (suc first))
-
--- hiding and renaming add no action
-size-set : (a : Label) (n : ℕ) → size (set a n 0) ≤ size a
-unfolding size
-size-set [] n = le-refl 0
-size-set (x ∷ a) zero = omega arith
-size-set (x ∷ a) (suc n) = let ih = size-set a n in omega arith
-
-pub size-without : (ns : List ℕ) (a : Label) → size (without ns a) ≤ size a
-unfolding without
-size-without [] a = le-refl (size a)
-size-without (n ∷ ns) a = let ih = size-without ns a in let k = size-set (without ns a) n in omega arith
-
-pub size-renamed : (names : ℕ) (map : ℕ → ℕ) (a : Label) (first : ℕ) → size (renamedFrom first names map a) ≤ size a
-unfolding renamedFrom size
-size-renamed names map [] first = omega (arith, size-empty names)
-size-renamed names map (x ∷ a) first =
-    let ih = size-renamed names map a (suc first) in
-    omega (arith, size-plus (several names (map first) x) (renamedFrom (suc first) names map a), size-several names (map first) x)
-
--- The test for blocked names.
-pub clear→zero : (ns : List ℕ) (a : Label) → T (clear ns a) → (n : ℕ) → n ∈ ns → count a n ≡ 0
-unfolding clear
-clear→zero (m ∷ ns) a t n (inl e) = rw e (eqb→eq (count a m) 0 (and-left (eqb (count a m) 0) (clear ns a) t))
-clear→zero (m ∷ ns) a t n (inr k) = clear→zero ns a (and-right (eqb (count a m) 0) (clear ns a) t) n k
-
-pub zero→clear : (ns : List ℕ) (a : Label) → ((n : ℕ) → n ∈ ns → count a n ≡ 0) → T (clear ns a)
-unfolding clear
-zero→clear [] a h = tt
-zero→clear (m ∷ ns) a h =
-    and-both (eqb (count a m) 0) (clear ns a) (rw (h m (inl refl)) (eqb-refl 0)) (zero→clear ns a (λ n k. h n (inr k)))

@@ -1,7 +1,7 @@
 -- The sets of terms are the least ones that meet the rules: a legal description's sets meet them, and they lie inside any that do.
 -- Assumes nothing.
-use mathlib.Core.Path.{_≡_, sym, subst, _∙_}
-use mathlib.Core.Logic.{_⊎_, inl, inr}
+use mathlib.Core.Path.{_≡_, sym, ap, subst, _∙_}
+use mathlib.Core.Logic.{_⊎_, inl, inr, _↔_}
 use mathlib.Core.List.{List, [], _∷_}
 use Prim.Native.Nat.{ℕ, zero, suc, _+_, _≤_, _<_}
 use native.Mathlib.Nat.{not-suc-le-zero, add-zero, add-suc, zero-add, suc-add}
@@ -9,13 +9,14 @@ use native.Mathlib.Omega.{arith}
 use native.Mathlib.Decide.{decLt}
 use lib.ListN.{getD, List·getD-eq-default}
 use Rattle.meaning.specs.Labels.{Label}
-use Rattle.meaning.specs.Sets.{_∈_, at}
+use Rattle.meaning.specs.Sets.{_∈_, at, ascending}
 use Rattle.meaning.specs.Descriptions.{Term, act, tau, delta, ref, sum, cond, choice, ifelse, seq, merge, lmerge}
 use Rattle.meaning.specs.Descriptions.{sync, wrap, Order, Description, termCount, termAt, bodyAt}
 use Rattle.meaning.specs.Legal.{LegalTerm, LegalTerms, Legal}
 use Rattle.meaning.specs.Rounds.{Shape, leaf, reference, one, either, both, joint, through, shape, made, worked, bodySets, next, roundSets, InSet}
+use Rattle.meaning.specs.Regrouping.{Below}
 use Rattle.meaning.proofs.Members.{Sum, in-ascending}
-use Rattle.meaning.proofs.Shapes.{Family, Made, In, alike, in-made, in-made→, sum-grows, made-grows}
+use Rattle.meaning.proofs.Shapes.{Family, Made, In, alike, in-made, in-made→, made-grows, made-same, same-below}
 use Rattle.meaning.proofs.Carried.{worked-earlier, worked-last, worked-past, against-last}
 use Rattle.meaning.proofs.Growth.{rounds-grow, round-length, at-body}
 
@@ -28,16 +29,7 @@ terms-legal d n (x ∷ ts) h (suc t) = subst (λ (i : ℕ). LegalTerm d i (getD 
 pub term-legal : (d : Description) (o : Order) → Legal d o → (t : ℕ) → LegalTerm d t (termAt d t)
 term-legal d o l t = subst (λ (i : ℕ). LegalTerm d i (termAt d t)) (zero-add t) (terms-legal d 0 (d .terms) (l .terms) t)
 
--- The operands of a shape have smaller numbers.
-abbrev Below : ℕ → Shape → Type 0
-Below n (leaf s) = Unit {0}
-Below n (reference e) = Unit {0}
-Below n (one t) = t < n
-Below n (either t u) = (t < n) × (u < n)
-Below n (both t u) = (t < n) × (u < n)
-Below n (joint t u) = (t < n) × (u < n)
-Below n (through f t) = t < n
-
+-- Operands have smaller numbers.
 legal-below : (d : Description) (n : ℕ) (t : Term) → LegalTerm d n t → Below n (shape d t)
 legal-below d n (act a) h = tt
 legal-below d n tau h = tt
@@ -53,43 +45,37 @@ legal-below d n (lmerge t u) h = h
 legal-below d n (sync t u) h = h .0
 legal-below d n (wrap o t) h = h .0
 
--- a family cut to the numbers below n
-abbrev Before : ℕ → Family → Family
-Before n Q t a = (t < n) × Q t a
+pub legal-operands : (d : Description) (o : Order) → Legal d o → (n : ℕ) → Below n (shape d (termAt d n))
+legal-operands d o l n = legal-below d n (termAt d n) (term-legal d o l n)
 
-made-before : (P Q : Family) (n : ℕ) (s : Shape) → Below n s → (a : Label) → Made P Q s a → Made P (Before n Q) s a
-made-before P Q n (leaf s) b a m = m
-made-before P Q n (reference e) b a m = m
-made-before P Q n (one t) b a m = (b, m)
-made-before P Q n (either t u) b a m = elim m [ inl k ↦ inl (b .0, k) | inr k ↦ inr (b .1, k) ]
-made-before P Q n (both t u) b a m =
-    elim m [ inl k ↦ inl (elim k [ inl l ↦ inl (b .0, l) | inr l ↦ inr (b .1, l) ]) | inr k ↦ inr (sum-grows (λ c l. (b .0, l)) (λ c l. (b .1, l)) k) ]
-made-before P Q n (joint t u) b a m = sum-grows (λ c l. (b .0, l)) (λ c l. (b .1, l)) m
-made-before P Q n (through f t) b a m = record { source = m .source; there = (b, m .there); gives = m .gives }
-
--- The pass over the terms meets the rules, with operands of smaller numbers.
-pub worked-meets : (d : Description) (eqs : List (List Label)) (n i : ℕ) → i < n → (a : Label)
-    → Made (In eqs) (Before i (In (worked d eqs n))) (shape d (termAt d i)) a → a ∈ at (worked d eqs n) i
-worked-meets d eqs zero i h a m = absurd (not-suc-le-zero h)
-worked-meets d eqs (suc n) i h a m = meet (against-last i n) (λ l k. worked-meets d eqs n i l a k)
+-- So the pass over the terms makes the set of each of the sets that it ends with.
+pub worked-is : (d : Description) → ((n : ℕ) → Below n (shape d (termAt d n))) → (eqs : List (List Label)) (n i : ℕ) → i < n
+    → at (worked d eqs n) i ≡ ascending (made eqs (worked d eqs n) (shape d (termAt d i)))
+worked-is d first eqs zero i h = absurd (not-suc-le-zero h)
+worked-is d first eqs (suc n) i h = meet (against-last i n) (worked-is d first eqs n i)
   where
-    earlier : i ≤ n → Made (In eqs) (Before i (In (worked d eqs n))) (shape d (termAt d i)) a
+    earlier : i ≤ n → made eqs (worked d eqs n) (shape d (termAt d i)) ≡ made eqs (worked d eqs (suc n)) (shape d (termAt d i))
     earlier l =
-        made-grows (In eqs) (Before i (In (worked d eqs (suc n)))) (In eqs) (Before i (In (worked d eqs n))) (λ e b k. k)
-        (λ t b k. (k .0, subst (λ (s : List Label). b ∈ s) (worked-earlier d eqs n t (omega (arith, k .0))) (k .1)))
-        (alike (shape d (termAt d i))) a m
+        made-same eqs eqs (worked d eqs n) (worked d eqs (suc n)) (shape d (termAt d i))
+        (same-below eqs (worked d eqs n) (worked d eqs (suc n)) i (λ t b. sym (worked-earlier d eqs n t (omega arith))) (shape d (termAt d i)) (first i))
 
-    meet : (i < n) ⊎ ((i ≡ n) ⊎ (suc n ≤ i)) → (i < n → Made (In eqs) (Before i (In (worked d eqs n))) (shape d (termAt d i)) a → a ∈ at (worked d eqs n) i)
-        → a ∈ at (worked d eqs (suc n)) i
-    meet (inl l) ih = rw (worked-earlier d eqs n i l) (ih l (earlier (omega arith)))
+    meet : (i < n) ⊎ ((i ≡ n) ⊎ (suc n ≤ i)) → (i < n → at (worked d eqs n) i ≡ ascending (made eqs (worked d eqs n) (shape d (termAt d i))))
+        → at (worked d eqs (suc n)) i ≡ ascending (made eqs (worked d eqs (suc n)) (shape d (termAt d i)))
+    meet (inl l) ih = worked-earlier d eqs n i l ∙ ih l ∙ ap ascending (earlier (omega arith))
     meet (inr (inl e)) ih =
-        rw (e, worked-last d eqs n)
-        (in-ascending (made eqs (worked d eqs n) (shape d (termAt d n))) a .1
-        (in-made eqs (worked d eqs n) (shape d (termAt d n)) a
-        (made-grows (In eqs) (Before i (In (worked d eqs n))) (In eqs) (In (worked d eqs n)) (λ x b k. k) (λ t b k. k .1)
-        (alike (shape d (termAt d n))) a
-        (subst (λ (j : ℕ). Made (In eqs) (Before i (In (worked d eqs n))) (shape d (termAt d j)) a) e (earlier (omega arith))))))
+        subst (λ (j : ℕ). at (worked d eqs (suc n)) j ≡ ascending (made eqs (worked d eqs n) (shape d (termAt d j)))) (sym e) (worked-last d eqs n)
+        ∙ ap ascending (earlier (omega arith))
     meet (inr (inr l)) ih = absurd (omega arith)
+
+pub round-is : (d : Description) → ((n : ℕ) → Below n (shape d (termAt d n))) → (eqs : List (List Label)) (i : ℕ)
+    → at (worked d eqs (termCount d)) i ≡ ascending (made eqs (worked d eqs (termCount d)) (shape d (termAt d i)))
+unfolding ascending
+round-is d first eqs i =
+    elim (decLt i (termCount d)) [
+      | yes l ↦ worked-is d first eqs (termCount d) i l
+      | no h ↦ worked-past d eqs (termCount d) i (omega arith)
+          ∙ sym (ap (λ (t : Term). ascending (made eqs (worked d eqs (termCount d)) (shape d t))) (List·getD-eq-default (d .terms) delta (omega arith)))
+    ]
 
 -- The rules, said of the sets of all terms together: what a term makes of its operands' sets and of the equations' is in its set.
 abbrev pub Meets : Description → Family → Type 0
@@ -133,27 +119,21 @@ somewhere d (through f t) a m =
       there = record { source = m .source; there = later d (m .there .round) (m .there) (omega arith); gives = m .gives };
     }
 
-in-range : (P Q : Family) (d : Description) (t : ℕ) (a : Label) → Made P Q (shape d (termAt d t)) a → t < termCount d
-in-range P Q d t a m =
-    elim (decLt t (termCount d)) [
-      | yes l ↦ l
-      | no n ↦ absurd (subst (λ (x : Term). Made P Q (shape d x) a) (List·getD-eq-default (d .terms) delta (omega arith)) m)
-    ]
-
 pub sets-meet : (d : Description) (o : Order) → Legal d o → Meets d (InSet d)
 unfolding roundSets next
 sets-meet d o l t a m =
     let x = somewhere d (shape d (termAt d t)) a m in
     let k = x .round in
     let eqs = bodySets d (roundSets d k) in
-    let inRange = in-range (λ e. InSet d (bodyAt d e)) (InSet d) d t a m in
+    let sets = roundSets d (suc k) in
     record {
       round = suc k;
-      there = worked-meets d eqs (termCount d) t inRange a
-          (made-before (In eqs) (In (roundSets d (suc k))) t (shape d (termAt d t)) (legal-below d t (termAt d t) (term-legal d o l t)) a
-          (made-grows (λ e b. b ∈ at (roundSets d k) (bodyAt d e)) (In (roundSets d (suc k))) (In eqs) (In (roundSets d (suc k)))
+      there = rw (round-is d (legal-operands d o l) eqs t)
+          (in-ascending (made eqs sets (shape d (termAt d t))) a .1
+          (in-made eqs sets (shape d (termAt d t)) a
+          (made-grows (λ e b. b ∈ at (roundSets d k) (bodyAt d e)) (In sets) (In eqs) (In sets)
           (λ e b. subst (λ (s : List Label). b ∈ s) (sym (at-body d (roundSets d k) (round-length d k) e))) (λ i b n. n)
-          (alike (shape d (termAt d t))) a (x .there)));
+          (alike (shape d (termAt d t))) a (x .there))));
     }
 
 -- And they lie inside every family that meets the rules.
@@ -184,3 +164,11 @@ rounds-least d P meets (suc k) t a m =
 
 pub sets-least : (d : Description) (P : Family) → Meets d P → (t : ℕ) (a : Label) → InSet d t a → P t a
 sets-least d P meets t a x = rounds-least d P meets (x .round) t a (x .there)
+
+-- Lines whose sets are the same in every round have the same least set.
+pub same-least : (d d′ : Description) (t t′ : ℕ) → ((k : ℕ) → at (roundSets d k) t ≡ at (roundSets d′ k) t′) → (a : Label)
+    → InSet d t a ↔ InSet d′ t′ a
+same-least d d′ t t′ same a = (
+  λ x. record { round = x .round; there = subst (λ (s : List Label). a ∈ s) (same (x .round)) (x .there) },
+  λ x. record { round = x .round; there = subst (λ (s : List Label). a ∈ s) (sym (same (x .round))) (x .there) },
+)

@@ -47,3 +47,19 @@ pub mod Widening
 pub mod WideningCases
 -- cases: what the computed table says of each of its rows
 pub mod Examples
+-- without-twice, without-keeps, renamed-keeps, ..: hiding and renaming as maps of labels
+pub mod Maps
+-- allowed→, tau-allowed, allowed-common, clear-union, ..: allow lists and blocked names as filters of labels
+pub mod Filters
+-- hidden-twice, blocked-twice, allowed-twice, tau-passes: operators in a row
+pub mod Rows
+-- spread-choice, map-merge, spread-merge, spread-sync: operators over two sides
+pub mod Spreading
+-- rewritten-sets, rewritten-answer: a line regrouped in its place
+pub mod Rewriting
+-- extended-sets, extended-equations: lines that are added
+pub mod Extending
+-- unchanged, regrouped-root, regrouped-answer: a description regrouped
+pub mod Regrouping
+-- hide-over-merge: a pair of the examples is a regrouping
+pub mod RegroupingCases

@@ -146,3 +146,9 @@ ascending-ascends (a ∷ s) = insert-ascending a (ascending s) (ascending-ascend
 
 pub ascending-unique : (s t : List Label) → Ascending s → Ascending t → Within s t → Within t s → s ≡ t
 ascending-unique = sorted-unique _≺_ ≺-irrefl ≺-trans
+
+-- Lists of the same labels are the same set.
+pub same-set : (s t : List Label) → Within s t → Within t s → ascending s ≡ ascending t
+same-set s t there back =
+    ascending-unique (ascending s) (ascending t) (ascending-ascends s) (ascending-ascends t)
+    (λ a m. in-ascending t a .1 (there a (in-ascending s a .0 m))) (λ a m. in-ascending s a .1 (back a (in-ascending t a .0 m)))

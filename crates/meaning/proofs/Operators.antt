@@ -7,28 +7,19 @@ use mathlib.Core.List.{List, [], _∷_}
 use Prim.Native.Nat.{ℕ, zero, suc, _≤_, _<_}
 use native.Mathlib.Nat.{le-refl}
 use native.Mathlib.Omega.{arith}
-use lib.Dec.{T, eqb, eqb→eq, eqb-refl}
+use lib.Dec.{T}
 use lib.ListN.{length}
-use Rattle.meaning.specs.Labels.{Label, size, isTau, single, plus, minus, inside, clear, without, renamed}
-use Rattle.meaning.specs.Sets.{_∈_, member, spread, keep, turn}
+use Rattle.meaning.specs.Labels.{Label, size, single, plus, minus, inside, clear, without, renamed}
+use Rattle.meaning.specs.Sets.{_∈_, spread, keep, turn}
 use Rattle.meaning.specs.Descriptions.{Rule, Operator, block, hide, rename, comm, allow}
 use Rattle.meaning.specs.Legal.{Each, LegalRule, LegalOperator}
 use Rattle.meaning.specs.Rounds.{target, allowed, replaced, applied, communicated, image}
 use Rattle.meaning.specs.Runs.{Communicates, enough, apply, Acts}
-use Rattle.meaning.proofs.Tests.{or-cases, or-left, or-right}
 use Rattle.meaning.proofs.Bags.{plus-none, plus-assoc, minus-plus, inside-plus, size-plus, size-minus, size-several, length-plus}
-use Rattle.meaning.proofs.Bags.{length-minus, length-several, length-without, length-renamed, zero→clear}
-use Rattle.meaning.proofs.Members.{in-append, in-spread, in-spread→, in-keep, in-turn, member→in, in→member}
-
--- Listed, or tau.
-pub allowed→ : (ls : List Label) (a : Label) → T (allowed ls a) → (a ∈ ls) ⊎ (size a ≡ 0)
-unfolding allowed isTau
-allowed→ ls a t = elim (or-cases (eqb (size a) 0) (member a ls) t) [ inl h ↦ inr (eqb→eq (size a) 0 h) | inr h ↦ inl (member→in a ls h) ]
-
-pub →allowed : (ls : List Label) (a : Label) → (a ∈ ls) ⊎ (size a ≡ 0) → T (allowed ls a)
-unfolding allowed isTau
-→allowed ls a (inl m) = or-right (eqb (size a) 0) (member a ls) (in→member a ls m)
-→allowed ls a (inr e) = or-left (eqb (size a) 0) (member a ls) (rw e (eqb-refl 0))
+use Rattle.meaning.proofs.Bags.{length-minus, length-several}
+use Rattle.meaning.proofs.Filters.{→allowed, zero→clear}
+use Rattle.meaning.proofs.Maps.{length-without, length-renamed}
+use Rattle.meaning.proofs.Members.{in-append, in-spread, in-spread→, in-keep, in-turn}
 
 -- One application of one of the rules.
 pub record Applied (names : ℕ) (rs : List Rule) (a b : Label) : Type 0 where

@@ -1,7 +1,7 @@
 -- What one round settles of the answer, for code that works rounds out one after the other: a limit passed, also by the first
--- terms alone; a stable round; a term whose operands have not changed.
+-- terms alone; a stable round.
 -- Assumes nothing.
-use mathlib.Core.Path.{_≡_, refl, sym, ap, ap₂, subst}
+use mathlib.Core.Path.{_≡_, sym, subst}
 use mathlib.Core.Logic.{inl, inr}
 use mathlib.Core.List.{List, [], _∷_, _++_}
 use Prim.Native.Nat.{ℕ, zero, suc, _+_, _≤_, _<_}
@@ -10,9 +10,9 @@ use native.Mathlib.Omega.{arith}
 use native.Mathlib.Decide.{decLt}
 use lib.Dec.{T, ltb, ltb→lt}
 use Rattle.meaning.specs.Labels.{Label}
-use Rattle.meaning.specs.Sets.{at, ascending, spread, product}
+use Rattle.meaning.specs.Sets.{at, ascending}
 use Rattle.meaning.specs.Descriptions.{Order, Description, termCount, termAt}
-use Rattle.meaning.specs.Rounds.{Shape, leaf, reference, one, either, both, joint, through, shape, made, worked, bodySets, next, roundSets}
+use Rattle.meaning.specs.Rounds.{shape, made, worked, bodySets, next, roundSets}
 use Rattle.meaning.specs.Limits.{total, someOver, over}
 use Rattle.meaning.specs.Answers.{tooLarge, listed, cut, answer}
 use Rattle.meaning.proofs.Tests.{or-cases}
@@ -72,25 +72,3 @@ unfolding roundSets next
 worked-over d k n h t =
     let x = le-dest h in
     subst (λ (m : ℕ). T (over (worked d (bodySets d (roundSets d k)) m))) (x .1) (worked-more d (bodySets d (roundSets d k)) n (x .0) t)
-
--- A shape makes the same of operands and equations that are the same.
-abbrev pub Same : List (List Label) → List (List Label) → ℕ → Type 0
-Same sets sets′ t = at sets t ≡ at sets′ t
-
-abbrev pub SameFor : List (List Label) → List (List Label) → List (List Label) → List (List Label) → Shape → Type 0
-SameFor eqs eqs′ sets sets′ (leaf s) = Unit {0}
-SameFor eqs eqs′ sets sets′ (reference e) = Same eqs eqs′ e
-SameFor eqs eqs′ sets sets′ (one t) = Same sets sets′ t
-SameFor eqs eqs′ sets sets′ (either t u) = Same sets sets′ t × Same sets sets′ u
-SameFor eqs eqs′ sets sets′ (both t u) = Same sets sets′ t × Same sets sets′ u
-SameFor eqs eqs′ sets sets′ (joint t u) = Same sets sets′ t × Same sets sets′ u
-SameFor eqs eqs′ sets sets′ (through f t) = Same sets sets′ t
-
-pub made-same : (eqs eqs′ sets sets′ : List (List Label)) (s : Shape) → SameFor eqs eqs′ sets sets′ s → made eqs sets s ≡ made eqs′ sets′ s
-made-same eqs eqs′ sets sets′ (leaf s) h = refl
-made-same eqs eqs′ sets sets′ (reference e) h = h
-made-same eqs eqs′ sets sets′ (one t) h = h
-made-same eqs eqs′ sets sets′ (either t u) h = ap₂ {C = List Label} _++_ (h .0) (h .1)
-made-same eqs eqs′ sets sets′ (both t u) h = ap₂ {C = List Label} (λ x y. x ++ y ++ product x y) (h .0) (h .1)
-made-same eqs eqs′ sets sets′ (joint t u) h = ap₂ product (h .0) (h .1)
-made-same eqs eqs′ sets sets′ (through f t) h = ap (spread f) h

@@ -1,11 +1,15 @@
--- What a term is made of, as a property of labels: the same as the lists say, and growing with the sets and with the shape.
+-- What a term is made of, as a property of labels: the same as the lists say, and growing with the sets and with the shape. And
+-- what it depends on.
 -- Assumes nothing.
+use mathlib.Core.Path.{_≡_, refl, ap, ap₂}
 use mathlib.Core.Logic.{_⊎_, inl, inr}
-use mathlib.Core.List.{List, [], _++_}
-use Prim.Native.Nat.{ℕ}
-use Rattle.meaning.specs.Labels.{Label}
-use Rattle.meaning.specs.Sets.{_∈_, at, product}
-use Rattle.meaning.specs.Rounds.{Shape, leaf, reference, one, either, both, joint, through, made}
+use mathlib.Core.List.{List, [], _∷_, _++_}
+use Prim.Native.Nat.{ℕ, _<_}
+use Rattle.meaning.specs.Labels.{Label, empty, single}
+use Rattle.meaning.specs.Sets.{_∈_, at, spread, product}
+use Rattle.meaning.specs.Descriptions.{Term, act, tau, delta, ref, sum, cond, choice, ifelse, seq, merge, lmerge, sync, wrap, Description, names}
+use Rattle.meaning.specs.Rounds.{image, Shape, leaf, reference, one, either, both, joint, through, shape, made}
+use Rattle.meaning.specs.Regrouping.{Below}
 use Rattle.meaning.proofs.Members.{Through, Sum, in-append, in-spread, in-spread→, in-product, in-product→}
 
 -- a family of label sets: of the equations, or of the terms
@@ -75,3 +79,52 @@ made-grows P Q P′ Q′ p q (alike s) a m = made-alike P Q P′ Q′ p q s a m
 made-grows P Q P′ Q′ p q (filled s) a m = absurd m
 made-grows P Q P′ Q′ p q (fuller f g t h) a m =
     record { source = m .source; there = q t (m .source) (m .there); gives = h (m .source) a (m .gives) }
+
+-- A shape makes the same of operands and equations that are the same.
+abbrev pub Same : List (List Label) → List (List Label) → ℕ → Type 0
+Same sets sets′ t = at sets t ≡ at sets′ t
+
+abbrev pub SameFor : List (List Label) → List (List Label) → List (List Label) → List (List Label) → Shape → Type 0
+SameFor eqs eqs′ sets sets′ (leaf s) = Unit {0}
+SameFor eqs eqs′ sets sets′ (reference e) = Same eqs eqs′ e
+SameFor eqs eqs′ sets sets′ (one t) = Same sets sets′ t
+SameFor eqs eqs′ sets sets′ (either t u) = Same sets sets′ t × Same sets sets′ u
+SameFor eqs eqs′ sets sets′ (both t u) = Same sets sets′ t × Same sets sets′ u
+SameFor eqs eqs′ sets sets′ (joint t u) = Same sets sets′ t × Same sets sets′ u
+SameFor eqs eqs′ sets sets′ (through f t) = Same sets sets′ t
+
+pub made-same : (eqs eqs′ sets sets′ : List (List Label)) (s : Shape) → SameFor eqs eqs′ sets sets′ s → made eqs sets s ≡ made eqs′ sets′ s
+made-same eqs eqs′ sets sets′ (leaf s) h = refl
+made-same eqs eqs′ sets sets′ (reference e) h = h
+made-same eqs eqs′ sets sets′ (one t) h = h
+made-same eqs eqs′ sets sets′ (either t u) h = ap₂ {C = List Label} _++_ (h .0) (h .1)
+made-same eqs eqs′ sets sets′ (both t u) h = ap₂ {C = List Label} (λ x y. x ++ y ++ product x y) (h .0) (h .1)
+made-same eqs eqs′ sets sets′ (joint t u) h = ap₂ product (h .0) (h .1)
+made-same eqs eqs′ sets sets′ (through f t) h = ap (spread f) h
+
+-- Sets that are the same below a number are so for a shape whose operands are.
+pub same-below : (eqs sets sets′ : List (List Label)) (n : ℕ) → ((t : ℕ) → t < n → Same sets sets′ t) → (s : Shape) → Below n s
+    → SameFor eqs eqs sets sets′ s
+same-below eqs sets sets′ n h (leaf s) b = tt
+same-below eqs sets sets′ n h (reference e) b = refl
+same-below eqs sets sets′ n h (one t) b = h t b
+same-below eqs sets sets′ n h (either t u) b = (h t (b .0), h u (b .1))
+same-below eqs sets sets′ n h (both t u) b = (h t (b .0), h u (b .1))
+same-below eqs sets sets′ n h (joint t u) b = (h t (b .0), h u (b .1))
+same-below eqs sets sets′ n h (through f t) b = h t b
+
+-- The shape of a term depends on no more of a description than its number of names.
+pub shape-names : (d d′ : Description) → names d ≡ names d′ → (t : Term) → shape d t ≡ shape d′ t
+shape-names d d′ e (act a) = ap (λ (n : ℕ). leaf (single n a ∷ [])) e
+shape-names d d′ e tau = ap (λ (n : ℕ). leaf (empty n ∷ [])) e
+shape-names d d′ e delta = refl
+shape-names d d′ e (ref x) = refl
+shape-names d d′ e (sum t) = refl
+shape-names d d′ e (cond t) = refl
+shape-names d d′ e (choice t u) = refl
+shape-names d d′ e (ifelse t u) = refl
+shape-names d d′ e (seq t u) = refl
+shape-names d d′ e (merge t u) = refl
+shape-names d d′ e (lmerge t u) = refl
+shape-names d d′ e (sync t u) = refl
+shape-names d d′ e (wrap o t) = ap (λ (n : ℕ). through (image n o) t) e

@@ -7,20 +7,19 @@ use mathlib.Core.List.{List, [], _∷_}
 use Prim.Native.Nat.{ℕ, zero, suc}
 use lib.Dec.{T}
 use lib.ListN.{length, getD}
-use Rattle.meaning.specs.Labels.{Label, count, clear, empty, single}
+use Rattle.meaning.specs.Labels.{Label, count, clear}
 use Rattle.meaning.specs.Sets.{_∈_, keep}
-use Rattle.meaning.specs.Descriptions.{Term, act, tau, delta, ref, sum, cond, choice, ifelse, seq, merge, lmerge, sync, wrap, Order, Description, names}
+use Rattle.meaning.specs.Descriptions.{Term, delta, Order, Description, names}
 use Rattle.meaning.specs.Legal.{Legal}
-use Rattle.meaning.specs.Rounds.{allowed, image, Shape, leaf, through, shape, InSet}
+use Rattle.meaning.specs.Rounds.{allowed, Shape, shape, InSet}
 use Rattle.meaning.specs.Runs.{OnRun}
 use Rattle.meaning.specs.Limits.{PassesLimit}
 use Rattle.meaning.specs.Answers.{Allows, Outcome, tooLarge, listed, Answers, answer}
 use Rattle.meaning.specs.Widening.{WiderTerm, same, gained, lost, opened, WiderTerms, Widens}
-use Rattle.meaning.proofs.Bags.{clear→zero, zero→clear}
 use Rattle.meaning.proofs.Members.{in-keep}
-use Rattle.meaning.proofs.Shapes.{Grown, alike, filled, fuller}
+use Rattle.meaning.proofs.Shapes.{Grown, alike, filled, fuller, shape-names}
 use Rattle.meaning.proofs.Growth.{Wide, rounds-widen}
-use Rattle.meaning.proofs.Operators.{allowed→, →allowed}
+use Rattle.meaning.proofs.Filters.{allowed→, →allowed, clear→zero, zero→clear}
 use Rattle.meaning.proofs.Answers.{answer-right}
 use Rattle.meaning.proofs.Listings.{set-held}
 use Rattle.meaning.proofs.Soundness.{onRun→inSet}
@@ -28,22 +27,6 @@ use Rattle.meaning.proofs.Soundness.{onRun→inSet}
 -- A filter that lets more through gives more: said once, for allow lists that gain and block lists that lose.
 keep-grows : (p q : Label → Bool) → ((a : Label) → T (p a) → T (q a)) → (a b : Label) → b ∈ keep p a → b ∈ keep q a
 keep-grows p q h a b m = let x = in-keep p a b .0 m in in-keep q a b .1 (x .0, h a (x .1))
-
--- The shape of a term depends on no more of a description than its number of names.
-shape-names : (d d′ : Description) → names d ≡ names d′ → (t : Term) → shape d t ≡ shape d′ t
-shape-names d d′ e (act a) = ap (λ (n : ℕ). leaf (single n a ∷ [])) e
-shape-names d d′ e tau = ap (λ (n : ℕ). leaf (empty n ∷ [])) e
-shape-names d d′ e delta = refl
-shape-names d d′ e (ref x) = refl
-shape-names d d′ e (sum t) = refl
-shape-names d d′ e (cond t) = refl
-shape-names d d′ e (choice t u) = refl
-shape-names d d′ e (ifelse t u) = refl
-shape-names d d′ e (seq t u) = refl
-shape-names d d′ e (merge t u) = refl
-shape-names d d′ e (lmerge t u) = refl
-shape-names d d′ e (sync t u) = refl
-shape-names d d′ e (wrap o t) = ap (λ (n : ℕ). through (image n o) t) e
 
 wider-grown : (d d′ : Description) → names d ≡ names d′ → {t t′ : Term} → WiderTerm t t′ → Grown (shape d t) (shape d′ t′)
 wider-grown d d′ e (same t) = subst (λ (s : Shape). Grown (shape d t) s) (shape-names d d′ e t) (alike (shape d t))

@@ -20,3 +20,7 @@ pub mod Limits
 pub mod Answers
 -- When one description and order widens another
 pub mod Widening
+-- What the laws of the set rules speak of
+pub mod Laws
+-- When one description regroups another
+pub mod Regrouping

@@ -16,7 +16,7 @@ use Rattle.meaning.specs.Rounds.{Shape, leaf, reference, one, either, both, joi
 use Rattle.meaning.proofs.Tests.{and-left, and-right}
 use Rattle.meaning.proofs.Growth.{round-length, at-body}
 use Rattle.meaning.proofs.Least.{term-legal}
-use Rattle.meaning.proofs.Outcomes.{Same, SameFor, made-same}
+use Rattle.meaning.proofs.Shapes.{Same, SameFor, made-same}
 use Rattle.table.specs.Encoded.{termFor, tableOf}
 use Rattle.table.proofs.Stores.{body-of}
 use Rattle.sets.specs.declared.Built.{Built}

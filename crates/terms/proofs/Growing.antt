@@ -19,9 +19,8 @@ use Rattle.meaning.proofs.Bags.{plus-comm}
 use Rattle.meaning.proofs.Digits.{number-injective}
 use Rattle.meaning.proofs.Ascent.{Within}
 use Rattle.meaning.proofs.Members.{Sum, in-append, in-spread, in-spread→, in-product, in-product→, in-ascending}
-use Rattle.meaning.proofs.Shapes.{sum-grows}
+use Rattle.meaning.proofs.Shapes.{sum-grows, SameFor, made-same}
 use Rattle.meaning.proofs.Operators.{in-applied, in-applied→, fewer-left, communicated-self}
-use Rattle.meaning.proofs.Outcomes.{SameFor, made-same}
 use Rattle.meaning.proofs.Growth.{round-grows, round-length, at-body}
 use Rattle.labels.proofs.Refinement.{packs-small}
 use Rattle.sets.specs.declared.Built.{Built}

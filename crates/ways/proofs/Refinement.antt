@@ -14,7 +14,7 @@ use Rattle.meaning.specs.Sets.{member, ascending, spread, kept, keep, turn}
 use Rattle.meaning.specs.Descriptions.{Pair}
 use Rattle.meaning.specs.Rounds.{target, allowed}
 use Rattle.meaning.specs.Legal.{Each, LegalPair}
-use Rattle.meaning.proofs.Bags.{size-without, size-renamed, length-without, length-renamed}
+use Rattle.meaning.proofs.Maps.{size-without, size-renamed, length-without, length-renamed}
 use Rattle.labels.specs.Packing.{packed}
 use Rattle.labels.proofs.Sizes.{number-zero}
 use Rattle.areas.proofs.Entries.{labelWords, pairWords, pairsIn-pairWords}
