@@ -15,9 +15,13 @@ pub mod Order
 pub mod Digits
 -- sorted-once, sorted-unique, rising-unique, once-count: lists that ascend in a strict order
 pub mod Ascent
--- in-append, in-map, in-product, in-ascending, ..: members of the lists that sets are made of
+-- in-append, in-map, in-product, in-ascending, same-set, ..: members of the lists that sets are made of
 pub mod Members
--- in-made, made-grows: what a term is made of, as a property of labels
+-- without-twice, without-keeps, renamed-keeps, ..: hiding and renaming as maps of labels
+pub mod Maps
+-- allowed→, tau-allowed, allowed-common, clear-union, ..: allow lists and blocked names as filters of labels
+pub mod Filters
+-- in-made, made-grows, made-same: what a term is made of, as a property of labels, and what it depends on
 pub mod Shapes
 -- carried: a relation of sets that two passes over the terms keep; growth, order and lengths are its instances
 pub mod Carried
@@ -25,9 +29,9 @@ pub mod Carried
 pub mod Growth
 -- roundSets-stable, union-is-stable, unstable-total: a stable round stays, and a round that is not stable adds a label
 pub mod Stability
--- sets-meet, sets-least: the sets of terms are the least ones that meet the rules
+-- worked-is, sets-meet, sets-least: the sets of terms are the least ones that meet the rules
 pub mod Least
--- allowed→, in-applied, length-image, acts-image: what operators make of labels
+-- in-applied, length-image, acts-image: what operators make of labels
 pub mod Operators
 -- onRun→inSet: every label on any finite run is in the root's set
 pub mod Soundness
@@ -47,10 +51,6 @@ pub mod Widening
 pub mod WideningCases
 -- cases: what the computed table says of each of its rows
 pub mod Examples
--- without-twice, without-keeps, renamed-keeps, ..: hiding and renaming as maps of labels
-pub mod Maps
--- allowed→, tau-allowed, allowed-common, clear-union, ..: allow lists and blocked names as filters of labels
-pub mod Filters
 -- hidden-twice, blocked-twice, allowed-twice, tau-passes: operators in a row
 pub mod Rows
 -- spread-choice, map-merge, spread-merge, spread-sync: operators over two sides
