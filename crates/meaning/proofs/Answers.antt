@@ -19,8 +19,8 @@ use Rattle.meaning.specs.Answers.{Allows, Outcome, tooLarge, listed, Lis
 use Rattle.meaning.proofs.Tests.{Says, compare-says, and-left, and-right, and-both}
 use Rattle.meaning.proofs.Order.{same→eq, eq→same}
 use Rattle.meaning.proofs.Digits.{size→small, number-below}
-use Rattle.meaning.proofs.Ascent.{Within, Sorted, NumberLess, sorted-rising, rising-unique}
-use Rattle.meaning.proofs.Members.{Ascending, in-spread, in-spread→, in-keep}
+use Rattle.meaning.proofs.Ascent.{Sorted, NumberLess, sorted-rising, rising-unique}
+use Rattle.meaning.proofs.Members.{Ascending, in-filter}
 use Rattle.meaning.proofs.Carried.{against-last}
 use Rattle.meaning.proofs.Growth.{round-ascends}
 use Rattle.meaning.proofs.Lengths.{round-full}
@@ -53,27 +53,18 @@ pub →admits : (o : Order) (a : Label) → Allows o a → T (admits o a)
 
 pub in-cut : (o : Order) (s : List Label) (a : Label) → (a ∈ cut o s) ↔ ((a ∈ s) × Allows o a)
 unfolding cut
-in-cut o s a = (
-  λ m.
-      let x = in-spread→ (keep (admits o)) s a m in
-      let y = in-keep (admits o) (x .source) a .0 (x .gives) in
-      (subst (λ (b : Label). b ∈ s) (sym (y .0)) (x .there), subst (λ (b : Label). Allows o b) (sym (y .0)) (admits→ o (x .source) (y .1))),
-  λ h. in-spread (keep (admits o)) s a a (h .0) (in-keep (admits o) a a .1 (refl, →admits o a (h .1))),
-)
+in-cut o s a =
+    let x = in-filter (admits o) s a in
+    (λ m. (x .0 m .0, admits→ o a (x .0 m .1)), λ h. x .1 (h .0, →admits o a (h .1)))
 
 -- A filter leaves a sorted list sorted.
-filter-sorted : (L : Label → Label → Type 0) (test : Label → Bool) (s : List Label) → Sorted L s → Sorted L (spread (keep test) s)
+pub filter-sorted : (L : Label → Label → Type 0) (test : Label → Bool) (s : List Label) → Sorted L s → Sorted L (spread (keep test) s)
 unfolding spread
 filter-sorted L test [] h = tt
 filter-sorted L test (a ∷ s) h = put (test a) (filter-sorted L test s (h .1))
   where
     put : (b : Bool) → Sorted L (spread (keep test) s) → Sorted L (kept b a ++ spread (keep test) s)
-    put true k = (
-      λ c m.
-          let x = in-spread→ (keep test) s c m in
-          subst (λ (e : Label). L a e) (sym (in-keep test (x .source) c .0 (x .gives) .0)) (h .0 (x .source) (x .there)),
-      k,
-    )
+    put true k = (λ c m. h .0 c (in-filter test s c .0 m .0), k)
     put false k = k
 
 -- Within the limits the order of labels is that of their numbers.

@@ -63,3 +63,5 @@ pub mod Extending
 pub mod Regrouping
 -- hide-over-merge: a pair of the examples is a regrouping
 pub mod RegroupingCases
+-- names-of-both, labels-of-both: two legal lists in a row have a legal one in their place
+pub mod OneList

@@ -10,7 +10,7 @@ use native.Mathlib.Decide.{decLt}
 use lib.Dec.{T, ltb, ltb→lt, lt→ltb}
 use lib.ListN.{length}
 use Rattle.meaning.specs.Labels.{Label, size}
-use Rattle.meaning.specs.Sets.{_∈_, at}
+use Rattle.meaning.specs.Sets.{_∈_}
 use Rattle.meaning.specs.Descriptions.{Description}
 use Rattle.meaning.specs.Rounds.{roundSets, Rounds}
 use Rattle.meaning.specs.Limits.{total, someLong, someOver, over, PassesLimit}

@@ -9,7 +9,7 @@ use native.Mathlib.Omega.{arith}
 use native.Mathlib.Decide.{decLt}
 use lib.Dec.{T}
 use lib.ListN.{length, length-append}
-use Rattle.meaning.specs.Labels.{Label, size}
+use Rattle.meaning.specs.Labels.{Label}
 use Rattle.meaning.specs.Sets.{_∈_, at, spread, kept, keep}
 use Rattle.meaning.specs.Descriptions.{Order, Description, names}
 use Rattle.meaning.specs.Rounds.{roundSets, InSet}

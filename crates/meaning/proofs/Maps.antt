@@ -23,7 +23,7 @@ without-append [] ms a = refl
 without-append (n ∷ ns) ms a = ap (λ (b : Label). set b n 0) (without-append ns ms a)
 
 -- What is left depends on which names are listed, and on nothing else of the list: a listed name counts 0, any other what it did.
-listed? : (n : ℕ) (ns : List ℕ) → Dec (n ∈ ns)
+pub listed? : (n : ℕ) (ns : List ℕ) → Dec (n ∈ ns)
 listed? n [] = no (λ m. m)
 listed? n (m ∷ ns) =
     elim (ℕ-discrete n m) [

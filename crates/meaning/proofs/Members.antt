@@ -88,6 +88,15 @@ in-keep test a b = kept-says (test a) a b
 pub in-turn : (f : Label → Label) (a b : Label) → (b ∈ turn f a) ↔ (b ≡ f a)
 in-turn f a b = (elim [ inl e ↦ e | inr m ↦ absurd m ], inl)
 
+pub in-filter : (test : Label → Bool) (s : List Label) (a : Label) → (a ∈ spread (keep test) s) ↔ ((a ∈ s) × T (test a))
+in-filter test s a = (
+  λ m.
+      let x = in-spread→ (keep test) s a m in
+      let y = in-keep test (x .source) a .0 (x .gives) in
+      (subst (λ (b : Label). b ∈ s) (sym (y .0)) (x .there), subst (λ (b : Label). T (test b)) (sym (y .0)) (y .1)),
+  λ h. in-spread (keep test) s a a (h .0) (in-keep test a a .1 (refl, h .1)),
+)
+
 -- The test of membership.
 pub member→in : (a : Label) (s : List Label) → T (member a s) → a ∈ s
 unfolding member
