@@ -18,26 +18,36 @@ WELL_FORMED = (b"answer=ok\n", b"answer=refused\nreason=7\n")
 def check_regrouping(count=EACH):
     """Ends with Failed if a law does not hold of some description, or if what
     is no law holds of all."""
-    laws = {name: tried(form, count, name) for name, form in LAWS.items()}
-    none = {name: tried(form, count, name) for name, form in NO_LAWS.items()}
-    faults = [f"{name} changes an answer" for name, (same, _) in laws.items() if same < count]
-    faults += [f"{name} changes no answer" for name, (same, _) in none.items() if same == count]
-    faults += [f"{name} is tried on {n} labels alone" for name, (_, n) in (laws | none).items() if n < count]
+    forms = LAWS | NO_LAWS
+    records = [text for name in forms for text in both_forms(name, forms[name], count)]
+    texts = answered(records)
+    if not all(text.startswith(WELL_FORMED) for text in texts):
+        raise Failed("a law is tried on a description that is not well-formed")
+    faults = []
+    for at, name in enumerate(forms):
+        of_form = texts[2 * count * at : 2 * count * (at + 1)]
+        faults += odd(name, of_form[::2], of_form[1::2])
     if faults:
         raise Failed("; ".join(faults))
-    told = f"{len(laws)} laws hold of {count} random descriptions each"
-    print(f"{told}, and {len(none)} that are none do not")
+    told = f"{len(LAWS)} laws hold of {count} random descriptions each"
+    print(f"{told}, and {len(NO_LAWS)} that are none do not")
 
 
-def tried(form, count, seed):
-    """Of so many descriptions, how many get the same text in both forms, and
-    how many labels those texts list."""
-    pairs = [described(random.Random(f"{seed} {number}"), form) for number in range(count)]
-    texts = answered([text for pair in pairs for text in pair])
-    if not all(text.startswith(WELL_FORMED) for text in texts):
-        raise Failed(f"{seed} is tried on a description that is not well-formed")
-    same = sum(before == after for before, after in zip(texts[::2], texts[1::2]))
-    return same, sum(text.count(b"\nlabel=") for text in texts[::2])
+def both_forms(name, form, count):
+    """So many random descriptions, the same ones for the same name, in turn
+    with one form of a line and with the other."""
+    return [text for number in range(count) for text in described(random.Random(f"{name} {number}"), form)]
+
+
+def odd(name, before, after):
+    """What the texts for both forms have that they should not."""
+    if name in LAWS and before != after:
+        yield f"{name} changes an answer"
+    if name in NO_LAWS and before == after:
+        yield f"{name} changes no answer"
+    labels_seen = sum(text.count(b"\nlabel=") for text in before)
+    if labels_seen < len(before):
+        yield f"{name} is tried on {labels_seen} labels alone"
 
 
 def answered(records):
@@ -58,10 +68,10 @@ def described(rng, form):
     add_lines(rng, above, rng.randrange(3), equations)
     bodies = [rng.randrange(len(above)) for _ in range(equations)]
     above = above[len(below) + len(before) :]
-    return [text(below + lines + above, bodies) for lines in (before, after)]
+    return [written_out(below + lines + above, bodies) for lines in (before, after)]
 
 
-def text(terms, bodies):
+def written_out(terms, bodies):
     lines = [f"names={len(NAMES)}", *(f"name={name}" for name in NAMES), f"equations={len(bodies)}"]
     lines += [f"terms={len(terms)}", *(f"term={term}" for term in terms), *(f"equation={body}" for body in bodies)]
     return "\n".join([*lines, f"root={len(terms) - 1}", "order=all", ""]).encode()

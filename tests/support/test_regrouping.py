@@ -42,7 +42,7 @@ class Regrouping(unittest.TestCase):
             self.check(lambda record: b"answer=refused\nreason=7\nline=0\n")
 
     def test_descriptions_that_are_not_well_formed(self):
-        with self.assertRaisesRegex(Failed, "hide twice is tried on a description that is not well-formed"):
+        with self.assertRaisesRegex(Failed, "a law is tried on a description that is not well-formed"):
             self.check(lambda record: b"answer=refused\nreason=4\nline=9\n")
 
 

@@ -20,7 +20,7 @@ use Rattle.meaning.proofs.Bags.{length-minus, length-several, size-minus, size-
 use Rattle.meaning.proofs.Digits.{number-injective}
 use Rattle.meaning.proofs.Ascent.{Within}
 use Rattle.meaning.proofs.Members.{in-append, in-ascending, in-spread, in-spread→, in-map, in-map→}
-use Rattle.meaning.proofs.Operators.{in-applied, in-applied→, length-replaced, fewer-left}
+use Rattle.meaning.proofs.Operators.{in-applied, in-applied→, length-replaced, fewer-left, rule-legal}
 use Rattle.labels.specs.Packing.{packed}
 use Rattle.areas.proofs.Entries.{ruleLabels}
 use Rattle.labels.proofs.Refinement.{Packs, packs-small, inside-number, difference-number, sum-number}
@@ -49,10 +49,6 @@ data Follows (names : ℕ) (rs : List Rule) : Label → Label → Type 0 where
   here : {a : Label} → Follows names rs a a
   then : {a b : Label} (r : Rule) → r ∈ rs → T (inside (r .left) a) → Follows names rs (replaced names r a) b
       → Follows names rs a b
-
-pub rule-legal : (names : ℕ) (rs : List Rule) → Each (LegalRule names) rs → (r : Rule) → r ∈ rs → LegalRule names r
-rule-legal names (q ∷ rs) h r (inl e) = rw e (h .0)
-rule-legal names (q ∷ rs) h r (inr m) = rule-legal names rs (h .1) r m
 
 module _ (names : ℕ) (few : names ≤ 12) (rs : List Rule) (legal : Each (LegalRule names) rs) (room : ℕ) where
   abbrev pub numbers : List Label → List ℕ

@@ -31,7 +31,7 @@ pub mod Growth
 pub mod Stability
 -- worked-is, sets-meet, sets-least: the sets of terms are the least ones that meet the rules
 pub mod Least
--- in-applied, length-image, acts-image: what operators make of labels
+-- in-applied, rule-legal, length-image, acts-image: what operators make of labels
 pub mod Operators
 -- onRun→inSet: every label on any finite run is in the root's set
 pub mod Soundness

@@ -24,6 +24,10 @@ pub each-in : {A : Type 0} (P : A → Type 0) (s : List A) → ((a : A) → a �
 each-in P [] h = tt
 each-in P (a ∷ s) h = (h a (inl refl), each-in P s (λ b m. h b (inr m)))
 
+pub each-of : {A : Type 0} (P : A → Type 0) (s : List A) → Each P s → (a : A) → a ∈ s → P a
+each-of P (b ∷ s) h a (inl e) = subst P (sym e) (h .0)
+each-of P (b ∷ s) h a (inr m) = each-of P s (h .1) a m
+
 pub record Image {A B : Type 0} (f : A → B) (s : List A) (b : B) : Type 0 where
   pub source : A
   pub there : source ∈ s

@@ -14,21 +14,23 @@ use Rattle.meaning.specs.Sets.{_∈_, member, Rising, spread, keep}
 use Rattle.meaning.specs.Legal.{Each, LegalLabel, LegalNames, LegalLabels}
 use Rattle.meaning.specs.Laws.{Union, Common}
 use Rattle.meaning.proofs.Ascent.{Within, sorted-once, once-count, rising-sorted, sorted-rising, NumberLess}
-use Rattle.meaning.proofs.Members.{each-in, in-append, in-filter, member→in, in→member}
+use Rattle.meaning.proofs.Members.{each-in, each-of, in-append, in-filter, member→in, in→member}
 use Rattle.meaning.proofs.Maps.{listed?}
 use Rattle.meaning.proofs.Answers.{filter-sorted}
 
--- What holds of each entry holds of any; a list with an entry is not empty.
-each-of : {A : Type 0} (P : A → Type 0) (s : List A) → Each P s → (a : A) → a ∈ s → P a
-each-of P (b ∷ s) h a (inl e) = subst P (sym e) (h .0)
-each-of P (b ∷ s) h a (inr m) = each-of P s (h .1) a m
-
+-- A list with an entry is not empty.
 some-entry : {A : Type 0} (s : List A) (a : A) → a ∈ s → 1 ≤ length s
 some-entry (b ∷ s) a m = suc-le-suc zero-le
 
 first-entry : (s t : List ℕ) → 1 ≤ length s → ((n : ℕ) → n ∈ s → n ∈ t) → 1 ≤ length t
 first-entry [] t h w = absurd (omega arith)
 first-entry (n ∷ s) t h w = some-entry t n (w n (inl refl))
+
+-- A greater number behind ascending ones.
+rising-last : (s : List ℕ) (n : ℕ) → Rising s → Each (λ m. m < n) s → Rising (s ++ (n ∷ []))
+rising-last [] n r h = (tt, tt)
+rising-last (m ∷ []) n r h = (h .0, (tt, tt))
+rising-last (m ∷ k ∷ s) n r h = (r .0, rising-last (k ∷ s) n (r .1) (h .1))
 
 -- The numbers below another of which something holds, ascending.
 module _ (P : ℕ → Type 0) (holds? : (n : ℕ) → Dec (P n)) where
@@ -57,11 +59,6 @@ module _ (P : ℕ → Type 0) (holds? : (n : ℕ) → Dec (P n)) where
       | no d ↦ inl (in-below n m .1 (omega (arith, h .0), h .1))
     ]),
   )
-
-  rising-last : (s : List ℕ) (n : ℕ) → Rising s → Each (λ m. m < n) s → Rising (s ++ (n ∷ []))
-  rising-last [] n r h = (tt, tt)
-  rising-last (m ∷ []) n r h = (h .0, (tt, tt))
-  rising-last (m ∷ k ∷ s) n r h = (r .0, rising-last (k ∷ s) n (r .1) (h .1))
 
   rising-kept : (s : List ℕ) (n : ℕ) (x : Dec (P n)) → Rising s → Each (λ m. m < n) s → Rising (s ++ kept-if n x)
   rising-kept s n (yes p) r h = rising-last s n r h

@@ -19,7 +19,7 @@ use Rattle.meaning.proofs.Bags.{plus-none, plus-assoc, minus-plus, insi
 use Rattle.meaning.proofs.Bags.{length-minus, length-several}
 use Rattle.meaning.proofs.Filters.{→allowed, zero→clear}
 use Rattle.meaning.proofs.Maps.{length-without, length-renamed}
-use Rattle.meaning.proofs.Members.{in-append, in-spread, in-spread→, in-keep, in-turn}
+use Rattle.meaning.proofs.Members.{each-of, in-append, in-spread, in-spread→, in-keep, in-turn}
 
 -- One application of one of the rules.
 pub record Applied (names : ℕ) (rs : List Rule) (a b : Label) : Type 0 where
@@ -89,9 +89,8 @@ pub fewer-left : (names : ℕ) (r : Rule) (a : Label) → 2 ≤ size (r .left) �
 fewer-left names r a two t =
     omega (arith, size-plus (minus a (r .left)) (single names (r .right)), size-minus a (r .left) t, size-several names (r .right) 1)
 
-rule-size : (names : ℕ) (rs : List Rule) → Each (LegalRule names) rs → (r : Rule) → r ∈ rs → 2 ≤ size (r .left)
-rule-size names (q ∷ rs) h r (inl e) = rw e (h .0 .1)
-rule-size names (q ∷ rs) h r (inr m) = rule-size names rs (h .1) r m
+pub rule-legal : (names : ℕ) (rs : List Rule) → Each (LegalRule names) rs → (r : Rule) → r ∈ rs → LegalRule names r
+rule-legal names = each-of (LegalRule names)
 
 one-more : (names : ℕ) (rs : List Rule) (a b : Label) (r : Rule) → r ∈ rs → T (inside (r .left) a) → 2 ≤ size (r .left)
     → ((k : ℕ) → size (replaced names r a) ≤ k → b ∈ communicated k names rs (replaced names r a))
@@ -111,7 +110,7 @@ communicates-in : (names : ℕ) (rs : List Rule) → Each (LegalRule names) rs �
     → (k : ℕ) → size (plus rest aside) ≤ k → b ∈ communicated k names rs (plus rest aside)
 communicates-in names rs h (enough rest aside) k l = communicated-self k names rs (plus rest aside)
 communicates-in names rs h (apply r {rest = rest} {aside = aside} {result = b} m t c) k l =
-    one-more names rs (plus rest aside) b r m (inside-plus (r .left) rest aside t) (rule-size names rs h r m)
+    one-more names rs (plus rest aside) b r m (inside-plus (r .left) rest aside t) (rule-legal names rs h r m .1)
     (rw (set-aside names r rest aside t) (λ j i. communicates-in names rs h c j i)) k l
 
 pub acts-image : (names : ℕ) (o : Operator) → LegalOperator names o → (a b : Label) → Acts names o a b → b ∈ image names o a

@@ -17,6 +17,7 @@ use Rattle.meaning.proofs.Members.{Through, in-spread, in-spread→, in
 use Rattle.meaning.proofs.Filters.{tau-allowed, allowed-common, clear-union}
 use Rattle.meaning.proofs.Maps.{without-twice}
 
+-- The labels of a set that was made through a map of labels.
 pub in-under→ : (f : Label → List Label) (s : List Label) (b : Label) → b ∈ under f s → Through f (λ a. a ∈ s) b
 in-under→ f s b m = in-spread→ f s b (in-ascending (spread f s) b .0 m)
 

@@ -20,14 +20,13 @@ use Rattle.meaning.proofs.Digits.{number-injective}
 use Rattle.meaning.proofs.Ascent.{Within}
 use Rattle.meaning.proofs.Members.{Sum, in-append, in-spread, in-spread→, in-product, in-product→, in-ascending}
 use Rattle.meaning.proofs.Shapes.{sum-grows, SameFor, made-same}
-use Rattle.meaning.proofs.Operators.{in-applied, in-applied→, fewer-left, communicated-self}
+use Rattle.meaning.proofs.Operators.{in-applied, in-applied→, fewer-left, rule-legal, communicated-self}
 use Rattle.meaning.proofs.Growth.{round-grows, round-length, at-body}
 use Rattle.labels.proofs.Refinement.{packs-small}
 use Rattle.sets.specs.declared.Built.{Built}
 use Rattle.ways.specs.declared.Way.the-variants.{Copy}
 use Rattle.sets.specs.Building.{Building, andThen, Grown}
 use Rattle.products.specs.Multiplying.{multiplied}
-use Rattle.comm.proofs.Communication.{rule-legal}
 use Rattle.sets.proofs.Refinement.{AllPack}
 use Rattle.growth.specs.Fresh.{fresh, throughBuilt}
 use Rattle.composing.specs.Making.{eitherBuilt, bothBuilt}
