@@ -18,13 +18,22 @@ class BagsOfNames {
         Bag left;
         Name right;
 
-        bool exchange(const Bag &x, Bag &y) const {
-            if (!std::includes(x.begin(), x.end(), left.begin(), left.end())) {
+        bool apply(Bag &rest, Bag &sum) const {
+            if (!std::includes(rest.begin(), rest.end(), left.begin(), left.end())) {
                 return false;
             }
-            std::set_difference(x.begin(), x.end(), left.begin(), left.end(), std::inserter(y, y.end()));
-            y.insert(right);
+            for (Name name : left) {
+                rest.erase(rest.find(name));
+                sum.erase(sum.find(name));
+            }
+            sum.insert(right);
             return true;
+        }
+
+        void undo(Bag &rest, Bag &sum) const {
+            sum.erase(sum.find(right));
+            sum.insert(left.begin(), left.end());
+            rest.insert(left.begin(), left.end());
         }
     };
 

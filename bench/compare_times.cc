@@ -17,7 +17,7 @@ constexpr size_t RECORDS_TAKEN = 300;
 // What the call's ratio to each peer should be at least.
 constexpr double AIMS[CONTENDERS] = {0, 10, 1, 1};
 
-// Of one entry: the call's time in units of the example's, and the time of each peer in units of the call's.
+// Of one entry: the call's time in units of peer (b)'s for the example, and the time of each peer in units of the call's.
 using Ratios = std::array<double, CONTENDERS>;
 
 struct Measured {
@@ -36,7 +36,7 @@ Ratios ratios_of(const Times &times, double unit) {
 double unit_time(const Group &examples) {
     for (const Entry &entry : examples.entries) {
         if (entry.name == UNIT_EXAMPLE) {
-            return times_of(entry)[CALL];
+            return times_of(entry)[PEER_B];
         }
     }
     throw std::runtime_error(std::string("there is no example ") + UNIT_EXAMPLE);
@@ -109,7 +109,7 @@ void compare(char **paths) {
     for (Group &group : read_worst(paths[1])) {
         groups.push_back(std::move(group));
     }
-    std::printf("| %-36s | %8s | %8s | %8s | %8s |\n", "descriptions", "call/968", "(a)/call", "(b)/call", "(c)/call");
+    std::printf("| %-36s | %8s | %8s | %8s | %8s |\n", "descriptions", "call/(b)", "(a)/call", "(b)/call", "(c)/call");
     std::printf("|---|---|---|---|---|\n");
     std::vector<Measured> all;
     std::vector<std::vector<Measured>> measured(others + 1);

@@ -6,7 +6,8 @@
 //   join(x, y), their sum, and actions(x), how many actions there are in it;
 //   passes(t, x), whether block or allow of term t keeps x;
 //   mapped(t, x), what hide or rename of term t makes of x;
-//   rules(t), each with exchange(x, y), which makes y of x where the left side lies inside;
+//   rules(t), each with apply(rest, sum), which takes the left side out of both and adds the right side to the sum, where the
+//   left side lies inside the rest, and undo(rest, sum);
 //   number(x), the label's number.
 #pragma once
 
@@ -164,22 +165,34 @@ template <class Form> class OrderedSets {
         }
     }
 
-    // Each label that is found is walked once: its results are tried only when it is new.
     bool add_communication(unsigned t, const Set &from, Set &set) {
-        std::vector<Bag> to_walk(from.begin(), from.end());
         set = from;
-        while (!to_walk.empty()) {
-            Bag x = std::move(to_walk.back());
-            to_walk.pop_back();
-            for (const auto &rule : form.rules(t)) {
-                Bag y;
-                if (rule.exchange(x, y) && set.insert(y).second) {
-                    to_walk.push_back(std::move(y));
-                }
-            }
-            if (set.size() > MOST_LABELS_OF_A_SET) {
+        const auto &rules = form.rules(t);
+        for (const Bag &x : from) {
+            Bag rest = x;
+            Bag sum = x;
+            if (!add_choices(rules.begin(), rules.end(), rest, sum, from, set)) {
                 return false;
             }
+        }
+        return true;
+    }
+
+    // Every choice of disjoint parts of what is left, those of a rule before those of the next, so that none is made twice. A
+    // choice that comes to a label of the operand is not followed: of that label all is left, so all that follows from the
+    // choice follows from it.
+    template <class Rule> bool add_choices(Rule rule, Rule end, Bag &rest, Bag &sum, const Set &from, Set &set) {
+        for (; rule != end; ++rule) {
+            if (!rule->apply(rest, sum)) {
+                continue;
+            }
+            if (from.count(sum) == 0) {
+                set.insert(sum);
+                if (set.size() > MOST_LABELS_OF_A_SET || !add_choices(rule, end, rest, sum, from, set)) {
+                    return false;
+                }
+            }
+            rule->undo(rest, sum);
         }
         return true;
     }

@@ -17,16 +17,6 @@ inline bool lies_inside(Label part, Label label) {
     return even_counts_reach(label, part) && even_counts_reach(label >> BITS_OF_A_COUNT, part >> BITS_OF_A_COUNT);
 }
 
-struct WordRule {
-    Label left;
-    Label right;
-
-    bool exchange(Label x, Label &y) const {
-        y = x - left + right;
-        return lies_inside(left, x);
-    }
-};
-
 // Every name of the list, with all the bits of its count.
 inline Label whole_counts(List names) {
     Label mask = 0;

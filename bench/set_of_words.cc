@@ -5,6 +5,25 @@
 
 namespace {
 
+struct WordRule {
+    Label left;
+    Label right;
+
+    bool apply(Label &rest, Label &sum) const {
+        if (!lies_inside(left, rest)) {
+            return false;
+        }
+        rest -= left;
+        sum += right - left;
+        return true;
+    }
+
+    void undo(Label &rest, Label &sum) const {
+        rest += left;
+        sum += left - right;
+    }
+};
+
 class PackedWords {
   public:
     using Bag = Label;

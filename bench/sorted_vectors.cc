@@ -1,5 +1,6 @@
 // Peer (c): as fast as it could be written by hand with sorted vectors. Sets only grow from round to round, so each term is
 // given the labels that are new in its operands, and only terms with such an operand are looked at.
+#include "choices.h"
 #include "packed_words.h"
 #include "peers.h"
 #include "runs.h"
@@ -30,8 +31,10 @@ struct GrowingSet {
 // Kept from call to call, so that a call allocates next to nothing.
 struct Workspace {
     GrowingSet sets[MOST_TERMS];
+    RuleOrder rules[MOST_TERMS];
     RunMerger merger;
-    std::vector<Label> frontier, found, scratch;
+    Choices choices;
+    std::vector<Label> scratch;
 };
 
 class SortedVectors {
@@ -57,6 +60,9 @@ class SortedVectors {
             w.sets[t].most_actions = 0;
             w.sets[t].users = w.sets[t].readers = 0;
             note_operands(t);
+            if (d.terms[t].kind == Kind::comm) {
+                w.rules[t].prepare(d.terms[t].list);
+            }
         }
         note_bodies();
     }
@@ -157,7 +163,7 @@ class SortedVectors {
             set.fresh = w.sets[term.first].fresh;
             return true;
         default:
-            return term.kind < Kind::block ? add_both(term, set) : add_images(term, w.sets[term.first].fresh, set);
+            return term.kind < Kind::block ? add_both(term, set) : add_images(t, w.sets[term.first], set);
         }
     }
 
@@ -232,7 +238,9 @@ class SortedVectors {
         return w.merger.take(run.count);
     }
 
-    bool add_images(const Term &term, const std::vector<Label> &from, GrowingSet &set) {
+    bool add_images(unsigned t, const GrowingSet &operand, GrowingSet &set) {
+        const Term &term = d.terms[t];
+        const std::vector<Label> &from = operand.fresh;
         switch (term.kind) {
         case Kind::block: {
             Label blocked = whole_counts(term.list);
@@ -245,7 +253,7 @@ class SortedVectors {
             });
             return true;
         case Kind::comm:
-            return add_communication(term, from, set);
+            return add_communication(t, operand, set);
         default:
             add_mapped(WordMap(term), from, set);
             return true;
@@ -266,35 +274,13 @@ class SortedVectors {
         leave_out(w.scratch, set.all, set.fresh);
     }
 
-    // By generations: each is what the rules make of the one before and what was not there yet, so each label is walked once.
-    bool add_communication(const Term &term, const std::vector<Label> &from, GrowingSet &set) {
-        leave_out(from, set.all, w.frontier);
-        w.found.clear();
-        while (!w.frontier.empty()) {
-            add_new(w.frontier, w.found);
-            if (w.found.size() > MOST_LABELS_OF_A_SET || !take_exchanges(term.list)) {
-                return false;
-            }
-            leave_out(w.merger.result(), set.all, w.scratch);
-            leave_out(w.scratch, w.found, w.frontier);
-        }
-        std::swap(set.fresh, w.found);
-        return true;
-    }
-
-    // A rule adds the same to each label that it fits, so that its results ascend as well.
-    bool take_exchanges(List rules) {
+    // The labels themselves, and what the rules make of those that are new.
+    bool add_communication(unsigned t, const GrowingSet &operand, GrowingSet &set) {
         w.merger.start();
-        for (const Label *rule = rules.begin(); rule < rules.end(); rule += 2) {
-            WordRule exchange{rule[0], rule[1]};
-            size_t count = 0;
-            for (Label label : w.frontier) {
-                count += exchange.exchange(label, w.merger.room()[count]);
-            }
-            if (count > 0 && !w.merger.take(count)) {
-                return false;
-            }
+        if (!take_fresh(operand) || !w.choices.take_results(w.rules[t], operand.fresh, operand.all, w.merger)) {
+            return false;
         }
+        leave_out(w.merger.result(), set.all, set.fresh);
         return true;
     }
 };

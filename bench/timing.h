@@ -9,6 +9,7 @@
 
 constexpr unsigned CONTENDERS = 4; // the call, then peers (a), (b) and (c)
 constexpr unsigned CALL = 0;
+constexpr unsigned PEER_B = 2;
 
 // The seconds that each contender takes for one description.
 using Times = std::array<double, CONTENDERS>;

@@ -161,9 +161,9 @@ def rename_twice(rng, one, _, at):
 
 
 def comm_twice(_, one, __, at):
-    # what the second rule makes, the first would take
+    # what the inner rule makes, the outer takes; in one list it is set aside
     inner, outer = ["done:1.busy:1>close"], ["start:1.close:1>done"]
-    sides = ["act start", "act busy", "act close", f"sync {at} {at + 1}", f"sync {at + 3} {at + 2}"]
+    sides = ["act start", "act done", "act busy", f"sync {at} {at + 1}", f"sync {at + 3} {at + 2}"]
     sides += [f"choice {one} {at + 4}", over("comm", at + 5, inner)]
     return [*sides, over("comm", at + 6, outer)], [*sides, over("comm", at + 5, inner + outer)]
 

@@ -3,6 +3,7 @@ use crate::word_at;
 use labels::LABEL_WORDS;
 use labels::Label;
 ghost use mathlib.Core.Path.{_≡_};
+ghost use lib.Dec.{eqb};
 ghost use lib.ListN.{length, getD, set};
 ghost use Rattle.labels.specs.Packing.{code, packed};
 ghost use Rattle.areas.specs.Rows.{held, movedUp};
@@ -20,6 +21,17 @@ pub fn read_label(words: &[u64], i: usize) -> Label
 {
     Label {
         word: word_at(words, i),
+    }
+}
+
+// Whether the i-th label is the given one; past the end stands the empty one.
+pub fn label_is(words: &[u64], i: usize, label: Label) -> bool
+    ensures { λ r. ⌜ r ≡ eqb (getD (held (now (words .entry))) i 0) (code label) ⌝ }
+{
+    if i < words.len() {
+        words[i] == label.word
+    } else {
+        0 == label.word
     }
 }
 

@@ -34,9 +34,9 @@ module _ (room : ℕ) where
   abbrev Stays : (List ℕ → Building) → Type 0
   Stays f = (s : List ℕ) → length s ≤ room → length (f s .set) ≤ room
 
-  through-stays : (way : Way) (list a : List ℕ) → Stays (throughBuilt room way list a)
+  through-stays : (way : Way) (list all a : List ℕ) → Stays (throughBuilt room way list all a)
   unfolding Steady
-  through-stays way list a s l = let h = steady-each room (imaged room way list) a (steady-imaged room way list) s in omega arith
+  through-stays way list all a s l = let h = steady-each room (imaged room way list all) a (steady-imaged room way list all) s in omega arith
 
   product-stays : (a b : List ℕ) → Stays (multiplied room a b)
   unfolding Steady
@@ -79,7 +79,8 @@ module _ (room : ℕ) where
 
   either-stays : (newA newB : List ℕ) → Stays (eitherAdded room newA newB)
   either-stays newA newB s l =
-      stays-next (throughBuilt room Copy [] newA s) (throughBuilt room Copy [] newB) (through-stays Copy [] newA s l) (through-stays Copy [] newB)
+      stays-next (throughBuilt room Copy [] [] newA s) (throughBuilt room Copy [] [] newB) (through-stays Copy [] [] newA s l)
+      (through-stays Copy [] [] newB)
 
   joint-stays : (newA a newB b : List ℕ) → Stays (jointAdded room newA a newB b)
   joint-stays newA a newB b s l = stays-next (multiplied room newA b s) (multiplied room newB a) (product-stays newA b s l) (product-stays newB a)
@@ -88,9 +89,10 @@ module _ (room : ℕ) where
   both-stays newA a newB b s l = stays-next (eitherAdded room newA newB s) (jointAdded room newA a newB b) (either-stays newA newB s l)
       (joint-stays newA a newB b)
 
-  pub through-grown-fits : (old : List ℕ) (way : Way) (list new : List ℕ)
-      → length (andThen (copyBuilt room old []) (throughBuilt room way list new) .set) ≤ room
-  through-grown-fits old way list new = stays-next (copyBuilt room old []) (throughBuilt room way list new) (copy-fits old) (through-stays way list new)
+  pub through-grown-fits : (old : List ℕ) (way : Way) (list all new : List ℕ)
+      → length (andThen (copyBuilt room old []) (throughBuilt room way list all new) .set) ≤ room
+  through-grown-fits old way list all new =
+      stays-next (copyBuilt room old []) (throughBuilt room way list all new) (copy-fits old) (through-stays way list all new)
 
   whole-fits : (sums : Bool) (a b : List ℕ) → length (wholeOf sums room a b [] .set) ≤ room
   whole-fits true a b = both-fits a b

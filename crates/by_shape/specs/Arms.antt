@@ -29,4 +29,5 @@ twoGrown sums room at before this work old t u s =
 
 abbrev pub throughGrown : (room at : ℕ) (store before this work old : List ℕ) → Operator → ℕ → List ℕ → Building
 throughGrown room at store before this work old o t s =
-    andThen (copyBuilt room old s) (throughBuilt room (wayFor o) (wordsFor store o) (newOf at before this work t))
+    andThen (copyBuilt room old s)
+    (throughBuilt room (wayFor o) (wordsFor store o) (partIn at half this t work) (newOf at before this work t))

@@ -1,6 +1,6 @@
 -- The laws of communication, each file after those that it cites.
--- steady-eachRule, steady-closed: no step shortens a set or takes it past the room; following-..: the loop over the rules;
--- closed-..: the answers of `close`
-pub mod Closure
--- comm-outcome: on the numbers of labels it is the comm of the labels, or passes a limit
-pub mod Communication
+-- put-..: a state that is known, its label and what comes of it; following-..: the loop over the rules; alone-walking, fresh-walking: the
+-- start; steady-entered, steady-closed, grown-set, grown-reached
+pub mod Walking
+-- closing-..: the loop over the labels of a part
+pub mod LabelByLabel

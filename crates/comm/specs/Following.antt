@@ -1,25 +1,27 @@
--- A label with all that follows from it by rules.
+-- A set that is added to, with a memory of states: what is asked of both, and what is promised.
 -- Assumes nothing.
-use mathlib.Core.List.{List, [], _∷_}
-use Prim.Native.Nat.{ℕ, zero, suc}
-use Rattle.sets.specs.Inserting.{inserted}
-use Rattle.sets.specs.Building.{Building, done, andThen, followedBy, enter, taken}
-use Rattle.comm.specs.Rules.{Exchange, exchangeOf}
+use mathlib.Core.Path.{_≡_}
+use mathlib.Core.List.{List}
+use Prim.Native.Nat.{ℕ, _-_, _≤_, _<_}
+use lib.ListN.{length}
+use Rattle.meaning.specs.Sets.{Rising}
+use Rattle.parts.specs.declared.Part.{Part}
+use Rattle.parts.specs.declared.Target.{Target}
+use Rattle.parts.specs.Parts.{setAt, wordsOf}
+use Rattle.sets.specs.declared.Built.{Built}
+use Rattle.sets.specs.declared.Built.the-variants.{Holds}
+use Rattle.sets.specs.Building.{GrownAt}
+use Rattle.choices.specs.Following.{entered}
+use Rattle.memory.specs.Memory.{Recalls}
 
--- each rule in turn
-unfoldable pub eachRule : (ℕ → List ℕ → Building) → List Exchange → ℕ → List ℕ → Building
-eachRule step [] w s = done s
-eachRule step (r ∷ rs) w s = andThen (taken step (exchangeOf (r .left) (r .right) w) s) (eachRule step rs w)
+-- The set lies in the words; where the memory has room for a state, the set ascends, so that what is in it stays found; and what is
+-- kept is true of the set.
+pub record Walking (target : Target) (operand : Part) (ls words states : List ℕ) : Type 0 where
+  pub within : target .len ≤ length words - target .at
+  pub rising : 2 < length states → Rising (setAt (target .at) (target .len) words)
+  pub recalls : Recalls (wordsOf (target .at) operand words) ls states (setAt (target .at) (target .len) words)
 
--- How many applications one after the other are followed: an application leaves fewer actions than there were, and a label has
--- at most 31.
-abbrev pub mostApplications : ℕ
-mostApplications = 31
-
--- A label with all that follows from it by at most so many applications, one after the other. From a label that was there
--- already nothing is followed again. Which labels are in when the room runs out depends on the order of the walk, so the walk
--- is what is written here. Where the room does not run out, the set holds the labels before and all that follow by rules, and no
--- others: `comm-outcome` in proofs/Communication.antt.
-unfoldable pub closed : ℕ → List Exchange → ℕ → ℕ → List ℕ → Building
-closed room rs zero w s = enter room w s
-closed room rs (suc depth) w s = followedBy (inserted room w s) w (eachRule (closed room rs depth) rs w) s
+-- Labels are put in one after the other, and what is kept is true of the set with them.
+pub record Walked (labels : List ℕ) (target : Target) (operand : Part) (ls before after states : List ℕ) (r : Built) : Type 0 where
+  pub grown : GrownAt target (λ room. entered room labels) before after r
+  pub recalls : (n : ℕ) → r ≡ Holds n → Recalls (wordsOf (target .at) operand before) ls states (setAt (target .at) n after)

@@ -1,3 +1,3 @@
--- What communication means, over lists of numbers, each the number of a label.
-pub mod Rules
+-- What the functions of communication ask of a set and promise of it.
 pub mod Following
+pub mod Closing

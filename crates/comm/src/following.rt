@@ -1,72 +1,85 @@
-// The comm closure. A label that is put in is followed at once, rule by rule, and each label that it gives in the same way
-// before the next rule. A label that was there already is followed, or being followed, so that each label of the result is
-// followed once, whatever the order of the applications.
-use crate::rules::offer;
-use areas::rows::labels_in;
-use labels::Label;
+// What comes of a label by rules. They are taken from the last to the first, each any number of times before the next, so that the
+// same applications are met once, whatever the order in which they could be made. Of a state that is known nothing new comes.
+use memory::known;
+use memory::remember;
+use parts::Part;
 use parts::Target;
-use parts::placing::reach;
+use rules::State;
+use rules::Step;
+use rules::steps::step;
 use sets::Built;
-use sets::Inserted;
-use sets::Offer;
-use sets::inserting::insert;
-ghost use Prim.Native.Nat.{_-_, _≤_};
-ghost use lib.ListN.{length};
+use sets::inserting::enter;
 ghost use Rattle.areas.specs.Rows.{held};
 ghost use Rattle.labels.specs.Packing.{code};
-ghost use Rattle.sets.specs.Building.{GrownAt};
-ghost use Rattle.comm.specs.Following.{closed, eachRule};
-ghost use Rattle.comm.specs.Rules.{exchangesIn};
+ghost use Rattle.parts.specs.Parts.{wordsOf};
+ghost use Rattle.rules.specs.Rules.{exchangesBefore};
+ghost use Rattle.choices.specs.Following.{eachRule, comesOf};
+ghost use Rattle.comm.specs.Following.{Walking, Walked};
 
-// How many applications one after the other are followed. A rule leaves fewer actions than there were, so that a label of
-// 31 actions needs fewer.
-pub const MOST_APPLICATIONS: usize = 31;
-
-// A label, and all that follows from it.
-pub fn close(words: &mut [u64], target: Target, rules: &[u64], label: Label, depth: usize) -> Built
-    ensures { λ r. ⌜ GrownAt target (λ room. closed room (exchangesIn (held (now (rules .entry)))) depth (code label))
-        (held (now (words .entry))) (held (now (words .exit))) r ⌝ }
+// The label of a state, and all that comes of it by the rules before a place.
+pub fn put(
+    words: &mut [u64],
+    states: &mut [u64],
+    target: Target,
+    operand: Part,
+    rules: &[u64],
+    before: usize,
+    state: State,
+) -> Built
+    requires { ⌜ Walking target operand (held (now rules)) (held (now words)) (held (now states)) ⌝ }
+    ensures { λ r. ⌜ Walked
+        (comesOf (wordsOf (target .at) operand (held (now (words .entry)))) (exchangesBefore (held (now (rules .entry))) before)
+        (code (state .rest)) (code (state .sum)))
+        target operand (held (now (rules .entry))) (held (now (words .entry))) (held (now (words .exit))) (held (now (states .exit))) r ⌝ }
 {
+    if known(states, rules, before, state) {
+        return Built::Holds(target.len);
+    }
     let at = target.at;
     let most = target.most;
-    let count = reach(words, at, target.len);
-    let answer = insert(words, target, label);
-    match answer {
-        Inserted::Full => Built::TooLarge,
-        Inserted::Present => Built::Holds(count),
-        Inserted::Added => {
-            let len = count + 1;
-            if depth == 0 {
-                Built::Holds(len)
-            } else {
-                follow(words, Target { at, len, most }, rules, label, depth - 1)
-            }
-        }
-    }
+    let answer = enter(words, target, state.sum);
+    let Built::Holds(len) = answer else {
+        return Built::TooLarge;
+    };
+    let place = Target { at, len, most };
+    let grown = follow(words, states, place, operand, rules, before, state);
+    let Built::Holds(count) = grown else {
+        return Built::TooLarge;
+    };
+    remember(states, before, state);
+    Built::Holds(count)
 }
 
-// All that follows from a label that is put in already.
-fn follow(words: &mut [u64], target: Target, rules: &[u64], label: Label, depth: usize) -> Built
-    requires { ⌜ target .len ≤ length (held (now words)) - target .at ⌝ }
-    ensures { λ r. ⌜ GrownAt target
-        (λ room. eachRule (closed room (exchangesIn (held (now (rules .entry)))) depth) (exchangesIn (held (now (rules .entry)))) (code label))
-        (held (now (words .entry))) (held (now (words .exit))) r ⌝ }
+// All that comes of a state whose label is put in already.
+fn follow(
+    words: &mut [u64],
+    states: &mut [u64],
+    target: Target,
+    operand: Part,
+    rules: &[u64],
+    before: usize,
+    state: State,
+) -> Built
+    requires { ⌜ Walking target operand (held (now rules)) (held (now words)) (held (now states)) ⌝ }
+    ensures { λ r. ⌜ Walked
+        (eachRule (comesOf (wordsOf (target .at) operand (held (now (words .entry))))) (wordsOf (target .at) operand (held (now (words .entry))))
+        (exchangesBefore (held (now (rules .entry))) before) (code (state .rest)) (code (state .sum)))
+        target operand (held (now (rules .entry))) (held (now (words .entry))) (held (now (words .exit))) (held (now (states .exit))) r ⌝ }
 {
     let at = target.at;
     let most = target.most;
     let mut len = target.len;
-    let mut i = 0;
-    while i + 1 < labels_in(rules) {
-        let made = offer(rules, i, label);
-        i += 2;
+    let mut i = before;
+    while 2 <= i {
+        let last = i;
+        i -= 2;
+        let made = step(words, operand, at, rules, i, state);
         match made {
-            Offer::Nothing => {}
-            Offer::TooLong => {
-                return Built::TooLarge;
-            }
-            Offer::Next(next) => {
-                let step = close(words, Target { at, len, most }, rules, next, depth);
-                let Built::Holds(n) = step else {
+            Step::Nothing => {}
+            Step::To(next) => {
+                let place = Target { at, len, most };
+                let grown = put(words, states, place, operand, rules, last, next);
+                let Built::Holds(n) = grown else {
                     return Built::TooLarge;
                 };
                 len = n;

@@ -1,3 +1,3 @@
-// Communication: what rules make of labels, and a set with all that follows from its labels by rules.
-pub mod following;
-mod rules;
+// Communication: rules applied to disjoint parts of labels, any number of them, and a set with all labels that come of it.
+pub mod closing;
+mod following;

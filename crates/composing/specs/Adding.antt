@@ -24,17 +24,22 @@ wordsIn p ls = part (p .from) (p .to) ls
 abbrev pub newFrom : Growth → List ℕ → List ℕ
 newFrom g ls = fresh (wordsIn (g .known) ls) (wordsIn (g .part) ls)
 
-abbrev pub givenFrom : ℕ → List ℕ → Giving → ℕ → List ℕ → Building
-givenFrom room ls (Through way) = imaged room way []
-givenFrom room ls (Times by) = row room (wordsIn by ls)
+abbrev pub givenFrom : ℕ → List ℕ → Giving → (all : List ℕ) → ℕ → List ℕ → Building
+givenFrom room ls (Through way) all = imaged room way [] all
+givenFrom room ls (Times by) all = row room (wordsIn by ls)
 
--- what the new labels of one set give, and then those of another
+-- what the new labels of a set give
+abbrev pub addBy : Growth → Giving → ℕ → List ℕ → List ℕ → Building
+addBy a g room ls = each (givenFrom room ls g (wordsIn (a .part) ls)) (newFrom a ls)
+
+-- the same of one set, and then of another
 abbrev pub eachAdded : ℕ → List ℕ → Growth → Giving → Growth → Giving → List ℕ → Building
-eachAdded room ls a byA b byB s = andThen (each (givenFrom room ls byA) (newFrom a ls) s) (each (givenFrom room ls byB) (newFrom b ls))
+eachAdded room ls a byA b byB s = andThen (addBy a byA room ls s) (addBy b byB room ls)
 
--- What is added to a set for the new labels of two others: those labels; every sum with one of them.
+-- What is added to a set for the new labels of two others: those labels; every sum with one of them. The copy of a
+-- label does not depend on the others of its set, so that none of them are given.
 abbrev pub eitherAdded : ℕ → (newA newB : List ℕ) → List ℕ → Building
-eitherAdded room newA newB s = andThen (throughBuilt room Copy [] newA s) (throughBuilt room Copy [] newB)
+eitherAdded room newA newB s = andThen (throughBuilt room Copy [] [] newA s) (throughBuilt room Copy [] [] newB)
 
 abbrev pub jointAdded : ℕ → (newA a newB b : List ℕ) → List ℕ → Building
 jointAdded room newA a newB b s = andThen (multiplied room newA b s) (multiplied room newB a)

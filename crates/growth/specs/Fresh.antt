@@ -40,15 +40,16 @@ pub record Ends (g : Growth) (t : Target) (ls : List ℕ) : Type 0 where
 abbrev pub newIn : ℕ → Growth → List ℕ → List ℕ
 newIn at g ls = fresh (wordsOf at (g .known) ls) (wordsOf at (g .part) ls)
 
--- What a label gives: what a way makes of it, or its sum with each label of a part.
-abbrev pub given : (room at : ℕ) → List ℕ → Giving → List ℕ → ℕ → List ℕ → Building
-given room at ls (Through way) list = imaged room way list
-given room at ls (Times by) list = row room (wordsOf at by ls)
+-- What a label gives: what a way makes of it, where `all` are the labels of its operand, or its sum with each label of a part.
+abbrev pub given : (room at : ℕ) → List ℕ → Giving → (list all : List ℕ) → ℕ → List ℕ → Building
+given room at ls (Through way) list all = imaged room way list all
+given room at ls (Times by) list all = row room (wordsOf at by ls)
 
 -- what the labels of a list give goes into a set, one after the other
-abbrev pub Gives : Target → Giving → (list labels before after : List ℕ) → Built → Type 0
-Gives t giving list labels before after r = GrownAt t (λ room. each (given room (t .at) before giving list) labels) before after r
+abbrev pub Gives : Target → Giving → (list all labels before after : List ℕ) → Built → Type 0
+Gives t giving list all labels before after r =
+    GrownAt t (λ room. each (given room (t .at) before giving list all) labels) before after r
 
 -- what a way makes of each label of a list goes into a set
-abbrev pub throughBuilt : ℕ → Way → List ℕ → List ℕ → List ℕ → Building
-throughBuilt room way list a s = each (imaged room way list) a s
+abbrev pub throughBuilt : ℕ → Way → (list all : List ℕ) → List ℕ → List ℕ → Building
+throughBuilt room way list all a s = each (imaged room way list all) a s

@@ -18,12 +18,20 @@ ghost use lib.ListN.{getD};
 ghost use Rattle.parts.specs.Parts.{wordsOf};
 ghost use Rattle.growth.specs.Fresh.{Ends, freshIn, newIn, Gives};
 
-// What the labels of a part give.
-fn add_part(work: &mut [u64], giving: Giving, part: Part, list: &[u64], target: Target) -> Built
-    ensures { λ r. ⌜ Gives target giving (now (list .entry)) (wordsOf (target .at) part (now (work .entry))) (now (work .entry)) (now (work .exit)) r ⌝ }
+// What the labels of a part give, which are all labels of an operand or some of them.
+fn add_part(
+    work: &mut [u64],
+    giving: Giving,
+    part: Part,
+    operand: Part,
+    list: &[u64],
+    target: Target,
+) -> Built
+    ensures { λ r. ⌜ Gives target giving (now (list .entry)) (wordsOf (target .at) operand (now (work .entry)))
+        (wordsOf (target .at) part (now (work .entry))) (now (work .entry)) (now (work .exit)) r ⌝ }
 {
     match giving {
-        Giving::Through(way) => add_image(work, part, way, list, target),
+        Giving::Through(way) => add_image(work, part, operand, way, list, target),
         Giving::Times(by) => add_product(work, part, by, target),
     }
 }
@@ -38,7 +46,8 @@ fn stands_next(work: &[u64], next: usize, end: usize, i: usize) -> bool
 // What each label of a set gives that does not stand next among the known ones. Both parts end before the place.
 fn add_fresh(work: &mut [u64], set: Growth, giving: Giving, list: &[u64], target: Target) -> Built
     requires { ⌜ Ends set target (now work) ⌝ }
-    ensures { λ r. ⌜ Gives target giving (now (list .entry)) (freshIn set (now (work .entry))) (now (work .entry)) (now (work .exit)) r ⌝ }
+    ensures { λ r. ⌜ Gives target giving (now (list .entry)) (wordsOf (target .at) (set .part) (now (work .entry)))
+        (freshIn set (now (work .entry))) (now (work .entry)) (now (work .exit)) r ⌝ }
 {
     let mut len = target.len;
     let mut next = set.known.from;
@@ -53,7 +62,7 @@ fn add_fresh(work: &mut [u64], set: Growth, giving: Giving, list: &[u64], target
                 len,
                 most: target.most,
             };
-            let step = add_part(work, giving, one, list, place);
+            let step = add_part(work, giving, one, set.part, list, place);
             let Built::Holds(n) = step else {
                 return Built::TooLarge;
             };
@@ -66,14 +75,15 @@ fn add_fresh(work: &mut [u64], set: Growth, giving: Giving, list: &[u64], target
 
 // What the new labels of a set give. Where nothing was known all are new.
 pub fn add_new(work: &mut [u64], set: Growth, giving: Giving, list: &[u64], target: Target) -> Built
-    ensures { λ r. ⌜ Gives target giving (now (list .entry)) (newIn (target .at) set (now (work .entry))) (now (work .entry)) (now (work .exit)) r ⌝ }
+    ensures { λ r. ⌜ Gives target giving (now (list .entry)) (wordsOf (target .at) (set .part) (now (work .entry)))
+        (newIn (target .at) set (now (work .entry))) (now (work .entry)) (now (work .exit)) r ⌝ }
 {
     let at = target.at;
     let known = set.known;
     let part = set.part;
     let known_end = end_before(work, known.to, at);
     if known_end <= known.from {
-        return add_part(work, giving, part, list, target);
+        return add_part(work, giving, part, part, list, target);
     }
     let ended = Growth {
         known: Part {

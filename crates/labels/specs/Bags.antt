@@ -1,7 +1,9 @@
 -- The bag that a word stands for, its size, and the sum of two.
 -- Assumes nothing.
+use mathlib.Core.Bool.{Bool, true, _&&_, _||_}
+use mathlib.Core.List.{[], _∷_}
 use Prim.Native.Nat.{ℕ, _+_, _-_, _*_, _/_, _%_, _^_}
-use lib.Dec.{leb, ltb}
+use lib.Dec.{eqb, leb, ltb}
 use Rattle.meaning.specs.Labels.{labelOf, size}
 use Rattle.meaning.specs.Labels as meaning
 use Rattle.meaning.specs.Rounds.{pick}
@@ -23,3 +25,10 @@ sizeOf w = folded (size (bag w))
 
 unfoldable pub sumOf : ℕ → ℕ → Sum
 sumOf a b = pick (ltb 31 (sizeOf a + sizeOf b)) Over (Of (packed ((a + b) % 2 ^ 64)))
+
+-- Whether the third label has no fewer than the second of each name that the first has.
+unfoldable pub asMuch : meaning.Label → meaning.Label → meaning.Label → Bool
+asMuch [] a b = true
+asMuch (n ∷ names) [] b = true
+asMuch (n ∷ names) (x ∷ a) [] = true
+asMuch (n ∷ names) (x ∷ a) (y ∷ b) = (eqb n 0 || leb x y) && asMuch names a b

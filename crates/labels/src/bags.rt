@@ -4,10 +4,10 @@ use crate::MOST_ACTIONS;
 use crate::NAMES;
 use crate::Sum;
 ghost use mathlib.Core.Path.{_≡_};
-ghost use Prim.Native.Nat.{_-_, _≤_};
+ghost use Prim.Native.Nat.{_+_, _-_, _%_, _^_};
 ghost use Rattle.meaning.specs.Labels.{number, inside, single};
 ghost use Rattle.labels.specs.Packing.{code, packed};
-ghost use Rattle.labels.specs.Bags.{bag, sizeOf, sumOf};
+ghost use Rattle.labels.specs.Bags.{bag, sizeOf, sumOf, asMuch};
 
 // How many actions a label of at most 31 has. 32 is 1 modulo 31, so that its number and its size leave the same remainder.
 pub fn size(a: Label) -> u64
@@ -20,6 +20,16 @@ pub fn size(a: Label) -> u64
     if rest == 0 { MOST_ACTIONS } else { rest }
 }
 
+// Two labels together, where it is known that they have at most 31 actions; for others it is the sum of the words, as far as
+// it fits.
+pub fn joined(a: Label, b: Label) -> Label
+    ensures { λ r. ⌜ r ≡ packed ((code a + code b) % 2 ^ 64) ⌝ }
+{
+    Label {
+        word: std::num::wrapping_add_u64(a.word, b.word),
+    }
+}
+
 // The sum of two labels, unless it has over 31 actions.
 pub fn sum(a: Label, b: Label) -> Sum
     ensures { λ r. ⌜ r ≡ sumOf (code a) (code b) ⌝ }
@@ -27,9 +37,7 @@ pub fn sum(a: Label, b: Label) -> Sum
     if MOST_ACTIONS < size(a) + size(b) {
         Sum::Over
     } else {
-        Sum::Of(Label {
-            word: std::num::wrapping_add_u64(a.word, b.word),
-        })
+        Sum::Of(joined(a, b))
     }
 }
 
@@ -43,6 +51,24 @@ pub fn inside(a: Label, b: Label) -> bool
         if large % 32 < small % 32 {
             return false;
         }
+        small /= 32;
+        large /= 32;
+    }
+    true
+}
+
+// Whether b has no fewer than a of each name that is in a third label.
+pub fn as_much(names: Label, a: Label, b: Label) -> bool
+    ensures { λ r. ⌜ r ≡ asMuch (bag (code names)) (bag (code a)) (bag (code b)) ⌝ }
+{
+    let mut named = names.word;
+    let mut small = a.word;
+    let mut large = b.word;
+    while named != 0 {
+        if named % 32 != 0 && large % 32 < small % 32 {
+            return false;
+        }
+        named /= 32;
         small /= 32;
         large /= 32;
     }

@@ -24,3 +24,17 @@ pub fn same(a: Label, b: Label) -> bool
 {
     a.word == b.word
 }
+
+// The label of a number.
+pub fn label_of(number: u64) -> Label
+    ensures { λ r. ⌜ r ≡ packed number ⌝ }
+{
+    Label { word: number }
+}
+
+// The number of a label.
+pub fn number_of(a: Label) -> u64
+    ensures { λ r. ⌜ r ≡ code a ⌝ }
+{
+    a.word
+}

@@ -1,10 +1,10 @@
 -- P1 to P8, the examples that the order asks to be proved, as one table of cases that the checker computes over the definitions: each description is legal,
--- and its answer has the round count and the labels that the row gives. The last rows are no P: an allow list and
--- an order that list nothing both leave tau; and `order=all` widened to an order that names every label of one name.
+-- and its answer has the round count and the labels that the row gives. Two rows after P6 and the last rows are no P: rules applied to parts of one label;
+-- an allow list and an order that list nothing both leave tau; and `order=all` widened to an order that names every label of one name.
 -- Assumes nothing.
 use mathlib.Core.Logic.{Dec·and}
 use mathlib.Core.Bool.{Bool, true, false, _&&_}
-use mathlib.Core.List.{List, [], _∷_, _++_}
+use mathlib.Core.List.{List, [], _∷_, _++_, flatMap}
 use Prim.Native.Nat.{ℕ, zero, suc}
 use native.Mathlib.Decide.{decLe, decLt, ℕ-discrete}
 use lib.Dec.{T, eqb}
@@ -12,7 +12,7 @@ use Rattle.meaning.specs.Bytes.{Text, ascii}
 use Rattle.meaning.specs.Labels.{Label, size, number, isTau, plus, inside, minus, clear, without, renamedFrom, order}
 use Rattle.meaning.specs.Sets.{member, insert, ascending, spread, product}
 use Rattle.meaning.specs.Descriptions.{Pair, Rule, hide, rename, comm, allow, Term, act, tau, ref, seq, merge, sync, wrap, Order, all, only, Description}
-use Rattle.meaning.specs.Rounds.{target, allowed, applied, communicated, worked, next, roundSets}
+use Rattle.meaning.specs.Rounds.{target, allowed, communicated, worked, next, roundSets}
 use Rattle.meaning.specs.Limits.{total, someLong, someOver, over}
 use Rattle.meaning.specs.Answers.{Outcome, tooLarge, listed, cut, sameLabels, sameSets, answerFrom, answer}
 use Rattle.meaning.proofs.Legality.{legal?, legalTest}
@@ -30,7 +30,7 @@ case d o rounds labels = record { given = d; order = o; rounds = rounds; labels 
 abbrev letters : List Text
 letters = ascii "a" ∷ ascii "b" ∷ ascii "c" ∷ ascii "d" ∷ ascii "e" ∷ []
 
-abbrev abcde : ℕ → ℕ → ℕ → ℕ → ℕ → Label
+abbrev pub abcde : ℕ → ℕ → ℕ → ℕ → ℕ → Label
 abcde a b c d e = a ∷ b ∷ c ∷ d ∷ e ∷ []
 
 abbrev described : List Term → List ℕ → ℕ → Description
@@ -52,18 +52,28 @@ stripe =
       root = 4;
     }
 
--- P4: X = a then (X with a renamed to b). P5: a:2.b:1 with a and b exchanged. P6: two rules, the second of which takes the result
--- of the first.
+-- P4: X = a then (X with a renamed to b). P5: a:2.b:1 with a and b exchanged.
 abbrev later : Description
 later = described (act 0 ∷ ref 0 ∷ wrap (rename (pair 0 1 ∷ [])) 1 ∷ seq 0 2 ∷ []) (3 ∷ []) 3
 
 abbrev exchanged : Description
 exchanged = described (act 0 ∷ sync 0 0 ∷ act 1 ∷ sync 1 2 ∷ wrap (rename (pair 0 1 ∷ pair 1 0 ∷ [])) 3 ∷ []) [] 4
 
-abbrev fedBack : Description
-fedBack =
+-- P6: the second rule asks for a c, and the only c is a result of the first. After P6: a:2>a on a:4, which gives a:2 by two
+-- applications and never a:1; and a:2>b,b:2>c on a:2.b:2, where both rules apply since each has a part of its own.
+abbrev pub chained : List Rule
+chained = rule (abcde 1 1 0 0 0) 2 ∷ rule (abcde 0 0 1 1 0) 4 ∷ []
+
+abbrev finished : Description
+finished = described (act 0 ∷ act 1 ∷ sync 0 1 ∷ act 3 ∷ sync 2 3 ∷ wrap (comm chained) 4 ∷ []) [] 5
+
+abbrev halved : Description
+halved = described (act 0 ∷ sync 0 0 ∷ sync 1 1 ∷ wrap (comm (rule (abcde 2 0 0 0 0) 0 ∷ [])) 2 ∷ []) [] 3
+
+abbrev apart : Description
+apart =
     described
-    (act 0 ∷ act 1 ∷ sync 0 1 ∷ act 3 ∷ sync 2 3 ∷ wrap (comm (rule (abcde 1 1 0 0 0) 2 ∷ rule (abcde 0 0 1 1 0) 4 ∷ [])) 4 ∷ []) [] 5
+    (act 0 ∷ act 1 ∷ sync 0 0 ∷ sync 1 1 ∷ sync 2 3 ∷ wrap (comm (rule (abcde 2 0 0 0 0) 1 ∷ rule (abcde 0 2 0 0 0) 2 ∷ [])) 4 ∷ []) [] 5
 
 -- P7: a hidden in a:2. P8: sync of a and tau. Last: P7 under an allow list.
 abbrev hidden : Description
@@ -91,7 +101,9 @@ table =
     ∷ case (described (ref 0 ∷ []) (0 ∷ []) 0) all 1 []
     ∷ case later all 3 (abcde 1 0 0 0 0 ∷ abcde 0 1 0 0 0 ∷ [])
     ∷ case exchanged all 1 (abcde 1 2 0 0 0 ∷ [])
-    ∷ case fedBack all 1 (abcde 1 1 0 1 0 ∷ abcde 0 0 1 1 0 ∷ abcde 0 0 0 0 1 ∷ [])
+    ∷ case finished all 1 (abcde 1 1 0 1 0 ∷ abcde 0 0 1 1 0 ∷ [])
+    ∷ case halved all 1 (abcde 2 0 0 0 0 ∷ abcde 3 0 0 0 0 ∷ abcde 4 0 0 0 0 ∷ [])
+    ∷ case apart all 1 (abcde 2 2 0 0 0 ∷ abcde 0 3 0 0 0 ∷ abcde 2 0 1 0 0 ∷ abcde 0 1 1 0 0 ∷ [])
     ∷ case hidden all 1 (abcde 0 0 0 0 0 ∷ [])
     ∷ case synced all 1 (abcde 1 0 0 0 0 ∷ [])
     ∷ case allowedTau (only []) 1 (abcde 0 0 0 0 0 ∷ [])
@@ -113,6 +125,6 @@ all-hold (c ∷ cs) = holds c && all-hold cs
 pub computed : T (all-hold table)
 unfolding all-hold holds says upTo legalTest legal? decLe decLt ℕ-discrete Dec·and
     answer answerFrom cut sameLabels sameSets over total someOver someLong roundSets next worked
-    communicated applied allowed target product spread ascending insert member order
+    communicated flatMap allowed target product spread ascending insert member order
     renamedFrom without clear minus inside plus isTau number size
 computed = tt

@@ -31,8 +31,10 @@ pub mod Growth
 pub mod Stability
 -- worked-is, sets-meet, sets-least: the sets of terms are the least ones that meet the rules
 pub mod Least
--- in-applied, rule-legal, length-image, acts-image: what operators make of labels
+-- bound-loses-nothing, image-acts, acts-image, length-image: what operators make of labels in sets is what they do on runs
 pub mod Operators
+-- comm-fedBack, fedBack-more: a rule for `comm` in which results take part again gives every label of `comm`, and more
+pub mod FedBack
 -- onRun→inSet: every label on any finite run is in the root's set
 pub mod Soundness
 -- long→someLong, over-cases, over-grows, round-passes, rounds-bound: a limit that a part passes the whole passes

@@ -3,7 +3,7 @@
 use mathlib.Core.Path.{_≡_, refl, sym, ap, subst, _∙_}
 use mathlib.Core.Logic.{_⊎_, inl, inr, _↔_}
 use mathlib.Core.Bool.{Bool, true, false}
-use mathlib.Core.List.{List, [], _∷_, _++_, map}
+use mathlib.Core.List.{List, [], _∷_, _++_, map, flatMap}
 use Prim.Native.Nat.{Ordering, Ordering·lt, Ordering·eq, Ordering·gt}
 use lib.Dec.{T, isEq}
 use Rattle.meaning.specs.Labels.{Label, order, plus}
@@ -40,6 +40,25 @@ in-map→ f (a ∷ s) b (inr m) = let x = in-map→ f s b m in record { source =
 pub in-map : {A B : Type 0} (f : A → B) (s : List A) (a : A) → a ∈ s → f a ∈ map f s
 in-map f (b ∷ s) a (inl e) = inl (ap f e)
 in-map f (b ∷ s) a (inr m) = inr (in-map f s a m)
+
+-- What some member of a list gives through f.
+pub record Given {A B : Type 0} (f : A → List B) (s : List A) (b : B) : Type 0 where
+  pub source : A
+  pub there : source ∈ s
+  pub gives : b ∈ f source
+
+pub in-flatMap→ : {A B : Type 0} (f : A → List B) (s : List A) (b : B) → b ∈ flatMap f s → Given f s b
+unfolding flatMap
+in-flatMap→ f (a ∷ s) b m = pick (in-append b (f a) (flatMap f s) .0 m) (in-flatMap→ f s b)
+  where
+    pick : (b ∈ f a) ⊎ (b ∈ flatMap f s) → (b ∈ flatMap f s → Given f s b) → Given f (a ∷ s) b
+    pick (inl k) more = record { source = a; there = inl refl; gives = k }
+    pick (inr k) more = let x = more k in record { source = x .source; there = inr (x .there); gives = x .gives }
+
+pub in-flatMap : {A B : Type 0} (f : A → List B) (s : List A) (a : A) (b : B) → a ∈ s → b ∈ f a → b ∈ flatMap f s
+unfolding flatMap
+in-flatMap {A = A} f (c ∷ s) a b (inl e) m = in-append b (f c) (flatMap f s) .1 (inl (subst (λ (x : A). b ∈ f x) e m))
+in-flatMap f (c ∷ s) a b (inr k) m = in-append b (f c) (flatMap f s) .1 (inr (in-flatMap f s a b k m))
 
 -- A label that some label with property P gives through f, and the sum of a label with P and one with Q.
 pub record Through (f : Label → List Label) (P : Label → Type 0) (b : Label) : Type 0 where

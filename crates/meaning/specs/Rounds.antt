@@ -2,7 +2,7 @@
 -- Assumes nothing.
 use mathlib.Core.Path.{_≡_}
 use mathlib.Core.Bool.{Bool, true, false, _||_}
-use mathlib.Core.List.{List, [], _∷_, _++_, map}
+use mathlib.Core.List.{List, [], _∷_, _++_, map, flatMap}
 use mathlib.Core.Logic.{_≢_}
 use Prim.Native.Nat.{ℕ, zero, suc, pred, _≤_, _<_}
 use lib.Dec.{eqb}
@@ -25,26 +25,25 @@ target (p ∷ ps) n = pick (eqb n (p .left)) (p .right) (target ps n)
 unfoldable pub allowed : List Label → Label → Bool
 allowed ls a = isTau a || member a ls
 
--- comm: a label with the left side of a rule replaced by its right side, what one application of any rule gives, and
--- each label with all that follows from it by at most so many applications.
-abbrev pub replaced : ℕ → Rule → Label → Label
-replaced names r a = plus (minus a (r .left)) (single names (r .right))
+-- comm: the rules whose left side lies inside a label; and any number of rule applications to disjoint parts of it, none
+-- included. `rest` is what no rule has taken yet, `aside` the results. No rule takes a result: a finished communication stays
+-- finished.
+abbrev pub fitting : Label → List Rule → List Rule
+fitting rest = flatMap (λ r. pick (inside (r .left) rest) (r ∷ []) [])
 
-unfoldable pub applied : ℕ → List Rule → Label → List Label
-applied names [] a = []
-applied names (r ∷ rs) a = spread (turn (replaced names r)) (keep (inside (r .left)) a) ++ applied names rs a
+unfoldable pub communicated : ℕ → ℕ → List Rule → Label → Label → List Label
+communicated zero names rs rest aside = plus rest aside ∷ []
+communicated (suc more) names rs rest aside =
+    plus rest aside
+    ∷ flatMap (λ r. communicated more names rs (minus rest (r .left)) (plus aside (single names (r .right)))) (fitting rest rs)
 
-unfoldable pub communicated : ℕ → ℕ → List Rule → Label → List Label
-communicated zero names rs a = a ∷ []
-communicated (suc more) names rs a = a ∷ spread (communicated more names rs) (applied names rs a)
-
--- What an operator makes of one label. An application of a rule takes away at least two actions and gives one, so that there
--- are fewer of them than actions.
+-- What an operator makes of one label. Every application of a rule takes at least two actions of the label, so that no label
+-- allows more applications than it has actions.
 abbrev pub image : ℕ → Operator → Label → List Label
 image names (block ns) = keep (clear ns)
 image names (hide ns) = turn (without ns)
 image names (rename ps) = turn (renamed names (target ps))
-image names (comm rs) = λ a. communicated (size a) names rs a
+image names (comm rs) = λ a. communicated (size a) names rs a []
 image names (allow ls) = keep (allowed ls)
 
 -- The 17 kinds take their labels in seven ways.

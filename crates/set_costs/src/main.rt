@@ -68,6 +68,7 @@ fn main() {
         count(add_image(
             &mut words,
             part(2000, 2001),
+            part(2000, 2001),
             Way::Comm,
             &rules,
             target(2001, 0),

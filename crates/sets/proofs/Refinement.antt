@@ -96,7 +96,7 @@ module _ (names room : ℕ) (I : List Label → Type 0) (moves : (M N : List Lab
   abbrev pub Outcome : List Label → Building → Type 0
   Outcome M b = Whole M b ⊎ ((b .whole ≡ false) × TooMuch room M)
 
-  outcome-same : (M N : List Label) (b : Building) → Within M N → Within N M → Outcome M b → Outcome N b
+  pub outcome-same : (M N : List Label) (b : Building) → Within M N → Within N M → Outcome M b → Outcome N b
   outcome-same M N b w v (inl x) =
       inl (record {
         built = x .built ∙ ap (λ (s : List Label). done (map number s)) (ascending-same M N w v);

@@ -3,7 +3,7 @@
 -- Assumes nothing.
 use mathlib.Core.Path.{_≡_, refl, sym, ap, ap₂, _∙_, _≡⟨_⟩_, _∎}
 use mathlib.Core.Bool.{Bool, true, false}
-use mathlib.Core.List.{List, [], _∷_}
+use mathlib.Core.List.{List, [], _∷_, _++_}
 use Prim.Native.Nat.{ℕ, suc, _+_, _-_, _≤_, _<_, max}
 use native.Mathlib.Omega.{arith}
 use borrow.Author.Tests.{ltb-true}
@@ -93,6 +93,27 @@ next-holds b more n e = let p = built-holds (b .whole) (length (b .set)) n e in 
 
 pub next-large : (b : Building) (more : List ℕ → Building) → TooLarge ≡ answerOf b → andThen b more ≡ b
 next-large b more e = ap (λ (t : Bool). goesOn t b more) (built-large (b .whole) (length (b .set)) e)
+
+-- Steps after steps, and the labels of two lists one after the other.
+pub next-next : (b : Building) (f g : List ℕ → Building) → andThen (andThen b f) g ≡ andThen b (λ s. andThen (f s) g)
+next-next b f g = go (b .whole) refl
+  where
+    go : (t : Bool) → b .whole ≡ t → andThen (goesOn t b f) g ≡ goesOn t b (λ s. andThen (f s) g)
+    go true e = refl
+    go false e = ap (λ (t : Bool). goesOn t b g) e
+
+next-as : (b : Building) {f g : List ℕ → Building} → ((s : List ℕ) → f s ≡ g s) → andThen b f ≡ andThen b g
+next-as b {f} {g} h = go (b .whole)
+  where
+    go : (t : Bool) → goesOn t b f ≡ goesOn t b g
+    go true = h (b .set)
+    go false = refl
+
+pub each-append : (step : ℕ → List ℕ → Building) (l m s : List ℕ) → each step (l ++ m) s ≡ andThen (each step l s) (each step m)
+unfolding each
+each-append step [] m s = refl
+each-append step (w ∷ l) m s =
+    next-as (step w s) (each-append step l m) ∙ sym (next-next (step w s) (each step l) (each step m))
 
 -- What is laid of a building.
 pub laid-set : (at : ℕ) (ls : List ℕ) {b c : Building} → b ≡ c → laid at (b .set) ls ≡ laid at (c .set) ls
@@ -199,6 +220,34 @@ pub going-last : (most : ℕ) (step : ℕ → List ℕ → Building)
     → (r ≡ answerOf goal) × (after ≡ laid at (goal .set) before)
 going-last most step {at} {before = before} steady x g =
     (step-answer most step steady x g ∙ ap answerOf (x .goes), step-words most step steady x g ∙ laid-set at before (x .goes))
+
+-- The first of two steps: it stops, or leads on to the second.
+module _ (at len : ℕ) (first rest : List ℕ → Building) (before now : List ℕ) where
+  pub first-large : Grown first at len before now TooLarge → Grown (λ s. andThen (first s) rest) at len before now TooLarge
+  first-large x =
+      let e = next-large (first (setAt at len before)) rest (x .answer) in
+      record { answer = x .answer ∙ ap answerOf (sym e); words = x .words ∙ laid-set at before (sym e) }
+
+  pub first-holds : (n : ℕ) → length (first (setAt at len before) .set) ≤ length before - at → Grown first at len before now (Holds n)
+      → Going at before now n rest (andThen (first (setAt at len before)) rest)
+  first-holds n fits x =
+      let b = first (setAt at len before) in
+      record {
+        set = b .set;
+        held = x .words;
+        count = built-holds (b .whole) (length (b .set)) n (x .answer) .1;
+        fits = fits;
+        goes = sym (next-holds b rest n (x .answer) .0);
+      }
+
+-- a step that keeps a set within the room keeps it within the list
+pub steady-fits : (at len most : ℕ) (first : List ℕ → Building) (before : List ℕ) → Steady (roomAt at most (length before)) first
+    → length (first (setAt at len before) .set) ≤ length before - at
+unfolding Steady
+steady-fits at len most first before steady =
+    let h = steady (setAt at len before) in
+    let l = length-setAt at len before in
+    omega arith
 
 pub grown-as : {f g : List ℕ → Building} {at len : ℕ} {before after : List ℕ} {r : Built} → ((s : List ℕ) → f s ≡ g s)
     → Grown f at len before after r → Grown g at len before after r

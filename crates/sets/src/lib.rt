@@ -2,6 +2,7 @@
 // what it says holds of any words, and that ascending parts stay ascending is a law beside it.
 use labels::Label;
 
+pub mod ascending;
 pub mod inserting;
 
 // Whether a label was there already, was put in, or found no room.

@@ -95,7 +95,9 @@ module _ (d : Description) (o : Order) (k n : ℕ) (older before this work work�
   kind (wrap op t) e l g =
       let Wrapped : Way → List ℕ → Type 0 =
       λ way ws. Grown
-      (λ s. andThen (copyBuilt room old s) (throughBuilt room way ws (newOf (placeOf d k n) before this work t))) (placeOf d k n) 0 work work′ r in
+      (λ s. andThen (copyBuilt room old s)
+      (throughBuilt room way ws (partIn (placeOf d k n) half this t work) (newOf (placeOf d k n) before this work t)))
+      (placeOf d k n) 0 work work′ r in
       through-grown-arm d k n older before this work work′ r ready more op t (l .0) (l .1) (ap (shape d) e)
       (subst (λ (way : Way). Wrapped way (wayWords (names d) op)) (way-same d o n t more (ready .legal .termsCount .1) narrow op)
       (subst (Wrapped (wayFor (operatorFor n op))) (words-same d o n t more (ready .legal .termsCount .1) narrow op e (l .1)) g))

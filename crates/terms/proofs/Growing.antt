@@ -14,13 +14,12 @@ use Rattle.meaning.specs.Labels.{Label, size, number, inside}
 use Rattle.meaning.specs.Sets.{_∈_, at, ascending, spread, product}
 use Rattle.meaning.specs.Descriptions.{Description, Operator, block, hide, rename, comm, allow, Rule, names, termCount, termAt, bodyAt}
 use Rattle.meaning.specs.Legal.{Each, LegalRule, LegalOperator}
-use Rattle.meaning.specs.Rounds.{Shape, reference, one, either, both, through, shape, made, image, replaced, applied, communicated, roundSets, equationSets}
+use Rattle.meaning.specs.Rounds.{Shape, reference, one, either, both, through, shape, made, image, roundSets, equationSets}
 use Rattle.meaning.proofs.Bags.{plus-comm}
 use Rattle.meaning.proofs.Digits.{number-injective}
 use Rattle.meaning.proofs.Ascent.{Within}
 use Rattle.meaning.proofs.Members.{Sum, in-append, in-spread, in-spread→, in-product, in-product→, in-ascending}
 use Rattle.meaning.proofs.Shapes.{sum-grows, SameFor, made-same}
-use Rattle.meaning.proofs.Operators.{in-applied, in-applied→, fewer-left, rule-legal, communicated-self}
 use Rattle.meaning.proofs.Growth.{round-grows, round-length, at-body}
 use Rattle.labels.proofs.Refinement.{packs-small}
 use Rattle.sets.specs.declared.Built.{Built}
@@ -37,7 +36,7 @@ use Rattle.composing.specs.Adding.{eitherAdded, jointAdded, bothAdded, wholeOf,
 use Rattle.terms.specs.Working.{partly, Ready, Worked}
 use Rattle.terms.proofs.Settling.{placeOf, roomOf}
 use Rattle.terms.proofs.Operands.{partly-round, round-set, round-ascending, before-part, before-packs, term-part, term-packs, term-ascends}
-use Rattle.terms.proofs.Shaped.{Settled, wayOf, wayWords, Shut, same-settled, settled-next, copied-settled}
+use Rattle.terms.proofs.Shaped.{Settled, wayOf, wayWords, same-settled, settled-next, copied-settled}
 use Rattle.terms.proofs.Shaped.{copy-added, product-added, through-added, either-settled, both-settled}
 use Rattle.by_shape.proofs.Fitting.{through-grown-fits, two-grown-fits}
 use Rattle.terms.proofs.Arms.{arm, shaped, copy-arm}
@@ -83,37 +82,6 @@ module _ (names : ℕ) where
             ];
           }
 
--- All that the rules of comm make of what communication makes is among it.
-module _ (names : ℕ) (rs : List Rule) (legal : Each (LegalRule names) rs) where
-  fewer : (r : Rule) → r ∈ rs → (a : Label) → T (inside (r .left) a) → size (replaced names r a) < size a
-  fewer r m a t = fewer-left names r a (rule-legal names rs legal r m .1) t
-
-  communicated-shut : (k : ℕ) (a b : Label) → size a ≤ k → b ∈ communicated k names rs a → (r : Rule) → r ∈ rs → T (inside (r .left) b)
-      → replaced names r b ∈ communicated k names rs a
-  unfolding communicated
-  communicated-shut zero a b h (inl e) r n t = absurd (let l = fewer r n b t in let s = ap size e in omega arith)
-  communicated-shut zero a b h (inr m) r n t = absurd m
-  communicated-shut (suc k) a b h (inl e) r n t =
-      inr (in-spread (communicated k names rs) (applied names rs a) (replaced names r b) (replaced names r b)
-      (subst (λ (x : Label). replaced names r b ∈ applied names rs x) e (in-applied names rs b r n t)) (communicated-self k names rs (replaced names r b)))
-  communicated-shut (suc k) a b h (inr m) r n t =
-      let x = in-spread→ (communicated k names rs) (applied names rs a) b m in
-      let y = in-applied→ names rs a (x .source) (x .there) in
-      let l = fewer (y .rule) (y .listed) a (y .fits) in
-      let s = ap size (y .gives) in
-      inr (in-spread (communicated k names rs) (applied names rs a) (x .source) (replaced names r b) (x .there)
-      (communicated-shut k (x .source) b (omega arith) (x .gives) r n t))
-
-shut-image : (names : ℕ) (o : Operator) → LegalOperator names o → (s : List Label) → Shut names o (spread (image names o) s)
-shut-image names (block ns) h s = tt
-shut-image names (hide ns) h s = tt
-shut-image names (rename ps) h s = tt
-shut-image names (comm rs) h s = λ b m r n t.
-    let x = in-spread→ (image names (comm rs)) s b m in
-    in-spread (image names (comm rs)) s (x .source) (replaced names r b) (x .there)
-    (communicated-shut names rs (h .2) (size (x .source)) (x .source) b (le-refl (size (x .source))) (x .gives) r n t)
-shut-image names (allow ls) h s = tt
-
 -- Lists within lists that are put together.
 front : (l m : List Label) → Within l (l ++ m)
 front l m a k = in-append a l m .1 (inl k)
@@ -123,20 +91,6 @@ behind l m a k = in-append a l m .1 (inr k)
 
 together : (l m N : List Label) → Within l N → Within m N → Within (l ++ m) N
 together l m N w v a k = elim (in-append a l m .0 k) [ inl i ↦ w a i | inr i ↦ v a i ]
-
--- What the labels of a newer list give: what the new ones give, beside what the older list gave.
-module _ (L N : List Label) (x : New L N) (f : Label → List Label) where
-  spread-there : Within (spread f L) (spread f N) → Within (spread f (x .list) ++ spread f L) (spread f N)
-  spread-there w = together (spread f (x .list)) (spread f L) (spread f N)
-      (λ a m. let y = in-spread→ f (x .list) a m in in-spread f N (y .source) a (x .there (y .source) (y .there)) (y .gives)) w
-
-  spread-back : Within (spread f N) (spread f (x .list) ++ spread f L)
-  spread-back a m =
-      let y = in-spread→ f N a m in
-      elim (x .back (y .source) (y .there)) [
-        | inl k ↦ front (spread f (x .list)) (spread f L) a (in-spread f (x .list) (y .source) a k (y .gives))
-        | inr k ↦ behind (spread f (x .list)) (spread f L) a (in-spread f L (y .source) a k (y .gives))
-      ]
 
 sum-turned : (s t : List Label) → Within (product s t) (product t s)
 sum-turned s t c m =
@@ -200,8 +154,8 @@ module _ (names room : ℕ) where
   either-more : (F G M : List Label) → AllPack names F → AllPack names G → AllPack names M
       → Settled names room (G ++ (F ++ M)) (eitherAdded room (map number F) (map number G) (map number (ascending M)))
   either-more F G M p q r =
-      settled-next names room (F ++ M) (G ++ (F ++ M)) (throughBuilt room Copy [] (map number F) (map number (ascending M)))
-      (throughBuilt room Copy [] (map number G))
+      settled-next names room (F ++ M) (G ++ (F ++ M)) (throughBuilt room Copy [] [] (map number F) (map number (ascending M)))
+      (throughBuilt room Copy [] [] (map number G))
       (behind G (F ++ M)) (copy-added names room [] F M p r) (λ x. copy-added names room [] G (F ++ M) q x)
 
   joint-more : names ≤ 12 → (F A G B M : List Label) → AllPack names F → AllPack names A → AllPack names G → AllPack names B → AllPack names M
@@ -231,16 +185,14 @@ module _ (names room : ℕ) (few : names ≤ 12) where
       → Within (spread (image names o) L) (spread (image names o) N)
       → Settled names room (spread (image names o) N)
       (andThen (copyBuilt room (map number (ascending (spread (image names o) L))) [])
-      (throughBuilt room (wayOf o) (wayWords names o) (fresh (map number L) (map number N))))
+      (throughBuilt room (wayOf o) (wayWords names o) (map number N) (fresh (map number L) (map number N))))
   through-grown o h L N p q r w =
       let x = new-labels names L N p q in
       let f = image names o in
-      let step = throughBuilt room (wayOf o) (wayWords names o) (map number (x .list)) in
+      let step = throughBuilt room (wayOf o) (wayWords names o) (map number N) (map number (x .list)) in
       rw (x .is)
       (grown names room (spread f L) (spread f N) step r w
-      (same-settled names room (spread f (x .list) ++ spread f L) (spread f N) (step (map number (ascending (spread f L)))) (spread-there L N x f w)
-      (spread-back L N x f)
-      (through-added names room few o h (x .list) (spread f L) (new-packs L N x q) r (shut-image names o h L))))
+      (through-added names room few (x .list) L (spread f L) N q r (x .there) (x .back) o h (λ a m. m) w))
 
   module _ (A′ A B′ B : List Label) (p′ : AllPack names A′) (p : AllPack names A) (q′ : AllPack names B′) (q : AllPack names B) (up : ascending A ≡ A)
       (also : ascending B ≡ B) where
@@ -365,7 +317,8 @@ module _ (d : Description) (k n : ℕ) (older before this work work′ : List �
         (round-grows d k n a (in-old a m)))
 
   pub through-grown-arm : (op : Operator) (t : ℕ) → t < n → LegalOperator (names d) op → shape d (termAt d n) ≡ through (image (names d) op) t
-      → Grown (λ s. andThen (copyBuilt room old s) (throughBuilt room (wayOf op) (wayWords (names d) op) (newOf (placeOf d k n) before this work t)))
+      → Grown (λ s. andThen (copyBuilt room old s)
+      (throughBuilt room (wayOf op) (wayWords (names d) op) (partIn (placeOf d k n) half this t work) (newOf (placeOf d k n) before this work t)))
       (placeOf d k n) 0 work work′ answer
       → Worked d k n work work′ answer
   unfolding spread
@@ -373,9 +326,10 @@ module _ (d : Description) (k n : ℕ) (older before this work work′ : List �
       let s = through (image (names d) op) t in
       let looks : Looks d k n s = λ eqs sets j. j t h in
       let build : List ℕ → Building =
-      λ w. andThen (copyBuilt room old w) (throughBuilt room (wayOf op) (wayWords (names d) op) (newOf (placeOf d k n) before this work t)) in
+      λ w. andThen (copyBuilt room old w)
+      (throughBuilt room (wayOf op) (wayWords (names d) op) (partIn (placeOf d k n) half this t work) (newOf (placeOf d k n) before this work t)) in
       arm d k n older before this work work′ answer r more build g
-      (through-grown-fits room old (wayOf op) (wayWords (names d) op) (newOf (placeOf d k n) before this work t))
+      (through-grown-fits room old (wayOf op) (wayWords (names d) op) (partIn (placeOf d k n) half this t work) (newOf (placeOf d k n) before this work t))
       (shaped d k n older before this work work′ answer r more s (build []) e
       (rw (old-is s refl looks e, was-part t h, now-part t h)
       (through-grown (names d) room (r .legal .nameCount .1) op l (at (roundSets d k) t) (at (partly d k n) t) (was-packs t) (now-packs t h)

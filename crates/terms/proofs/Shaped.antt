@@ -8,15 +8,14 @@ use Prim.Native.Nat.{ℕ, _≤_, _<_}
 use native.Mathlib.Omega.{arith}
 use native.Mathlib.Decide.{decLt}
 use borrow.Author.Tests.{lt-leb, le-leb}
-use lib.Dec.{T}
 use lib.ListN.{length, replicate, length-map}
-use Rattle.meaning.specs.Labels.{Label, number, inside}
+use Rattle.meaning.specs.Labels.{Label, number}
 use Rattle.meaning.specs.Sets.{_∈_, ascending, spread, product}
-use Rattle.meaning.specs.Descriptions.{Operator, block, hide, rename, comm, allow, Pair, Rule}
+use Rattle.meaning.specs.Descriptions.{Operator, block, hide, rename, comm, allow, Pair}
 use Rattle.meaning.specs.Legal.{Each, LegalLabel, LegalPair, LegalOperator}
-use Rattle.meaning.specs.Rounds.{image, replaced}
+use Rattle.meaning.specs.Rounds.{image}
 use Rattle.meaning.proofs.Ascent.{Within}
-use Rattle.meaning.proofs.Members.{in-append}
+use Rattle.meaning.proofs.Members.{in-append, in-spread, in-spread→}
 use Rattle.areas.proofs.Entries.{pairWords, labelWords, ruleLabels}
 use Rattle.labels.proofs.Refinement.{Packs}
 use Rattle.ways.specs.declared.Way.{Way}
@@ -25,11 +24,12 @@ use Rattle.sets.specs.Building.{Building, done, stopped, goesOn, andThen, enter
 use Rattle.products.specs.Multiplying.{multiplied}
 use Rattle.merging.specs.Joining.{united}
 use Rattle.sets.proofs.Refinement.{AllPack, ascending-same, TooMuch, too-much-more, Outcome, enter-outcome}
-use Rattle.sets.proofs.Outcomes.{Result, Anything}
+use Rattle.ways.specs.Imaging.{followsRules, offerOf}
+use Rattle.sets.proofs.Outcomes.{Offered, Anything, spread-itself}
 use Rattle.merging.proofs.Unions.{union-outcome}
 use Rattle.products.proofs.Products.{product-outcome}
 use Rattle.ways.proofs.Refinement.{way-outcome, copy-offers, block-offers, hide-offers, rename-offers, allow-offers}
-use Rattle.comm.proofs.Communication.{Closed, closed-moves, comm-outcome}
+use Rattle.choices.proofs.Communication.{comm-outcome}
 use Rattle.composing.specs.Making.{leafBuilt, eitherBuilt, jointBuilt, bothBuilt}
 use Rattle.growth.specs.Fresh.{throughBuilt}
 use Rattle.transfers.specs.Laying.{fitted, copyBuilt}
@@ -84,22 +84,13 @@ module _ (names room : ℕ) where
   leaf-settled a p = settles Anything (λ M N w v i. tt) (a ∷ []) (enter room (number a) [])
       (enter-outcome names room Anything (λ M N w v i. tt) a [] p nothing-packs tt)
 
-  -- Labels as they are, beside a set.
-  spread-itself : (s : List Label) → spread (λ a. a ∷ []) s ≡ s
-  unfolding spread
-  spread-itself [] = refl
-  spread-itself (a ∷ s) = ap (λ (l : List Label). a ∷ l) (spread-itself s)
-
-  ways : (way : Way) (list : List ℕ) (gives : Label → List Label) (s M : List Label)
-      → Result names room (spread gives s ++ M) (throughBuilt room way list (map number s) (map number (ascending M)))
-      → Settled names room (spread gives s ++ M) (throughBuilt room way list (map number s) (map number (ascending M)))
-  ways way list gives s M x = settles Anything (λ K N w v i. tt) (spread gives s ++ M) (throughBuilt room way list (map number s) (map number (ascending M))) x
-
+  -- Labels on a way that follows no rules, and as they are, beside a set.
   pub copy-added : (list : List ℕ) (s M : List Label) → AllPack names s → AllPack names M
-      → Settled names room (s ++ M) (throughBuilt room Copy list (map number s) (map number (ascending M)))
+      → Settled names room (s ++ M) (throughBuilt room Copy list [] (map number s) (map number (ascending M)))
   copy-added list s M p q =
-      subst (λ (l : List Label). Settled names room (l ++ M) (throughBuilt room Copy list (map number s) (map number (ascending M)))) (spread-itself s)
-      (ways Copy list (λ a. a ∷ []) s M (way-outcome names room Copy list (λ a. a ∷ []) refl (λ a r. copy-offers list a r) s M p q))
+      subst (λ (l : List Label). Settled names room (l ++ M) (throughBuilt room Copy list [] (map number s) (map number (ascending M)))) (spread-itself s)
+      (settles Anything (λ K N w v i. tt) (spread (λ a. a ∷ []) s ++ M) _
+      (way-outcome names room Copy list [] (λ a. a ∷ []) refl (λ a r. copy-offers list a r) s M p q))
 
   -- Two sets together.
   pub either-settled : (s t : List Label) → AllPack names s → AllPack names t → ascending s ≡ s → ascending t ≡ t
@@ -165,31 +156,38 @@ pub listed-packs : (names : ℕ) (ls : List Label) → Each (LegalLabel names) l
 listed-packs names (b ∷ ls) h a (inl e) = subst (Packs names) (sym e) (record { wide = h .0 .0; few = h .0 .2 })
 listed-packs names (b ∷ ls) h a (inr m) = listed-packs names ls (h .1) a m
 
--- A set that holds what the rules of comm make of its labels; of any other operator nothing is asked.
-abbrev pub Shut : ℕ → Operator → List Label → Type 0
-Shut names (block ns) M = Unit {0}
-Shut names (hide ns) M = Unit {0}
-Shut names (rename ps) M = Unit {0}
-Shut names (comm rs) M = (a : Label) → a ∈ M → (r : Rule) → r ∈ rs → T (inside (r .left) a) → replaced names r a ∈ M
-Shut names (allow ls) M = Unit {0}
-
 module _ (names room : ℕ) (few : names ≤ 12) where
-  -- Through an operator, beside a set.
-  pub through-added : (o : Operator) → LegalOperator names o → (s M : List Label) → AllPack names s → AllPack names M → Shut names o M
-      → Settled names room (spread (image names o) s ++ M) (throughBuilt room (wayOf o) (wayWords names o) (map number s) (map number (ascending M)))
-  through-added (block ns) h s M p q c =
-      ways names room Block ns (image names (block ns)) s M
-      (way-outcome names room Block ns (image names (block ns)) refl (λ a r. block-offers names few ns a r) s M p q)
-  through-added (hide ns) h s M p q c =
-      ways names room Hide ns (image names (hide ns)) s M
-      (way-outcome names room Hide ns (image names (hide ns)) refl (λ a r. hide-offers names few ns a r) s M p q)
-  through-added (rename ps) h s M p q c =
-      ways names room Rename (pairWords ps) (image names (rename ps)) s M
-      (way-outcome names room Rename (pairWords ps) (image names (rename ps)) refl
-      (λ a r. rename-offers names few ps (h .1) (small-left names few ps (h .1)) a r) s M p q)
-  through-added (allow ls) h s M p q c =
-      ways names room Allow (labelWords ls) (image names (allow ls)) s M
-      (way-outcome names room Allow (labelWords ls) (image names (allow ls)) refl (λ a r. allow-offers names ls (listed-packs names ls (h .1)) a r) s M p q)
-  through-added (comm rs) h s M p q c =
-      settles names room (Closed names few rs (h .2) room) (closed-moves names few rs (h .2) room) (spread (image names (comm rs)) s ++ M)
-      (throughBuilt room Comm (ruleLabels names rs) (map number s) (map number (ascending M))) (comm-outcome names few rs (h .2) room s M p q c)
+  -- Through an operator, where a set has what some labels of the operand give and the others are gone through: it becomes what
+  -- all of them give.
+  module _ (l L M N : List Label) (p : AllPack names N) (q : AllPack names M) (new : Within l N) (split : (a : Label) → a ∈ N → (a ∈ l) ⊎ (a ∈ L)) where
+    abbrev pub Becomes : Operator → Type 0
+    Becomes o = Within (spread (image names o) L) M → Within M (spread (image names o) N) → Settled names room (spread (image names o) N)
+        (throughBuilt room (wayOf o) (wayWords names o) (map number N) (map number l) (map number (ascending M)))
+
+    -- an operator that makes of each label by itself all that the set is to have of it
+    by-labels : (o : Operator) → followsRules (wayOf o) ≡ false
+        → ((a : Label) → Packs names a → Offered names (offerOf (wayOf o) (wayWords names o) (number a)) (image names o a)) → Becomes o
+    by-labels o plain offers old there =
+        let f = image names o in
+        let list = throughBuilt room (wayOf o) (wayWords names o) (map number N) (map number l) (map number (ascending M)) in
+        same-settled names room (spread f l ++ M) (spread f N) list
+        (λ b m. elim (in-append b (spread f l) M .0 m) [
+          | inl k ↦ let x = in-spread→ f l b k in in-spread f N (x .source) b (new (x .source) (x .there)) (x .gives)
+          | inr k ↦ there b k
+        ])
+        (λ b m. let x = in-spread→ f N b m in elim (split (x .source) (x .there)) [
+          | inl k ↦ in-append b (spread f l) M .1 (inl (in-spread f l (x .source) b k (x .gives)))
+          | inr k ↦ in-append b (spread f l) M .1 (inr (old b (in-spread f L (x .source) b k (x .gives))))
+        ])
+        (settles names room Anything (λ K L′ w v i. tt) (spread f l ++ M) list
+        (way-outcome names room (wayOf o) (wayWords names o) (map number N) f plain offers l M (λ a m. p a (new a m)) q))
+
+    pub through-added : (o : Operator) → LegalOperator names o → Becomes o
+    through-added (block ns) h = by-labels (block ns) refl (λ a r. block-offers names few ns a r)
+    through-added (hide ns) h = by-labels (hide ns) refl (λ a r. hide-offers names few ns a r)
+    through-added (rename ps) h =
+        by-labels (rename ps) refl (λ a r. rename-offers names few ps (h .1) (small-left names few ps (h .1)) a r)
+    through-added (allow ls) h = by-labels (allow ls) refl (λ a r. allow-offers names ls (listed-packs names ls (h .1)) a r)
+    through-added (comm rs) h = λ old there.
+        settles names room Anything (λ K L′ w v i. tt) (spread (image names (comm rs)) N) _
+        (comm-outcome names few rs (h .2) N p l L M new split old there room q)

@@ -4,7 +4,7 @@ use mathlib.Core.Path.{_≡_, refl, sym, _∙_}
 use mathlib.Core.Logic.{inl, inr, _↔_}
 use mathlib.Core.Bool.{Bool, true, false, _||_}
 use mathlib.Core.List.{List, [], _∷_, _++_, map}
-use Prim.Native.Nat.{ℕ, _+_, _≤_, _<_}
+use Prim.Native.Nat.{ℕ, _≤_, _<_}
 use native.Mathlib.Omega.{arith}
 use native.Mathlib.Decide.{decLt}
 use borrow.Author.Tests.{eq-eqb, ne-eqb}
@@ -20,33 +20,22 @@ use Rattle.labels.proofs.Sizes.{number-zero}
 use Rattle.areas.proofs.Entries.{labelWords, pairWords, pairsIn-pairWords}
 use Rattle.labels.proofs.Refinement.{Packs}
 use Rattle.names.proofs.Refinement.{clear-number, without-number, renamed-number}
-use Rattle.sets.specs.declared.Offer.{Offer}
-use Rattle.sets.specs.declared.Offer.the-variants.{Nothing, TooLong, Next}
-use Rattle.sets.specs.Building.{each, enter, taken}
+use Rattle.sets.specs.declared.Offer.the-variants.{Next}
+use Rattle.sets.specs.Building.{each}
 use Rattle.sets.proofs.Outcomes.{Offered, none, one, Anything, Result, taken-outcome}
 use Rattle.sets.proofs.Refinement.{AllPack, compare-number, each-outcome}
-use Rattle.comm.specs.Following.{closed}
-use Rattle.comm.specs.Rules.{pickOffer, Exchange, exchangesIn}
 use Rattle.ways.specs.declared.Way.{Way}
 use Rattle.ways.specs.declared.Way.the-variants.{Copy, Block, Hide, Rename, Allow}
-use Rattle.ways.specs.Imaging.{listedIn, offerOf, depthOf, imaged}
+use Rattle.ways.specs.Imaging.{listedIn, pickOffer, offerOf, followsRules, imaged}
 
--- A way that follows no rules.
-taken-alone : (room : ℕ) (rs : List Exchange) (o : Offer) (s : List ℕ) → taken (enter room) o s ≡ taken (closed room rs 0) o s
-unfolding closed
-taken-alone room rs Nothing s = refl
-taken-alone room rs TooLong s = refl
-taken-alone room rs (Next a) s = refl
-
-pub way-outcome : (names room : ℕ) (way : Way) (list : List ℕ) (gives : Label → List Label) → depthOf way ≡ 0
+-- A way that follows no rules: the other labels of the operand count for nothing.
+pub way-outcome : (names room : ℕ) (way : Way) (list all : List ℕ) (gives : Label → List Label) → followsRules way ≡ false
     → ((a : Label) → Packs names a → Offered names (offerOf way list (number a)) (gives a))
     → (l M : List Label) → AllPack names l → AllPack names M
-    → Result names room (spread gives l ++ M) (each (imaged room way list) (map number l) (map number (ascending M)))
-way-outcome names room way list gives d good l M p q =
-    each-outcome names room Anything (λ K L w v i. tt) (imaged room way list) gives
-    (λ a N r s i.
-    let alone = taken-alone room (exchangesIn list) (offerOf way list (number a)) (map number (ascending N)) in
-    rw d (rw (sym alone) (taken-outcome names room (good a r) N s))) l M p q tt
+    → Result names room (spread gives l ++ M) (each (imaged room way list all) (map number l) (map number (ascending M)))
+way-outcome names room way list all gives d good l M p q =
+    each-outcome names room Anything (λ K L w v i. tt) (imaged room way list all) gives
+    (λ a N r s i. rw d (taken-outcome names room (good a r) N s)) l M p q tt
 
 -- Each way.
 pub copy-offers : {names : ℕ} (list : List ℕ) (a : Label) → Packs names a → Offered names (offerOf Copy list (number a)) (a ∷ [])

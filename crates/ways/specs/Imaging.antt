@@ -1,7 +1,7 @@
 -- What each way makes of a label, and what goes into a set of it.
 -- Assumes nothing.
 use mathlib.Core.Path.{_≡_}
-use mathlib.Core.Bool.{Bool, false, _||_}
+use mathlib.Core.Bool.{Bool, true, false, _||_}
 use mathlib.Core.List.{List, [], _∷_}
 use Prim.Native.Nat.{ℕ}
 use lib.Dec.{eqb}
@@ -13,14 +13,14 @@ use Rattle.labels.specs.Bags.{bag}
 use Rattle.areas.specs.Pairs.{pairsIn}
 use Rattle.names.specs.Names.{targets}
 use Rattle.sets.specs.declared.Offer.{Offer}
-use Rattle.sets.specs.declared.Offer.the-variants.{Next}
-use Rattle.sets.specs.Building.{Building, taken}
-use Rattle.comm.specs.Rules.{exchangesIn, pickOffer}
-use Rattle.comm.specs.Following.{mostApplications, closed}
+use Rattle.sets.specs.declared.Offer.the-variants.{Nothing, Next}
+use Rattle.sets.specs.Building.{Building, enter, taken}
+use Rattle.rules.specs.Rules.{exchangesIn}
+use Rattle.choices.specs.Following.{closed}
 use Rattle.ways.specs.declared.Way.{Way}
 use Rattle.ways.specs.declared.Way.the-variants.{Copy, Block, Hide, Rename, Comm, Allow}
 
--- What each way makes of a label, by the words of its list; and how many applications of rules are followed from there.
+-- What each way makes of a label, by the words of its list; and whether rules are followed from there.
 unfoldable pub listedIn : ℕ → List ℕ → Bool
 listedIn w [] = false
 listedIn w (v ∷ vs) = eqb w v || listedIn w vs
@@ -28,6 +28,10 @@ listedIn w (v ∷ vs) = eqb w v || listedIn w vs
 -- what a list lets pass: what it has, and tau, whose number is 0
 abbrev pub allowedIn : ℕ → List ℕ → Bool
 allowedIn w list = eqb w 0 || listedIn w list
+
+abbrev pub pickOffer : Bool → Offer → Offer
+pickOffer true o = o
+pickOffer false o = Nothing
 
 abbrev pub offerOf : Way → List ℕ → ℕ → Offer
 offerOf Copy list w = Next (packed w)
@@ -46,13 +50,22 @@ MapFor Hide list map = Unit {0}
 MapFor Comm list map = Unit {0}
 MapFor Allow list map = Unit {0}
 
-abbrev pub depthOf : Way → ℕ
-depthOf Copy = 0
-depthOf Block = 0
-depthOf Hide = 0
-depthOf Rename = 0
-depthOf Comm = mostApplications
-depthOf Allow = 0
+abbrev pub followsRules : Way → Bool
+followsRules Copy = false
+followsRules Block = false
+followsRules Hide = false
+followsRules Rename = false
+followsRules Comm = true
+followsRules Allow = false
 
-abbrev pub imaged : ℕ → Way → List ℕ → ℕ → List ℕ → Building
-imaged room way list w = taken (closed room (exchangesIn (held list)) (depthOf way)) (offerOf way list w)
+-- What goes into a set of a label: what is offered for it; and where rules are followed, all that comes of it. `all` are the labels of
+-- the operand.
+abbrev pub offered : ℕ → Way → List ℕ → ℕ → List ℕ → Building
+offered room way list w = taken (enter room) (offerOf way list w)
+
+abbrev pub pickImage : Bool → (closed offered : ℕ → List ℕ → Building) → ℕ → List ℕ → Building
+pickImage true closed offered = closed
+pickImage false closed offered = offered
+
+abbrev pub imaged : ℕ → Way → (list all : List ℕ) → ℕ → List ℕ → Building
+imaged room way list all = pickImage (followsRules way) (closed room all (exchangesIn (held list))) (offered room way list)

@@ -2,8 +2,7 @@
 use crate::Way;
 use areas::rows::labels_in;
 use areas::rows::read_label;
-use comm::following::MOST_APPLICATIONS;
-use comm::following::close;
+use comm::closing::close_each;
 use labels::Label;
 use labels::NAMES;
 use labels::packing::same;
@@ -25,10 +24,8 @@ ghost use lib.ListN.{length};
 ghost use Rattle.areas.specs.Rows.{held};
 ghost use Rattle.labels.specs.Packing.{code};
 ghost use Rattle.parts.specs.Parts.{wordsOf};
-ghost use Rattle.sets.specs.Building.{GrownAt, each, taken};
-ghost use Rattle.ways.specs.Imaging.{imaged, listedIn, allowedIn, MapFor, offerOf, depthOf};
-ghost use Rattle.comm.specs.Following.{closed};
-ghost use Rattle.comm.specs.Rules.{exchangesIn};
+ghost use Rattle.sets.specs.Building.{GrownAt, each, enter, taken};
+ghost use Rattle.ways.specs.Imaging.{offered, imaged, listedIn, allowedIn, MapFor, offerOf, followsRules};
 
 // Whether a label is in a list of labels.
 fn listed(list: &[u64], label: Label) -> bool
@@ -92,38 +89,31 @@ fn made(way: Way, list: &[u64], map: [u64; NAMES], label: Label) -> Offer
     }
 }
 
-// How many applications of rules are followed on a way.
-fn depth(way: Way) -> usize
-    ensures { λ r. ⌜ r ≡ depthOf way ⌝ }
+// Whether the list of a way holds rules that are followed.
+fn follows(way: Way) -> bool
+    ensures { λ r. ⌜ r ≡ followsRules way ⌝ }
 {
     match way {
-        Way::Comm => MOST_APPLICATIONS,
-        _ => 0,
+        Way::Comm => true,
+        _ => false,
     }
 }
 
-// What is offered goes into a set, with what follows from it. Where no rules are followed the recursion is passed by.
-fn take(words: &mut [u64], target: Target, rules: &[u64], offer: Offer, depth: usize) -> Built
+// What is offered goes into a set.
+fn take(words: &mut [u64], target: Target, offer: Offer) -> Built
     requires { ⌜ target .len ≤ length (held (now words)) - target .at ⌝ }
-    ensures { λ r. ⌜ GrownAt target (λ room. taken (closed room (exchangesIn (held (now (rules .entry)))) depth) offer)
-        (held (now (words .entry))) (held (now (words .exit))) r ⌝ }
+    ensures { λ r. ⌜ GrownAt target (λ room. taken (enter room) offer) (held (now (words .entry))) (held (now (words .exit))) r ⌝ }
 {
     match offer {
         Offer::Nothing => Built::Holds(target.len),
         Offer::TooLong => Built::TooLarge,
-        Offer::Next(label) => {
-            if depth == 0 {
-                enter(words, target, label)
-            } else {
-                close(words, target, rules, label, depth)
-            }
-        }
+        Offer::Next(label) => enter(words, target, label),
     }
 }
 
-// What the labels of a part that stands before a set give goes into the set.
-pub fn add_image(words: &mut [u64], part: Part, way: Way, list: &[u64], target: Target) -> Built
-    ensures { λ r. ⌜ GrownAt target (λ room. each (imaged room way (now (list .entry))) (wordsOf (target .at) part (held (now (words .entry)))))
+// What a way makes of the labels of a part goes into a set, and no rule is followed.
+fn add_offered(words: &mut [u64], part: Part, way: Way, list: &[u64], target: Target) -> Built
+    ensures { λ r. ⌜ GrownAt target (λ room. each (offered room way (now (list .entry))) (wordsOf (target .at) part (held (now (words .entry)))))
         (held (now (words .entry))) (held (now (words .exit))) r ⌝ }
 {
     let at = target.at;
@@ -135,7 +125,7 @@ pub fn add_image(words: &mut [u64], part: Part, way: Way, list: &[u64], target: 
     while i < end {
         let label = read_label(words, i);
         let offer = made(way, list, map, label);
-        let step = take(words, Target { at, len, most }, list, offer, depth(way));
+        let step = take(words, Target { at, len, most }, offer);
         let Built::Holds(n) = step else {
             return Built::TooLarge;
         };
@@ -143,4 +133,26 @@ pub fn add_image(words: &mut [u64], part: Part, way: Way, list: &[u64], target: 
         i += 1;
     }
     Built::Holds(len)
+}
+
+// What the labels of a part give goes into a set. They are all labels of an operand or some of them: by rules nothing comes of
+// one that comes of another label of the operand. Both parts stand before the set.
+pub fn add_image(
+    words: &mut [u64],
+    part: Part,
+    operand: Part,
+    way: Way,
+    list: &[u64],
+    target: Target,
+) -> Built
+    ensures { λ r. ⌜ GrownAt target (λ room. each
+        (imaged room way (now (list .entry)) (wordsOf (target .at) operand (held (now (words .entry)))))
+        (wordsOf (target .at) part (held (now (words .entry)))))
+        (held (now (words .entry))) (held (now (words .exit))) r ⌝ }
+{
+    if follows(way) {
+        close_each(words, part, operand, list, target)
+    } else {
+        add_offered(words, part, way, list, target)
+    }
 }

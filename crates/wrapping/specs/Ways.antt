@@ -11,6 +11,7 @@ use Rattle.ways.specs.declared.Way.{Way}
 use Rattle.ways.specs.declared.Way.the-variants.{Block, Hide, Rename, Comm, Allow}
 use Rattle.sets.specs.declared.Built.{Built}
 use Rattle.parts.specs.declared.Target.{Target}
+use Rattle.parts.specs.Parts.{wordsOf}
 use Rattle.sets.specs.Building.{GrownAt}
 use Rattle.places.specs.declared.Growth.{Growth}
 use Rattle.growth.specs.Fresh.{newIn, throughBuilt}
@@ -41,6 +42,7 @@ wordsFor store (O.Rename p) = wordsAt store p 1
 wordsFor store (O.Comm p) = ruleList (wordsAt store p 2)
 wordsFor store (O.Allow p) = wordsAt store p 1
 
--- the new labels of a set go into another on a way
+-- the new labels of a set go into another on a way, as labels of the whole set
 abbrev pub Passes : Target → Growth → Way → (list before after : List ℕ) → Built → Type 0
-Passes t g way list before after r = GrownAt t (λ room. throughBuilt room way list (newIn (t .at) g before)) before after r
+Passes t g way list before after r =
+    GrownAt t (λ room. throughBuilt room way list (wordsOf (t .at) (g .part) before) (newIn (t .at) g before)) before after r

@@ -34,6 +34,27 @@ impl Draft {
         self.add(format!("act {}", self.names[name]))
     }
 
+    /// A choice between the first names, so many of them.
+    pub fn one_of_the_first(&mut self, count: usize) -> usize {
+        let first = self.act(0);
+        (1..count).fold(first, |all, name| {
+            let act = self.act(name);
+            self.two("choice", all, act)
+        })
+    }
+
+    /// The actions of a label at once; those of one name are joined by
+    /// doubling.
+    pub fn multi_action(&mut self, label: &[usize]) -> usize {
+        let mut whole = None;
+        for (name, count) in label.iter().enumerate().filter(|(_, count)| **count > 0) {
+            let act = self.act(name);
+            let part = doubled(act, *count, &mut |left, right| self.two("sync", left, right));
+            whole = Some(whole.map_or(part, |whole| self.two("sync", whole, part)));
+        }
+        whole.expect("a label with an action")
+    }
+
     pub fn one(&mut self, kind: &str, operand: usize) -> usize {
         self.add(format!("{} {}", kind, operand))
     }

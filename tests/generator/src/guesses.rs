@@ -1,7 +1,7 @@
 //! A few labels that a term probably has. Lists that are chosen by them cut
 //! and combine something; whether the guess is right does not matter.
 
-use crate::lists::{actions, ascending, Label};
+use crate::lists::{actions, ascending, difference, Label};
 use crate::random::Random;
 
 /// How many labels are kept for a term.
@@ -64,10 +64,6 @@ pub fn with_list(
 
 fn sum(one: &Label, other: &Label) -> Label {
     one.iter().zip(other).map(|(a, b)| a + b).collect()
-}
-
-fn difference(whole: &Label, part: &Label) -> Option<Label> {
-    whole.iter().zip(part).map(|(a, b)| a.checked_sub(*b)).collect()
 }
 
 fn more(mut label: Label, name: usize) -> Label {

@@ -1,10 +1,14 @@
 //! Labels and well-formed lists of each kind, as they are written.
 
 use crate::random::Random;
+use std::cmp::Ordering;
 use std::ops::RangeInclusive;
 
 /// How often each name occurs, by the name's number.
 pub type Label = Vec<usize>;
+
+/// A left side and the name behind it.
+type Rule = (Label, usize);
 
 /// A label with so many actions.
 pub fn label(random: &mut Random, names: usize, actions: RangeInclusive<usize>) -> Label {
@@ -23,9 +27,18 @@ pub fn written(names: &[String], label: &Label) -> String {
 
 /// Ascending by number, each once: the last name weighs most.
 pub fn ascending(mut labels: Vec<Label>) -> Vec<Label> {
-    labels.sort_by(|left, right| left.iter().rev().cmp(right.iter().rev()));
+    labels.sort_by(by_number);
     labels.dedup();
     labels
+}
+
+fn by_number(one: &Label, other: &Label) -> Ordering {
+    one.iter().rev().cmp(other.iter().rev())
+}
+
+/// What remains of a label without a part, if that lies inside.
+pub fn difference(whole: &Label, part: &Label) -> Option<Label> {
+    whole.iter().zip(part).map(|(a, b)| a.checked_sub(*b)).collect()
 }
 
 /// Writes lists over some names, with labels that matter more than others.
@@ -78,17 +91,39 @@ impl Lists<'_> {
         joined(pairs)
     }
 
-    /// RULES with up to `most` rules.
+    /// RULES with up to `most` rules, of which some look for what the one
+    /// before them gives.
     pub fn rules(&self, random: &mut Random, most: usize) -> String {
-        let count = random.within(1..=most);
-        let left_sides = (0..count).map(|_| self.some_left_side(random)).collect();
-        self.joined_rules(random, &ascending(left_sides))
+        let mut rules: Vec<Rule> = Vec::new();
+        for _ in 0..random.within(1..=most) {
+            let feeding = rules.last().filter(|_| random.chance(40));
+            let fed = feeding.and_then(|rule| self.left_side_fed_by(random, rule));
+            let left = fed.unwrap_or_else(|| self.some_left_side(random));
+            rules.push((left, random.below(self.names.len())));
+        }
+        self.joined_rules(rules)
+    }
+
+    /// RULES with up to `most` rules over few names, so that each takes what
+    /// others look for, and mostly gives it, too.
+    pub fn knotted_rules(&self, random: &mut Random, most: usize) -> String {
+        let met = |name: &usize| self.likely.iter().any(|label| label[*name] > 0);
+        let met: Vec<usize> = (0..self.names.len()).filter(met).collect();
+        let shared: Vec<usize> = (0..3).map(|_| random.pick(&met)).collect();
+        let mut rules = Vec::new();
+        for _ in 0..random.within(1..=most) {
+            let left = self.left_side_of(random, &shared);
+            let is_shared = random.chance(75);
+            let any = random.below(self.names.len());
+            rules.push((left, if is_shared { random.pick(&shared) } else { any }));
+        }
+        self.joined_rules(rules)
     }
 
     /// RULES with exactly so many rules.
     pub fn many_rules(&self, random: &mut Random, count: usize) -> String {
-        let left_sides = self.exactly(random, count);
-        self.joined_rules(random, &left_sides)
+        let left_sides = self.exactly(random, count).into_iter();
+        self.joined_rules(left_sides.map(|left| (left, random.below(self.names.len()))).collect())
     }
 
     /// Mostly a likely label, else one of few actions, else any.
@@ -116,6 +151,27 @@ impl Lists<'_> {
         side
     }
 
+    /// What a rule gives, with an action that it leaves of a likely label.
+    fn left_side_fed_by(&self, random: &mut Random, (left, right): &Rule) -> Option<Label> {
+        let rests = self.likely.iter().filter_map(|label| difference(label, left));
+        let rests: Vec<Label> = rests.filter(|rest| actions(rest) > 0).collect();
+        let rest = rests.get(random.below(rests.len().max(1)))?;
+        let remaining: Vec<usize> = (0..rest.len()).filter(|name| rest[*name] > 0).collect();
+        let mut side = vec![0; rest.len()];
+        side[random.pick(&remaining)] += 1;
+        side[*right] += 1;
+        Some(side)
+    }
+
+    /// Two to four actions of these names.
+    fn left_side_of(&self, random: &mut Random, names: &[usize]) -> Label {
+        let mut side = vec![0; self.names.len()];
+        for _ in 0..random.weighted(&[(2, 60), (3, 30), (4, 10)]) {
+            side[random.pick(names)] += 1;
+        }
+        side
+    }
+
     /// So many different labels, of two to six actions each.
     fn exactly(&self, random: &mut Random, count: usize) -> Vec<Label> {
         let mut labels: Vec<Label> = Vec::new();
@@ -132,9 +188,14 @@ impl Lists<'_> {
         joined(labels.iter().map(|label| written(self.names, label)))
     }
 
-    fn joined_rules(&self, random: &mut Random, left_sides: &[Label]) -> String {
-        let left_sides = left_sides.iter().map(|left| written(self.names, left));
-        joined(left_sides.map(|left| format!("{}>{}", left, random.pick(self.names))))
+    /// The rules ascending; of two with one left side the first.
+    fn joined_rules(&self, mut rules: Vec<Rule>) -> String {
+        rules.sort_by(|one, other| by_number(&one.0, &other.0));
+        rules.dedup_by(|one, other| one.0 == other.0);
+        let rules = rules
+            .iter()
+            .map(|(left, right)| format!("{}>{}", written(self.names, left), self.names[*right]));
+        joined(rules)
     }
 }
 

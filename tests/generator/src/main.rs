@@ -36,7 +36,7 @@ type WholeClass = (&'static str, fn() -> Vec<Record>);
 const CLASSES: &[Class] = &[
     ("well-formed", well_formed::record, 50_000),
     ("recursion", recursion::record, 15_000),
-    ("communication", communication::record, 4_000),
+    ("communication", communication::record, 5_000),
     ("turning", recursion::turning, 800),
     ("turning-for-long", recursion::turning_for_long, 8),
     ("climbing", recursion::climbing, 500),

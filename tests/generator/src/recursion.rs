@@ -6,7 +6,7 @@ use crate::names;
 use crate::random::Random;
 use crate::well_formed::{list_for, order};
 
-const UNIONS: &[&str] = &["choice", "ifelse", "seq"];
+pub const UNIONS: &[&str] = &["choice", "ifelse", "seq"];
 const GROWING: &[&str] = &["merge", "lmerge"];
 const SHRINKING: &[&str] = &["block", "hide", "allow"];
 const OPERATORS: &[&str] = &[

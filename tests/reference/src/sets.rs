@@ -3,6 +3,7 @@
 use crate::bag::Bag;
 use crate::description::{List, Parts, Term, TwoKind};
 use crate::label_set::{LabelSet, TooLarge};
+use std::collections::BTreeSet;
 
 /// Works out one term's set from those of the terms before it and from the
 /// sets that the equations had in the round before.
@@ -72,9 +73,8 @@ fn images(names: usize, pairs: &[(usize, usize)]) -> Vec<usize> {
     images
 }
 
-/// Each label, and what the rules make of it, and again from that. A label
-/// already found is not followed again: many orders of the same applications
-/// lead to it.
+/// Each label, and what comes of it when rules are applied to disjoint parts
+/// of it: what is left of the label with the results beside it.
 fn communicated(
     names: usize,
     operand: &LabelSet,
@@ -85,15 +85,32 @@ fn communicated(
         .map(|(left, right)| (Bag::of_parts(names, left), Bag::of_parts(names, &[(*right, 1)])))
         .collect();
     let mut found = LabelSet::default();
-    let mut waiting: Vec<Bag> = operand.iter().cloned().collect();
-    while let Some(label) = waiting.pop() {
-        if found.add(label.clone())? {
-            for (left, right) in &rules {
-                waiting.extend(label.minus(left).map(|rest| rest.plus(right)));
+    for label in operand.iter() {
+        let ways = ways_to_communicate(names, label, &rules);
+        found.add_all(ways.iter().map(|(rest, aside)| rest.plus(aside)))?;
+    }
+    Ok(found)
+}
+
+/// Every choice of applications to disjoint parts of a label, any number of
+/// each rule: what is left of the label, from which alone further parts are
+/// taken, and the results set aside. Which part was taken first makes no
+/// difference, so the rules come one after the other; and two choices that
+/// leave the same and set the same aside are one.
+fn ways_to_communicate(names: usize, label: &Bag, rules: &[(Bag, Bag)]) -> BTreeSet<(Bag, Bag)> {
+    let mut ways = BTreeSet::from([(label.clone(), Bag::tau(names))]);
+    for (left, right) in rules {
+        let mut waiting: Vec<(Bag, Bag)> = ways.iter().cloned().collect();
+        while let Some((rest, aside)) = waiting.pop() {
+            if let Some(less) = rest.minus(left) {
+                let way = (less, aside.plus(right));
+                if ways.insert(way.clone()) {
+                    waiting.push(way);
+                }
             }
         }
     }
-    Ok(found)
+    ways
 }
 
 /// The labels that are listed, and tau: it is never cut.

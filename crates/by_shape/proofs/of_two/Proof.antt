@@ -9,7 +9,8 @@ use Rattle.places.specs.declared.Growth.{Growth}
 use Rattle.places.specs.Starts.{half, partOf, partIn}
 use Rattle.transfers.specs.Laying.{copyBuilt}
 use Rattle.composing.specs.Adding.{wholeOf, wordsIn}
-use Rattle.composing.proofs.Sequence.{first-large, addTwo, steady-two}
+use Rattle.sets.proofs.Steps.{first-large}
+use Rattle.composing.proofs.Sequence.{addTwo, steady-two}
 use Rattle.by_shape.proofs.Onto.{whole-last, more-last}
 use borrow.Author.Needs.{needs}
 use Rattle.by_shape.proofs.of_two.Statement.{statement}

@@ -9,8 +9,9 @@ use Rattle.wrapping.specs.Ways.{wayFor, wordsFor}
 use Rattle.places.specs.declared.Growth.{Growth}
 use Rattle.places.specs.Starts.{half, partOf, partIn}
 use Rattle.transfers.specs.Laying.{copyBuilt}
-use Rattle.composing.proofs.Sequence.{first-large, steady-way}
-use Rattle.composing.specs.Adding.{newFrom}
+use Rattle.sets.proofs.Steps.{first-large}
+use Rattle.composing.proofs.Sequence.{steady-way}
+use Rattle.composing.specs.Adding.{wordsIn, newFrom}
 use Rattle.by_shape.proofs.Onto.{copy-last}
 use borrow.Author.Needs.{needs}
 use Rattle.by_shape.proofs.of_wrap.Statement.{statement}
@@ -48,7 +49,8 @@ returns-2 c =
     let a = c .before .before .before .before .before .before .before .before .before .before .before .before .before .before .before .before .args in
     let g : Growth = (record { known = partOf 0 (a .before .now) (a .t); part = partOf half (a .this .now) (a .t) }) in
     copy-last (a .at) (a .most) _ (partIn (a .at) 0 (a .before .now) (a .n) (a .work .now))
-    (λ (m : ℕ) (ls : List ℕ). throughBuilt m (wayFor (a .operator)) (wordsFor (a .store .now) (a .operator)) (newFrom g ls)) (a .work .now) _ _ _
+    (λ (m : ℕ) (ls : List ℕ). throughBuilt m (wayFor (a .operator)) (wordsFor (a .store .now) (a .operator)) (wordsIn (g .part) ls) (newFrom g ls))
+    (a .work .now) _ _ _
     (rw (c .before .before .before .before .before .before .old .given .1) at
     (c .before .before .before .before .before .before .before .before .before .before .of-one .ensures))
     (rw (c .before .before .before .before .growth-of .ensures) at (c .before .before .wrapped .ensures))

@@ -94,16 +94,9 @@ pub fn actions_of_a_label(random: &mut Random) -> Vec<u8> {
 
 /// A multi-action with so many actions of the last `used` names.
 fn add_label(random: &mut Random, draft: &mut Draft, used: usize, actions: usize) -> usize {
-    let names = draft.names.len();
-    let mut parts = Vec::new();
-    for (name, count) in lists::label(random, used, actions..=actions).into_iter().enumerate() {
-        if count > 0 {
-            let act = draft.act(names - used + name);
-            parts.push(doubled(act, count, &mut |left, right| draft.two("sync", left, right)));
-        }
-    }
-    let first = parts[0];
-    parts[1..].iter().fold(first, |all, part| draft.two("sync", all, *part))
+    let mut label = vec![0; draft.names.len() - used];
+    label.extend(lists::label(random, used, actions..=actions));
+    draft.multi_action(&label)
 }
 
 /// Several equations with one large body: the equations add nothing to the
@@ -132,11 +125,7 @@ pub fn dies(random: &mut Random) -> Vec<u8> {
     let reports = random.within(1..=5);
     let dies = random.within(2..=[33, 33, 18, 11, 8][reports - 1]);
     let mut draft = Draft::with_letters(reports + 2);
-    let first = draft.act(0);
-    let one_of_them = (1..reports).fold(first, |all, name| {
-        let act = draft.act(name);
-        draft.two("choice", all, act)
-    });
+    let one_of_them = draft.one_of_the_first(reports);
     let die = draft.one("ref", 0);
     let body = draft.two("seq", one_of_them, die);
     draft.bodies.push(body);

@@ -1,4 +1,5 @@
-//! Every example that document 01 gives.
+//! Every example that document 01 gives; P6 has the labels that request
+//! 2026-03 leaves it.
 
 use super::{answered, as_strs, joined, merge_dies, refused, Case};
 use crate::text;
@@ -42,7 +43,7 @@ fn examples_p3_to_p8() {
             &["act a", "act b", "act d", "sync 0 1", "sync 3 2", "comm 4 a:1.b:1>c,c:1.d:1>e"],
             &[],
             1,
-            "a:1.b:1.d:1 c:1.d:1 e:1",
+            "a:1.b:1.d:1 c:1.d:1",
         ),
         ("P7", &["act a", "sync 0 0", "hide 1 a"], &[], 1, "tau"),
         ("P8", &["act a", "tau", "sync 0 1"], &[], 1, "a:1"),

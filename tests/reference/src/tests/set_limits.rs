@@ -30,6 +30,12 @@ impl Terms {
         self.add(format!("choice 0 {}", several))
     }
 
+    /// So many of a name at once.
+    fn at_once(&mut self, name: &str, count: usize) -> usize {
+        let act = self.add(format!("act {}", name));
+        (1..count).fold(act, |all, _| self.add(format!("sync {} {}", all, act)))
+    }
+
     /// Every bag with at most so many of each name, tau among them.
     fn grid(&mut self, sides: &[(&str, usize)]) -> usize {
         let sides: Vec<usize> = sides.iter().map(|(name, most)| self.up_to(name, *most)).collect();
@@ -120,6 +126,31 @@ fn actions_of_merged_dies() {
         let terms = as_strs(&terms);
         let case = Case { names: NAMES, terms: &terms, bodies: &[], root, order: "all" };
         assert_eq!(case.text() == refused(7, 0), passes, "{} dies", dies);
+    }
+}
+
+/// Long labels have many choices of parts, which come to few labels: what a
+/// rule gave is in no other part, and many choices come to the same.
+#[test]
+fn labels_of_a_communication() {
+    let cases: &[(&[(&str, usize)], &str, usize)] = &[
+        (&[("a", 31)], "a:2>b,a:3>c,b:2>d,b:1.c:1>f,c:2>e", 96),
+        (
+            &[("a", 10), ("b", 10), ("c", 11)],
+            "a:2>d,a:1.b:1>d,b:2>d,a:1.c:1>d,b:1.c:1>d,c:2>d",
+            11 * 11 * 12 / 2,
+        ),
+    ];
+    for (label, rules, labels) in cases {
+        let mut terms = Terms::new();
+        let parts: Vec<usize> = label.iter().map(|(name, n)| terms.at_once(name, *n)).collect();
+        let whole =
+            parts.into_iter().reduce(|all, part| terms.add(format!("sync {} {}", all, part)));
+        let root = terms.add(format!("comm {} {}", whole.expect("a part"), rules));
+        let case =
+            Case { names: NAMES, terms: &as_strs(&terms.lines), bodies: &[], root, order: "all" };
+        let head = format!("answer=ok\nrounds=1\nlabels={}\n", labels);
+        assert!(case.text().starts_with(&head), "{}: {}", rules, case.text());
     }
 }
 

@@ -64,13 +64,67 @@ fn communication() {
     check(&[
         (&["act a", "comm 0 a:2>b"], &[], 1, "a:1"),
         (&["act a", "sync 0 0", "sync 1 1", "comm 2 a:2>b"], &[], 1, "a:4 a:2.b:1 b:2"),
-        (&["act a", "sync 0 0", "sync 1 1", "comm 2 a:2>a"], &[], 1, "a:1 a:2 a:3 a:4"),
-        (&["act a", "sync 0 0", "sync 1 0", "comm 2 a:2>b,a:1.b:1>c"], &[], 1, "a:3 a:1.b:1 c:1"),
         (&["act a", "sync 0 0", "sync 1 0", "comm 2 a:2>b,a:3>c"], &[], 1, "a:3 a:1.b:1 c:1"),
         (&["act a", "act b", "merge 0 1", "comm 2 a:1.b:1>d"], &[], 1, "a:1 b:1 a:1.b:1 d:1"),
         (&["tau", "comm 0 a:2>b"], &[], 1, "tau"),
         (&["delta", "comm 0 a:2>b"], &[], 1, ""),
         (&["act a", "merge 0 0", "block 1 a", "comm 2 a:2>b"], &[], 1, ""),
+    ]);
+}
+
+/// What a rule gave takes part in no rule, neither the same nor another; what
+/// the label had of that name takes part as before.
+#[test]
+fn communication_with_results_that_are_left_sides() {
+    check(&[
+        (&["act a", "sync 0 0", "sync 1 1", "comm 2 a:2>a"], &[], 1, "a:2 a:3 a:4"),
+        (&["act a", "sync 0 0", "sync 1 0", "comm 2 a:2>b,a:1.b:1>c"], &[], 1, "a:3 a:1.b:1"),
+        (&["act a", "sync 0 0", "sync 1 1", "comm 2 a:2>b,b:2>c"], &[], 1, "a:4 a:2.b:1 b:2"),
+        (&["act b", "sync 0 0", "sync 1 1", "comm 2 a:2>c,b:2>a"], &[], 1, "a:2 a:1.b:2 b:4"),
+        (
+            &["act a", "act b", "sync 0 0", "sync 1 1", "sync 2 3", "comm 4 a:2>b,b:2>c"],
+            &[],
+            1,
+            "a:2.b:2 b:3 a:2.c:1 b:1.c:1",
+        ),
+        (
+            &["act a", "act b", "sync 0 1", "sync 2 0", "comm 3 a:2>c,a:1.b:1>b"],
+            &[],
+            1,
+            "a:1.b:1 a:2.b:1 b:1.c:1",
+        ),
+    ]);
+}
+
+/// The operand of a comm is original, whoever made it: results of a comm
+/// inside, and in a recursion those of an earlier round.
+#[test]
+fn communication_of_what_was_communicated() {
+    check(&[
+        (
+            &["act a", "sync 0 0", "sync 1 1", "comm 2 a:2>b", "comm 3 b:2>c"],
+            &[],
+            1,
+            "a:4 a:2.b:1 b:2 c:1",
+        ),
+        (
+            &["act a", "sync 0 0", "sync 1 1", "comm 2 a:2>a", "comm 3 a:2>a"],
+            &[],
+            1,
+            "a:1 a:2 a:3 a:4",
+        ),
+        (
+            &["act a", "sync 0 0", "sync 1 1", "ref 0", "comm 3 a:2>a", "choice 2 4"],
+            &[5],
+            4,
+            "a:1 a:2 a:3 a:4",
+        ),
+        (
+            &["act a", "sync 0 0", "sync 1 1", "ref 0", "choice 2 3", "comm 4 a:2>b,b:2>c"],
+            &[5],
+            3,
+            "a:4 a:2.b:1 b:2 c:1",
+        ),
     ]);
 }
 

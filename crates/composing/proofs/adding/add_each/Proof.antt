@@ -1,6 +1,7 @@
 -- `composing::adding::add_each` meets its contract: one addition after the other.
 -- Assumes nothing.
-use Rattle.composing.proofs.Sequence.{pair-large, pair-last, addBy, added-by, steady-by}
+use Rattle.composing.specs.Adding.{addBy}
+use Rattle.composing.proofs.Sequence.{pair-large, pair-last, added-by, steady-by}
 use borrow.Author.Needs.{needs}
 use Rattle.composing.proofs.adding.add_each.Statement.{statement}
 use Rattle.composing.proofs.adding.add_each.Tie as tie

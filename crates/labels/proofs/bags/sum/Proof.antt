@@ -19,8 +19,8 @@ add-if1 c =
     let a = c .before .before .args in
     omega (arith, size-word (a .a .word) (omega arith), size-word (a .b .word) (omega arith))
 
-wrapping-add-u64-requires : tie.Need-wrapping-add-u64-requires
-wrapping-add-u64-requires c κs = search needs
+joined-requires : tie.Need-joined-requires
+joined-requires c κs = search needs
 
 returns : tie.Need-returns
 unfolding sumOf
@@ -35,9 +35,9 @@ returns-2 c =
     let both = c .before .before in
     let actions = both .before .size .result + both .size2 .result in
     let few = le-ltb 31 actions (omega (arith, c .before .if1 .left)) in
-    rw (← both .before .size .ensures, ← both .size2 .ensures, few, ← c .wrapping-add-u64 .ensures)
+    rw (← both .before .size .ensures, ← both .size2 .ensures, few, ← c .joined .ensures)
 
 pub sum-spec : {M : Type 1} → statement M
 sum-spec =
     tie.close
-    (tie.spec size-requires size-requires-2 add-if1 wrapping-add-u64-requires returns returns-2)
+    (tie.spec size-requires size-requires-2 add-if1 joined-requires returns returns-2)

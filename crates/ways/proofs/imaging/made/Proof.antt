@@ -5,7 +5,7 @@ use lib.ListN.{getD}
 use Rattle.meaning.specs.Labels.{number, labelOf, renamed}
 use Rattle.labels.specs.Packing.{packed}
 use Rattle.sets.specs.declared.Offer.the-variants.{Next}
-use Rattle.comm.specs.Rules.{pickOffer}
+use Rattle.ways.specs.Imaging.{pickOffer}
 use Rattle.ways.proofs.imaging.made.Statement.{statement}
 use Rattle.ways.proofs.imaging.made.Tie as tie
 

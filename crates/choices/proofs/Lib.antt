@@ -1,0 +1,11 @@
+-- The laws of choices, each file after those that it cites.
+-- whole: the walk on labels, which takes rules in their order; whole-sound: what it lists comes of the label by rules; complete: what
+-- comes of the label is listed, or it comes of a smaller label that is followed by itself; Packed, next-packed: states that words pack
+pub mod InOrder
+-- minus-digits: a number less one that lies inside it, digit by digit; applies→: what a rule that applies takes and leaves; comes-step:
+-- what comes of a state is its label and what comes of the states that rules lead to
+pub mod Unfolding
+-- covered: of two states with the same label, the one with no less left of what rules take gives what the other gives
+pub mod Covering
+-- comm-outcome: on the numbers of the labels of an operand the walk gives the comm of the labels, or passes a limit
+pub mod Communication
