@@ -19,8 +19,6 @@ constexpr KindTable table_of_kinds() {
 
 constexpr KindTable KINDS = table_of_kinds();
 
-bool is_multi_action(Kind kind) { return kind == Kind::act || kind == Kind::tau || kind == Kind::sync; }
-
 // The lines in the order in which they are due. Reading ends at the first that does not pass.
 class DescriptionReader : ListReader {
     const char *end;
@@ -88,6 +86,7 @@ class DescriptionReader : ListReader {
 
     // What follows the kind of term t, with the end of the line.
     bool take_parts(Term &term, unsigned t) {
+        term.is_multi_action = term.kind <= Kind::delta;
         switch (term.kind) {
         case Kind::tau:
         case Kind::delta:
@@ -116,10 +115,9 @@ class DescriptionReader : ListReader {
         if (!take_number_below(t, term.second)) {
             return false;
         }
-        // With an operand out of range there is no term to look at, and a smaller number to refuse with.
+        // With an operand out of range there is no term to look at.
         if (term.kind == Kind::sync && !has_faults()) {
-            bool are_multi_actions = is_multi_action(d.terms[term.first].kind) && is_multi_action(d.terms[term.second].kind);
-            note(!are_multi_actions, Reason::sync_operand);
+            term.is_multi_action = d.terms[term.first].is_multi_action && d.terms[term.second].is_multi_action;
         }
         return take('\n');
     }

@@ -43,6 +43,7 @@ struct List {
 // `first` is also the name of an act and the equation of a ref.
 struct Term {
     Kind kind;
+    bool is_multi_action; // built of act, tau, delta and sync only: a sync that is has the product alone
     uint8_t first;
     uint8_t second;
     List list;
@@ -67,8 +68,8 @@ struct Description {
     Description(const Description &) = delete;
 };
 
-// Why a description is refused, by number.
-enum class Reason : uint8_t { none, too_long, form, name, range, list, sync_operand, too_large };
+// Why a description is refused, by number. 6 is not in use.
+enum class Reason : uint8_t { none, too_long, form, name, range, list, too_large = 7 };
 
 struct Refusal {
     Reason reason;

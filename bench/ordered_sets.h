@@ -108,11 +108,12 @@ template <class Form> class OrderedSets {
         case Kind::delta:
         case Kind::ref:
             return true;
-        case Kind::sync:
-            return add_product(sets[term.first], sets[term.second], set);
         case Kind::merge:
         case Kind::lmerge:
-            unite(term, set);
+        case Kind::sync:
+            if (!term.is_multi_action) {
+                unite(term, set);
+            }
             return add_product(sets[term.first], sets[term.second], set);
         case Kind::choice:
         case Kind::ifelse:

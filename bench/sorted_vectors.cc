@@ -171,7 +171,7 @@ class SortedVectors {
         const GrowingSet &left = w.sets[term.first];
         const GrowingSet &right = w.sets[term.second];
         w.merger.start();
-        if (term.kind != Kind::sync && !(take_fresh(left) && take_fresh(right))) {
+        if (!term.is_multi_action && !(take_fresh(left) && take_fresh(right))) {
             return false;
         }
         if (term.kind >= Kind::merge && !take_product(left, right)) {

@@ -28,7 +28,7 @@
 extern "C" {
 #endif
 
-#define RIMECUTTER_VERSION "1.1"
+#define RIMECUTTER_VERSION "1.2"
 
 /* The longest description that is read; a longer one gets refusal 1. */
 #define RIMECUTTER_DESCRIPTION_MAX 8192
@@ -38,6 +38,7 @@ extern "C" {
 
 /* What `reason=` says in the text of a refusal. `line=` counts from 1; it is 0
  * where no line is to blame. Number 8 stands in no text: the call returns 0.
+ * The number between 5 and 7 was withdrawn in 1.2 and is not given again.
  */
 enum rimecutter_reason {
     RIMECUTTER_TOO_LONG = 1,  /* over RIMECUTTER_DESCRIPTION_MAX bytes */
@@ -48,7 +49,6 @@ enum rimecutter_reason {
                                  not there */
     RIMECUTTER_AMOUNT = 5,    /* a count of 0, a label of over 31 actions, a
                                  list too long or not ascending */
-    RIMECUTTER_OPERAND = 6,   /* a sync of something that is no multi-action */
     RIMECUTTER_TOO_LARGE = 7, /* the sets pass a limit */
     RIMECUTTER_NO_ROOM = 8    /* the text does not fit the text area */
 };

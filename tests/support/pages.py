@@ -7,14 +7,17 @@ from support.programs import TOP, Failed
 # One width for all pages, and one for the rows of their tables.
 COLUMNS = 100
 ROW_COLUMNS = 130
-REASONS = range(1, 9)
+REASONS = (1, 2, 3, 4, 5, 7, 8)
+# Numbers that were given once and are not used again.
+WITHDRAWN = (6,)
 
 
 def check_pages(top=TOP):
-    """Ends with Failed if the header or docs/FORMAT.md lacks a refusal's number,
-    no page names an example, or a page has a line that is too wide."""
+    """Ends with Failed if the header or docs/FORMAT.md lacks a refusal's number or
+    has one that was withdrawn, no page names an example, or a page has a line
+    that is too wide."""
     pages = sorted([*top.glob("*.md"), *top.glob("*/*.md"), *top.glob("docs/*/*.md")])
-    faults = [*lacking_reasons(top), *nameless_examples(top)]
+    faults = [*wrong_reasons(top), *nameless_examples(top)]
     for page in pages:
         faults += wide_lines(page, COLUMNS, lambda line: not line.startswith("|"))
         faults += wide_lines(page, ROW_COLUMNS)
@@ -24,7 +27,7 @@ def check_pages(top=TOP):
     print(f"{counts} stand on their pages; no line of {len(pages)} pages is too wide")
 
 
-def lacking_reasons(top):
+def wrong_reasons(top):
     header = (top / "include" / "rimecutter.h").read_text()
     numbers = {int(number) for number in re.findall(r"^ +RIMECUTTER_\w+ = (\d+),? +/\*", header, re.MULTILINE)}
     rows = {int(row) for row in re.findall(r"^\| (\d+) \|", (top / "docs" / "FORMAT.md").read_text(), re.MULTILINE)}
@@ -32,6 +35,9 @@ def lacking_reasons(top):
         for number in REASONS:
             if number not in found:
                 yield f"{name} lacks refusal {number}"
+        for number in WITHDRAWN:
+            if number in found:
+                yield f"{name} has refusal {number}, which is withdrawn"
 
 
 def examples(top):

@@ -82,7 +82,7 @@ def add_lines(rng, lines, count, equations):
     the last."""
     for _ in range(count):
         one, other = rng.randrange(len(lines) - 3, len(lines)), rng.randrange(len(lines))
-        two = rng.choice(("merge", "merge", "lmerge", "choice", "seq", "ifelse"))
+        two = rng.choice(("merge", "merge", "lmerge", "sync", "choice", "seq", "ifelse"))
         kinds = ["tau", f"act {rng.choice(NAMES)}", *[f"{two} {one} {other}"] * 4]
         kinds += [operator(rng, rng.choice(list(LISTS)))(one)]
         kinds += [f"ref {rng.randrange(equations)}"] if equations else []
@@ -179,6 +179,31 @@ def spread(kind, two):
     return form
 
 
+def spread_over_sync(kind):
+    """The same for a sync of whole processes: one side is a sum, which has the
+    labels that it is of, and so is no multi-action."""
+
+    def form(rng, one, other, at):
+        wrapped = operator(rng, kind)
+        left, right = rng.choice(((at, other), (other, at)))
+        sides = [f"sum {one}", f"sync {left} {right}", wrapped(left), wrapped(right)]
+        return [*sides, wrapped(at + 1)], [*sides, f"sync {at + 2} {at + 3}"]
+
+    return form
+
+
+def spread_over_actions(kind):
+    """The same for a sync of multi-actions."""
+
+    def form(rng, _, __, at):
+        wrapped = operator(rng, kind)
+        actions = [f"act {name}" for name in rng.choices(NAMES, k=2)]
+        sides = [*actions, f"sync {at} {at + 1}", wrapped(at), wrapped(at + 1)]
+        return [*sides, wrapped(at + 2)], [*sides, f"sync {at + 3} {at + 4}"]
+
+    return form
+
+
 def under_comm(kind):
     """An operator over a communication, and below it."""
 
@@ -189,16 +214,23 @@ def under_comm(kind):
     return form
 
 
+# What looks at the actions of a label one by one, and what at the whole label.
+OF_ACTIONS = ("block", "hide", "rename")
+OF_LABELS = ("comm", "allow")
+
 LAWS = {
     "hide twice": names_twice("hide"),
     "block twice": names_twice("block"),
     "allow twice": allow_twice,
-    **{f"{kind} over {two}": spread(kind, two) for kind in ("block", "hide", "rename") for two in ("merge", "lmerge")},
+    **{f"{kind} over {two}": spread(kind, two) for kind in OF_ACTIONS for two in ("merge", "lmerge")},
+    **{f"{kind} over sync": spread_over_sync(kind) for kind in OF_ACTIONS},
     **{f"{kind} over {two}": spread(kind, two) for kind in LISTS for two in ("choice", "ifelse", "seq")},
 }
 NO_LAWS = {
     "rename twice": rename_twice,
     "comm twice": comm_twice,
-    **{f"{kind} over {two}": spread(kind, two) for kind in ("comm", "allow") for two in ("merge", "lmerge")},
+    **{f"{kind} over {two}": spread(kind, two) for kind in OF_LABELS for two in ("merge", "lmerge")},
+    **{f"{kind} over sync": spread_over_sync(kind) for kind in OF_LABELS},
+    **{f"{kind} over a sync of multi-actions": spread_over_actions(kind) for kind in LISTS},
     **{f"{kind} under comm": under_comm(kind) for kind in ("block", "hide", "rename", "allow")},
 }

@@ -8,9 +8,10 @@ import collections
 import re
 
 from support.programs import Failed
+from support.syncs import SORTS, sorts_of_sync
 
 ANSWERED = 0
-OUTCOMES = [ANSWERED, 1, 2, 3, 4, 5, 6, 7]
+OUTCOMES = [ANSWERED, 1, 2, 3, 4, 5, 7]
 
 # A refusal number, or the answer, with fewer records than this is rare.
 FEW_RECORDS = 1000
@@ -23,6 +24,9 @@ FEW_WITH_A_KIND = 2000
 MANY_ROUNDS = 100
 FEW_WITH_MANY_ROUNDS = 100
 
+# The same for a sort of sync in descriptions that are answered.
+FEW_WITH_A_SYNC = 2000
+
 KINDS_OF_TERM = (
     "act tau delta ref sum cond choice ifelse seq merge lmerge sync"
     " block hide rename comm allow"
@@ -33,9 +37,8 @@ POSSIBLE = {
     **dict.fromkeys(["names", "equations", "terms", "tau", "delta"], [2]),
     **dict.fromkeys(["name", "act"], [2, 3]),
     **dict.fromkeys(["ref", "sum", "cond", "equation", "root"], [2, 4]),
-    **dict.fromkeys(["choice", "ifelse", "seq", "merge", "lmerge"], [2, 4]),
+    **dict.fromkeys(["choice", "ifelse", "seq", "merge", "lmerge", "sync"], [2, 4]),
     **dict.fromkeys(["block", "hide", "rename", "comm", "allow"], [2, 3, 4, 5]),
-    "sync": [2, 4, 6],
     "order": [2, 3, 5],
 }
 
@@ -45,6 +48,7 @@ def report(sample):
     by_class = collections.defaultdict(collections.Counter)
     by_kind = collections.defaultdict(collections.Counter)
     answered_with = collections.Counter()
+    syncs = collections.Counter()
     rounds = []
     for record, text, name in zip(sample.records, sample.texts, sample.classes):
         outcome, second = outcome_of(text)
@@ -52,14 +56,17 @@ def report(sample):
         by_class["together"][outcome] += 1
         if outcome == ANSWERED:
             rounds.append(second)
-            answered_with.update({kind_of(line) for line in record.split(b"\n")})
+            lines = record.split(b"\n")
+            answered_with.update({kind_of(line) for line in lines})
+            syncs.update(sorts_of_sync(lines))
         else:
             by_kind[kind_at(record, second)][outcome] += 1
     show("class", by_class)
     show("line refused", by_kind)
     long = sum(count >= MANY_ROUNDS for count in rounds)
     print(f"most rounds: {max(rounds, default=0)}, {MANY_ROUNDS} or more: {long} records")
-    found = rare(by_class["together"], by_kind, answered_with)
+    print("answered with a sync: " + ", ".join(f"{sort} {syncs[sort]}" for sort in SORTS))
+    found = rare(by_class["together"], by_kind, answered_with, syncs)
     if long < FEW_WITH_MANY_ROUNDS:
         found.append(f"{long} with {MANY_ROUNDS} rounds or more")
     if found:
@@ -97,7 +104,7 @@ def show(title, rows):
         print(f"{name:20}" + "".join(f"{counts[outcome] or '.':>9}" for outcome in OUTCOMES))
 
 
-def rare(together, by_kind, answered_with):
+def rare(together, by_kind, answered_with, syncs):
     """What there are too few records of, told one by one."""
     found = [
         f"{together[outcome]} with outcome {outcome}"
@@ -114,5 +121,10 @@ def rare(together, by_kind, answered_with):
         f"{answered_with[kind]} answered with a term of {kind}"
         for kind in KINDS_OF_TERM
         if answered_with[kind] < FEW_WITH_A_KIND
+    ]
+    found += [
+        f"{syncs[sort]} answered with a sync that is {sort}"
+        for sort in SORTS
+        if syncs[sort] < FEW_WITH_A_SYNC
     ]
     return found

@@ -10,6 +10,10 @@ from support.pages import REASONS, check_pages
 from support.programs import Failed
 
 
+def in_header(number):
+    return f"    RIMECUTTER_R{number} = {number}, /* {number} */\n"
+
+
 class Pages(unittest.TestCase):
     def setUp(self):
         folder = tempfile.TemporaryDirectory()
@@ -18,7 +22,7 @@ class Pages(unittest.TestCase):
         for name in ("include", "docs", "examples"):
             (self.top / name).mkdir()
         (self.top / "examples" / "one.txt").write_text("")
-        self.write("include/rimecutter.h", "".join(f"    RIMECUTTER_R{n} = {n}, /* {n} */\n" for n in REASONS))
+        self.write("include/rimecutter.h", "".join(map(in_header, REASONS)))
         self.write("docs/FORMAT.md", "".join(f"| {n} | when |\n" for n in REASONS))
         self.write("examples/README.md", "- `one`: an example\n")
         self.write("README.md", "short\n")
@@ -32,13 +36,16 @@ class Pages(unittest.TestCase):
         return said.getvalue()
 
     def test_right_pages_are_counted(self):
-        self.assertIn("8 numbers of refusals and 1 examples", self.check())
+        self.assertIn("7 numbers of refusals and 1 examples", self.check())
 
     def test_what_is_wrong_is_told(self):
         header = (self.top / "include" / "rimecutter.h").read_text()
+        rows = (self.top / "docs" / "FORMAT.md").read_text()
         cases = [
             ("include/rimecutter.h", header.replace("= 5", "= 9"), "include/rimecutter.h lacks refusal 5"),
-            ("include/rimecutter.h", header.replace("/* 6 */", ""), "include/rimecutter.h lacks refusal 6"),
+            ("include/rimecutter.h", header.replace("/* 7 */", ""), "include/rimecutter.h lacks refusal 7"),
+            ("include/rimecutter.h", header + in_header(6), "rimecutter.h has refusal 6, which is withdrawn"),
+            ("docs/FORMAT.md", rows + "| 6 | when |\n", "FORMAT.md has refusal 6, which is withdrawn"),
             ("docs/FORMAT.md", "| 1 | when |\n", "docs/FORMAT.md lacks refusal 8"),
             ("examples/README.md", "one", "does not name one"),
             ("README.md", "a" * 101, "line 1 of README.md has 101 columns"),

@@ -8,7 +8,7 @@ use native.Mathlib.Omega.{arith}
 use lib.Dec.{leb}
 use lib.ListN.{getD}
 use borrow.Author.Tests.{leb-true, leb-false, le-leb}
-use Rattle.meaning.specs.Answers.{Fault, form, name, range, amount, operand, faultNumber}
+use Rattle.meaning.specs.Answers.{Fault, form, name, range, amount, faultNumber}
 use Rattle.grammar.specs.Faults.{Found, fine, fault, smaller, worse, unless, worst}
 
 abbrev pub rank : Found → ℕ
@@ -21,10 +21,9 @@ rank-most (fault form) = omega arith
 rank-most (fault name) = omega arith
 rank-most (fault range) = omega arith
 rank-most (fault amount) = omega arith
-rank-most (fault operand) = omega arith
 
 abbrev ranked : ℕ → Found
-ranked n = getD (fine ∷ fine ∷ fault form ∷ fault name ∷ fault range ∷ fault amount ∷ fault operand ∷ []) n fine
+ranked n = getD (fine ∷ fine ∷ fault form ∷ fault name ∷ fault range ∷ fault amount ∷ []) n fine
 
 ranked-rank : (a : Found) → ranked (rank a) ≡ a
 ranked-rank fine = refl
@@ -32,7 +31,6 @@ ranked-rank (fault form) = refl
 ranked-rank (fault name) = refl
 ranked-rank (fault range) = refl
 ranked-rank (fault amount) = refl
-ranked-rank (fault operand) = refl
 
 pub by-rank : (a b : Found) → rank a ≡ rank b → a ≡ b
 by-rank a b e = sym (ranked-rank a) ∙ ap ranked e ∙ ranked-rank b

@@ -2,13 +2,13 @@
 -- Assumes nothing.
 use mathlib.Core.Path.{_≡_, refl}
 use Prim.Native.Nat.{ℕ}
-use Rattle.meaning.specs.Answers.{Fault, form, name, range, amount, operand}
+use Rattle.meaning.specs.Answers.{Fault, form, name, range, amount}
 use Rattle.meaning.proofs.Alike.{alike, alike-through}
 use Rattle.grammar.specs.Faults.{Found, fine, fault}
 use Rattle.faults.specs.CodedFaults.{foundOf}
 use Rattle.faults.specs.Tallies.{Counted}
 use Rattle.faults.specs.declared.Fault as F
-use Rattle.faults.specs.declared.Fault.the-variants.{Form, Name, Range, Amount, Operand}
+use Rattle.faults.specs.declared.Fault.the-variants.{Form, Name, Range, Amount}
 use Rattle.faults.specs.declared.Found as G
 use Rattle.faults.specs.declared.Found.the-variants.{Fine, Faulty}
 use Rattle.faults.specs.declared.Tally.{Tally}
@@ -19,7 +19,6 @@ faultBack form = Form
 faultBack name = Name
 faultBack range = Range
 faultBack amount = Amount
-faultBack operand = Operand
 
 foundBack : Found → G.Found
 foundBack fine = Fine
@@ -32,7 +31,6 @@ found-back (Faulty Form) = refl
 found-back (Faulty Name) = refl
 found-back (Faulty Range) = refl
 found-back (Faulty Amount) = refl
-found-back (Faulty Operand) = refl
 
 pub found-unique : (f g : G.Found) (due : Found) → foundOf f ≡ due → foundOf g ≡ due → f ≡ g
 found-unique f g due p q = alike-through (λ (x : G.Found). foundOf x) foundBack found-back p q

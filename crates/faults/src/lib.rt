@@ -7,14 +7,13 @@ ghost use Rattle.grammar.specs.Faults.{unless, worse};
 ghost use Rattle.faults.specs.CodedFaults.{faultOf, foundOf};
 ghost use Rattle.faults.specs.Tallies.{plusWord, Counted};
 
-// What is wrong with a line: its form, a name in it, a number that leads nowhere, how many there are of something or in which order
-// they stand, or an operand of the wrong kind.
+// What is wrong with a line: its form, a name in it, a number that leads nowhere, or how many there are of something or in which order
+// they stand.
 pub enum Fault {
     Form,
     Name,
     Range,
     Amount,
-    Operand,
 }
 
 // Its number in docs/FORMAT.md.
@@ -26,7 +25,6 @@ pub fn number_of(f: Fault) -> usize
         Fault::Name => 3,
         Fault::Range => 4,
         Fault::Amount => 5,
-        Fault::Operand => 6,
     }
 }
 

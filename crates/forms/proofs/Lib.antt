@@ -3,7 +3,7 @@
 pub mod Farthest
 -- Sought, sought-none, sought-found, sought-more, sought-all, tail-there: the kinds by their places
 pub mod Kinded
--- term-stays, term-taken: a term line after the terms before it
-pub mod Slotted
+-- term-stays, term-taken: a term line with all its faults
+pub mod JoinedFaults
 -- term-unique: what is settled of any two results that meet a promise
 pub mod Uniqueness

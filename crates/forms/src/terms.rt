@@ -40,21 +40,20 @@ fn read_line(line: &[u8], names: &[u64], n: usize, store: &mut [u64]) -> TermSte
     farthest(read_tail(k, &line[next..], names, n, store), next, far)
 }
 
-// A term line, after the terms in the slots. The store is the part of the list store that belongs to the line.
+// A term line, by the term's number. The store is the part of the list store that belongs to the line.
 pub fn read_term(
     line: &[u8],
     names: &[u64],
     equations: usize,
-    slots: &[u64],
     n: usize,
     store: &mut [u64],
 ) -> TermStep
-    ensures { λ r. ⌜ TermAnswer (now (names .entry)) equations (now (slots .entry)) n (now (line .entry)) (now (store .entry)) (now (store .exit)) r ⌝ }
+    ensures { λ r. ⌜ TermAnswer (now (names .entry)) equations n (now (line .entry)) (now (store .entry)) (now (store .exit)) r ⌝ }
 {
     let said = read_line(line, names, n, store);
     let TermStep::To(x, found) = said else {
         return said;
     };
-    let fault = joined_fault(x, found, n, equations, slots);
+    let fault = joined_fault(x, found, n, equations);
     TermStep::To(x, fault)
 }

@@ -13,15 +13,15 @@ use Rattle.meaning.specs.Bytes.{Text, ascii}
 use Rattle.meaning.specs.Descriptions.{Term, Order, Description, names, equations}
 use Rattle.meaning.specs.Descriptions as D
 use Rattle.meaning.specs.Legal.{LegalOrder, Legal}
-use Rattle.meaning.specs.Answers.{Fault, form, name, range, operand}
+use Rattle.meaning.specs.Answers.{Fault, form, name, range}
 use Rattle.meaning.proofs.Tests.{and-left, and-right, and-both}
 use Rattle.grammar.specs.Forms.{countLine, nameLine}
-use Rattle.grammar.specs.Faults.{worse, unless, inRange, operandsFit, termSaid, termFault}
+use Rattle.grammar.specs.Faults.{unless, inRange, termSaid, termFault}
 use Rattle.grammar.specs.Reading.{takeNumber, namesInRange, equationsInRange, termsInRange, isFree, takeName, takeTerm, takeBody, takeOrder, Walk}
 use Rattle.grammar.specs.Reading.{reached, halted, Reading, read, overlong, badLine, allRead, Whole, wholeText, readText}
 use Rattle.grammar.specs.Marks.{decimal}
 use Rattle.grammar.specs.Writing.{termText, orderText, written, LegalWords}
-use Rattle.grammar.proofs.Findings.{fine-tests}
+use Rattle.grammar.proofs.Findings.{fine-unless}
 use Rattle.grammar.proofs.Onwards.{T-not→false}
 use Rattle.grammar.proofs.Writes.{inline?}
 use Rattle.grammar.proofs.Atoms.{itself, faultless, Small, writes-number, writes-word}
@@ -57,9 +57,8 @@ takes-term : (words : List Text) → LegalWords words → (references : ℕ) (te
 unfolding takeTerm termFault
 takes-term words legal references terms =
     line→takes (line-narrow (writes-term words legal)
-    (λ l. worse (unless (inRange references (length terms) (termSaid words l)) range) (unless (operandsFit terms (termSaid words l)) operand))
-    (λ t. T (inRange references (length terms) t) × T (operandsFit terms t))
-    (λ l. fine-tests (inRange references (length terms) (termSaid words l)) (operandsFit terms (termSaid words l)) range operand))
+    (λ l. unless (inRange references (length terms) (termSaid words l)) range) (λ t. T (inRange references (length terms) t))
+    (λ l. fine-unless (inRange references (length terms) (termSaid words l)) range))
     (λ t. terms ++ (t ∷ [])) (takeTerm words references terms) (λ l. refl)
 
 takes-order : (words : List Text) → LegalWords words → Takes (takeOrder words) itself (λ o. ascii "order=" ++ orderText words o) (LegalOrder (length words))
@@ -101,7 +100,7 @@ whole→ t =
         nameCount = (omega arith, omega arith);
         equationCount = omega arith;
         termsCount = (omega arith, omega arith);
-        terms = legal-terms d (omega arith) [] terms refl (omega arith) .0 (subst (λ k. LegalAfter (NewTerm (length words) k) [] terms) (sym (a₆ .1)) (a₅ .2));
+        terms = legal-terms d (omega arith) [] terms (omega arith) .0 (subst (λ k. LegalAfter (NewTerm (length words) k) [] terms) (sym (a₆ .1)) (a₅ .2));
         bodies = legal-bodies (length terms) (omega arith) [] bodies .0 (subst (λ k. LegalAfter (NewBody k) [] bodies) (sym (a₅ .1)) (a₆ .2));
         root = omega arith;
         order = a₈ .1;
@@ -118,7 +117,7 @@ whole← d o legal good =
     let below = legal .root in
     let e = equations d in
     let t = D.termCount d in
-    let legalTerms = legal-terms d (omega arith) [] (d .terms) refl (omega arith) .1 (legal .terms) in
+    let legalTerms = legal-terms d (omega arith) [] (d .terms) (omega arith) .1 (legal .terms) in
     let legalBodies = legal-bodies t (omega arith) [] (d .bodies) .1 (legal .bodies) in
     walk← _ (one-line← (takes-number (ascii "names=") tt namesInRange form) 1 (names d) _ (omega arith, within 1 12 (names d) .1 nameNumber)) (λ l₁.
     walk← _ (lines← takes-name (d .words) [] l₁ _ (legal-words (d .words) .1 good)) (λ l₂.

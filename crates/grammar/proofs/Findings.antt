@@ -22,9 +22,3 @@ fine-worse (fault x) (fault y) = (λ h. absurd (smaller-faulty (leb (faultNumber
 pub fine-unless : (b : Bool) (x : Fault) → IsFine (unless b x) ↔ T b
 fine-unless true x = Iff·rfl
 fine-unless false x = Iff·rfl
-
-pub fine-tests : (a b : Bool) (x y : Fault) → IsFine (worse (unless a x) (unless b y)) ↔ (T a × T b)
-fine-tests a b x y = (
-  λ h. let k = fine-worse (unless a x) (unless b y) .0 h in (fine-unless a x .0 (k .0), fine-unless b y .0 (k .1)),
-  λ h. fine-worse (unless a x) (unless b y) .1 (fine-unless a x .1 (h .0), fine-unless b y .1 (h .1)),
-)

@@ -1,22 +1,22 @@
 -- What is taken line by line is legal, and what is legal is taken: the words, the terms and the bodies.
 -- Assumes nothing.
-use mathlib.Core.Path.{_≡_, refl, sym, ap, subst, _∙_}
+use mathlib.Core.Path.{_≡_, refl, subst, _∙_}
 use mathlib.Core.Logic.{inl, inr, _↔_, Iff·rfl}
 use mathlib.Core.Bool.{Bool, _&&_, not}
-use mathlib.Core.List.{List, [], _∷_, _++_, append-assoc}
-use Prim.Native.Nat.{ℕ, suc, _≤_, _<_}
+use mathlib.Core.List.{List, [], _∷_, _++_}
+use Prim.Native.Nat.{ℕ, suc, _+_, _≤_, _<_}
 use native.Mathlib.Omega.{arith}
 use lib.Dec.{T, ltb, ltb→lt, lt→ltb, not-T, T-not}
-use lib.ListN.{length, getD, length-append, List·getD-append}
+use lib.ListN.{length, length-append}
 use Rattle.meaning.specs.Bytes.{Text, ascii}
 use Rattle.meaning.specs.Sets.{_∈_}
 use Rattle.meaning.specs.Descriptions.{Term, act, tau, delta, ref, sum, cond, choice, ifelse, seq, merge, lmerge}
-use Rattle.meaning.specs.Descriptions.{sync, wrap, Description, names, equations, termCount, termAt}
-use Rattle.meaning.specs.Legal.{Each, isMultiAction, MultiAction, LegalTwo, LegalTerm, LegalTerms}
+use Rattle.meaning.specs.Descriptions.{sync, wrap, Description, names, equations}
+use Rattle.meaning.specs.Legal.{Each, LegalTwo, LegalTerm, LegalTerms}
 use Rattle.meaning.proofs.Tests.{and-left, and-right, and-both}
 use Rattle.meaning.proofs.Members.{in-append}
 use Rattle.grammar.specs.Text.{sameText}
-use Rattle.grammar.specs.Faults.{nameNumber, bothBelow, inRange, operandsFit}
+use Rattle.grammar.specs.Faults.{nameNumber, bothBelow, inRange}
 use Rattle.grammar.specs.Reading.{isFree}
 use Rattle.grammar.specs.Writing.{NameForm, Unreserved, Distinct, LegalWords}
 use Rattle.grammar.proofs.Onwards.{same→, same-refl}
@@ -105,7 +105,7 @@ legal-bodies terms n before (b ∷ bs) = (
 
 -- A term.
 abbrev pub NewTerm : ℕ → ℕ → List Term → Term → Type 0
-NewTerm names equations before t = Sayable names t × (T (inRange equations (length before) t) × T (operandsFit before t))
+NewTerm names equations before t = Sayable names t × T (inRange equations (length before) t)
 
 one-below : (n t : ℕ) → n ≤ 100 → (Small t × T (ltb t n)) ↔ (t < n)
 one-below n t k = (λ h. ltb→lt t n (h .1), λ h. (omega arith, lt→ltb t n h))
@@ -116,49 +116,31 @@ two-below n t u k = (
   λ h. let p = h .0 in let q = h .1 in ((omega arith, omega arith), and-both (ltb t n) (ltb u n) (lt→ltb t n p) (lt→ltb u n q)),
 )
 
--- what is written without operands of its own to test
-with-nothing : {A B C : Type 0} → ((A × B) ↔ C) → (A × (B × Unit {0})) ↔ C
-with-nothing e = (λ h. e .0 (h .0, h .1 .0), λ h. let k = e .1 h in (k .0, (k .1, tt)))
-
 module _ (d : Description) (few : equations d ≤ 100) where
-  -- the terms so far are the first of all terms
-  multi-at : (before more : List Term) → d .terms ≡ before ++ more → (t : ℕ) → t < length before → MultiAction (getD before t delta) ↔ MultiAction (termAt d t)
-  multi-at before more e t h = rw (e, List·getD-append before more delta t h) Iff·rfl
+  term-legal : (n : ℕ) → n ≤ 100 → (t : Term) → (Sayable (names d) t × T (inRange (equations d) n t)) ↔ LegalTerm d n t
+  term-legal n k (act a) = (λ h. h .0, λ h. (h, tt))
+  term-legal n k tau = (λ h. tt, λ h. (tt, tt))
+  term-legal n k delta = (λ h. tt, λ h. (tt, tt))
+  term-legal n k (ref e) = one-below (equations d) e few
+  term-legal n k (sum t) = one-below n t k
+  term-legal n k (cond t) = one-below n t k
+  term-legal n k (choice t u) = two-below n t u k
+  term-legal n k (ifelse t u) = two-below n t u k
+  term-legal n k (seq t u) = two-below n t u k
+  term-legal n k (merge t u) = two-below n t u k
+  term-legal n k (lmerge t u) = two-below n t u k
+  term-legal n k (sync t u) = two-below n t u k
+  term-legal n k (wrap o t) =
+      let below = one-below n t k in
+      (λ h. (below .0 (h .0 .0, h .1), h .0 .1), λ h. let b = below .1 (h .0) in ((b .0, h .1), b .1))
 
-  term-legal : (before more : List Term) → d .terms ≡ before ++ more → length before ≤ 100
-      → (t : Term) → NewTerm (names d) (equations d) before t ↔ LegalTerm d (length before) t
-  term-legal before more e n (act a) = (λ h. h .0, λ h. (h, (tt, tt)))
-  term-legal before more e n tau = (λ h. tt, λ h. (tt, (tt, tt)))
-  term-legal before more e n delta = (λ h. tt, λ h. (tt, (tt, tt)))
-  term-legal before more e n (ref x) = with-nothing (one-below (equations d) x few)
-  term-legal before more e n (sum t) = with-nothing (one-below (length before) t n)
-  term-legal before more e n (cond t) = with-nothing (one-below (length before) t n)
-  term-legal before more e n (choice t u) = with-nothing (two-below (length before) t u n)
-  term-legal before more e n (ifelse t u) = with-nothing (two-below (length before) t u n)
-  term-legal before more e n (seq t u) = with-nothing (two-below (length before) t u n)
-  term-legal before more e n (merge t u) = with-nothing (two-below (length before) t u n)
-  term-legal before more e n (lmerge t u) = with-nothing (two-below (length before) t u n)
-  term-legal before more e n (sync t u) =
-      let below = two-below (length before) t u n in
-      let left = isMultiAction (getD before t delta) in
-      let right = isMultiAction (getD before u delta) in (
-        λ h. let b = below .0 (h .0, h .1 .0) in
-            (b, multi-at before more e t (b .0) .0 (and-left left right (h .1 .1)), multi-at before more e u (b .1) .0 (and-right left right (h .1 .1))),
-        λ h. let b = below .1 (h .0) in
-            (b .0, (b .1, and-both left right (multi-at before more e t (h .0 .0) .1 (h .1)) (multi-at before more e u (h .0 .1) .1 (h .2)))),
-      )
-  term-legal before more e n (wrap o t) =
-      let below = one-below (length before) t n in
-      (λ h. (below .0 (h .0 .0, h .1 .0), h .0 .1), λ h. let b = below .1 (h .0) in ((b .0, h .1), (b .1, tt)))
-
-  pub legal-terms : (before ts : List Term) → d .terms ≡ before ++ ts → termCount d ≤ 100
+  pub legal-terms : (before ts : List Term) → length before + length ts ≤ 100
       → LegalAfter (NewTerm (names d) (equations d)) before ts ↔ LegalTerms d (length before) ts
-  legal-terms before [] e n = Iff·rfl
-  legal-terms before (t ∷ ts) e n =
+  legal-terms before [] n = Iff·rfl
+  legal-terms before (t ∷ ts) n =
       let next = before ++ (t ∷ []) in
-      let all = ap length e ∙ length-append before (t ∷ ts) in
       let one : length next ≡ suc (length before) = length-append before (t ∷ []) ∙ omega arith in
-      let here = term-legal before (t ∷ ts) e (omega arith) t in
+      let here = term-legal (length before) (omega arith) t in
       let there : LegalAfter (NewTerm (names d) (equations d)) next ts ↔ LegalTerms d (suc (length before)) ts =
-      rw one at (legal-terms next ts (e ∙ sym (append-assoc before (t ∷ []) ts)) n) in
+      rw one at (legal-terms next ts (omega arith)) in
       (λ h. (here .0 (h .0), there .0 (h .1)), λ h. (here .1 (h .0), there .1 (h .1)))

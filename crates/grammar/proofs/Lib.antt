@@ -13,7 +13,7 @@ pub mod Decimal
 pub mod Areas
 -- written-append, underway-start, -byte, -step, -end, lent-room: one text behind another in an area
 pub mod Underway
--- fine-worse, fine-unless, fine-tests: a line has no fault exactly when none of its parts has one
+-- fine-worse, fine-unless: a line has no fault exactly when none of its parts has one
 pub mod Findings
 -- T→true, when-past, onward→, literal→, ended→, ..: what a form's answer says of the steps that it is made of
 pub mod Onwards

@@ -1,5 +1,5 @@
--- The listing of README.md, which reads as the description itself, and texts for each refusal number, as one table of cases that
--- the checker computes.
+-- The listing of README.md and the listing with a sync of a merge and a reference, which read as the descriptions themselves, and
+-- texts for each refusal number, as one table of cases that the checker computes.
 -- Assumes nothing.
 use mathlib.Core.Path.{_≡_, refl, subst⁻¹}
 use mathlib.Core.Logic.{inl, inr}
@@ -9,8 +9,8 @@ use lib.ListN.{replicate}
 use Rattle.meaning.specs.Bytes.{Text, ascii}
 use Rattle.meaning.specs.Labels.{plus}
 use Rattle.meaning.specs.Sets.{_∈_}
-use Rattle.meaning.specs.Descriptions.{Description, act, ref, seq, merge, comm, wrap, all}
-use Rattle.meaning.specs.Answers.{form, name, range, amount, operand}
+use Rattle.meaning.specs.Descriptions.{Term, Description, act, ref, seq, merge, sync, comm, wrap, all}
+use Rattle.meaning.specs.Answers.{form, name, range, amount}
 use Rattle.grammar.specs.Text.{sameText, ended, literal, isDigit, isLower, secondDigit, number, wordOn, word, separatedOn}
 use Rattle.grammar.specs.Forms.{part, pair, rule, labelList, alone, ofName, ofOne, ofTwo, ofList, kinds, ofKind, countLine, nameLine, termLine, orderLine}
 use Rattle.grammar.specs.Faults.{worst, rising, nameNumber, nameFault, labelSaid, actions, labelFault, wordsFault}
@@ -34,12 +34,12 @@ tenth l =
     "names=2" ∷ "name=done" ∷ "name=close" ∷ "equations=1" ∷ "terms=5" ∷ "term=act done" ∷ "term=ref 0" ∷ "term=seq 0 1" ∷ "term=merge 1 1" ∷ l
     ∷ "equation=2" ∷ "root=4" ∷ "order=all" ∷ []
 
--- what the listing describes
-abbrev stripe : Description
-stripe =
+-- what the listing describes, by the term of its tenth line
+abbrev stripe : Term → Description
+stripe t =
     record {
       words = ascii "done" ∷ ascii "close" ∷ [];
-      terms = act 0 ∷ ref 0 ∷ seq 0 1 ∷ merge 1 1 ∷ wrap (comm (record { left = 2 ∷ 0 ∷ []; right = 1 } ∷ [])) 3 ∷ [];
+      terms = act 0 ∷ ref 0 ∷ seq 0 1 ∷ merge 1 1 ∷ t ∷ [];
       bodies = 2 ∷ [];
       root = 4;
     }
@@ -55,7 +55,8 @@ case t r = record { given = text t; reading = r }
 -- 8,192 bytes are read, and have no line; one more is too long.
 abbrev pub table : List Case
 table =
-    case listing (read stripe all)
+    case listing (read (stripe (wrap (comm (record { left = 2 ∷ 0 ∷ []; right = 1 } ∷ [])) 3)) all)
+    ∷ case (tenth "term=sync 3 1") (read (stripe (sync 3 1)) all)
     ∷ record { given = replicate 8193 10; reading = overlong }
     ∷ record { given = replicate 8192 10; reading = badLine form 1 }
     ∷ case [] (badLine form 1)
@@ -65,8 +66,6 @@ table =
     ∷ case (tenth "term=sync 1 99") (badLine range 10)
     ∷ case (tenth "term=comm 3 done:1>close") (badLine amount 10)
     ∷ case (tenth "term=block 3 done,done") (badLine amount 10)
-    ∷ case (tenth "term=sync 0 1") (badLine operand 10)
-    ∷ case ("names=1" ∷ "name=a" ∷ "equations=0" ∷ "terms=2" ∷ "term=delta" ∷ "term=sync 0 0" ∷ []) (badLine operand 6)
     ∷ case (listing ++ ("x" ∷ [])) (badLine form 14)
     ∷ []
 
@@ -82,7 +81,7 @@ unfolding plus sameText ended literal isDigit isLower secondDigit number wordOn 
     part pair rule labelList alone ofName ofOne ofTwo ofList kinds ofKind countLine nameLine termLine orderLine
     worst rising nameNumber nameFault labelSaid actions labelFault wordsFault pairsFault rulesFault labelsFault wordsOfFault termFault orderFault
     takeNumber isFree takeName takeTerm takeBody takeOrder firstLine lines wholeText readText
-computed = (refl, (refl, (refl, (refl, (refl, (refl, (refl, (refl, (refl, (refl, (refl, (refl, (refl, tt)))))))))))))
+computed = (refl, (refl, (refl, (refl, (refl, (refl, (refl, (refl, (refl, (refl, (refl, (refl, tt))))))))))))
 
 each : (cs : List Case) → All cs → (c : Case) → c ∈ cs → Holds c
 each (b ∷ cs) h c (inl e) = subst⁻¹ Holds e (h .0)

@@ -1,17 +1,16 @@
--- What a line of right form says once names, counts and the terms before it are known, and which faults it then has.
+-- What a line of right form says once names and counts are known, and which faults it then has.
 -- Assumes nothing.
 use mathlib.Core.Bool.{Bool, true, false, _&&_}
 use mathlib.Core.List.{List, [], _∷_, map}
 use Prim.Native.Nat.{ℕ, suc, _+_}
 use lib.Dec.{leb, ltb}
-use lib.ListN.{length, getD}
+use lib.ListN.{length}
 use Rattle.meaning.specs.Bytes.{Text}
 use Rattle.meaning.specs.Labels as L
 use Rattle.meaning.specs.Labels.{Label, empty, several, plus}
 use Rattle.meaning.specs.Descriptions as D
 use Rattle.meaning.specs.Descriptions.{Term, act, tau, delta, ref, sum, cond, choice, ifelse, seq, merge, lmerge, sync, wrap, Operator, Order}
-use Rattle.meaning.specs.Legal.{isMultiAction}
-use Rattle.meaning.specs.Answers.{Fault, name, range, amount, operand, faultNumber}
+use Rattle.meaning.specs.Answers.{Fault, name, range, amount, faultNumber}
 use Rattle.grammar.specs.Text.{sameText}
 use Rattle.grammar.specs.Forms.{Part, Parts, WordPair, WordRule, Listed, block, hide, rename, comm, allow, Line, plain, acts, wraps, OrderLine, all, only}
 
@@ -134,23 +133,7 @@ inRange equations n (lmerge t u) = bothBelow n t u
 inRange equations n (sync t u) = bothBelow n t u
 inRange equations n (wrap o t) = ltb t n
 
--- An operand of sync is act, tau or such a sync.
-abbrev pub operandsFit : List Term → Term → Bool
-operandsFit terms (sync t u) = isMultiAction (getD terms t delta) && isMultiAction (getD terms u delta)
-operandsFit terms (act a) = true
-operandsFit terms tau = true
-operandsFit terms delta = true
-operandsFit terms (ref e) = true
-operandsFit terms (sum t) = true
-operandsFit terms (cond t) = true
-operandsFit terms (choice t u) = true
-operandsFit terms (ifelse t u) = true
-operandsFit terms (seq t u) = true
-operandsFit terms (merge t u) = true
-operandsFit terms (lmerge t u) = true
-operandsFit terms (wrap o t) = true
-
--- A term line after the terms before it, and the order's line.
+-- A term line, by the term's number, and the order's line.
 abbrev pub termSaid : List Text → Line → Term
 termSaid words (plain t) = t
 termSaid words (acts w) = act (nameNumber words w)
@@ -161,10 +144,8 @@ wordsOfFault words (plain t) = fine
 wordsOfFault words (acts w) = nameFault words w
 wordsOfFault words (wraps l t) = listFault words l
 
-unfoldable pub termFault : List Text → ℕ → List Term → Line → Found
-termFault words equations terms l =
-    worse (wordsOfFault words l)
-    (worse (unless (inRange equations (length terms) (termSaid words l)) range) (unless (operandsFit terms (termSaid words l)) operand))
+unfoldable pub termFault : List Text → ℕ → ℕ → Line → Found
+termFault words equations n l = worse (wordsOfFault words l) (unless (inRange equations n (termSaid words l)) range)
 
 abbrev pub orderSaid : List Text → OrderLine → Order
 orderSaid words all = D.all

@@ -1,5 +1,4 @@
--- The form of each line (docs/FORMAT.md, "The lines"): what can be seen without knowing the names, the counts
--- or the other terms.
+-- The form of each line (docs/FORMAT.md, "The lines"): what can be seen without knowing the names and the counts.
 -- Assumes nothing.
 use mathlib.Core.Bool.{true, false}
 use mathlib.Core.List.{List, [], _∷_}

@@ -52,7 +52,7 @@ takeName words line = formed (nameLine line) (λ w. takenIf (isFree words w) nam
 
 unfoldable pub takeTerm : List Text → ℕ → List Term → Text → Taken (List Term)
 takeTerm words equations terms line =
-    formed (termLine line) (λ l. takenUnless (termFault words equations terms l) (terms ++ (termSaid words l ∷ [])))
+    formed (termLine line) (λ l. takenUnless (termFault words equations (length terms) l) (terms ++ (termSaid words l ∷ [])))
 
 unfoldable pub takeBody : ℕ → List ℕ → Text → Taken (List ℕ)
 takeBody terms bodies line =

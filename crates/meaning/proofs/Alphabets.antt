@@ -1,6 +1,7 @@
 -- P1 to P8, the examples that the order asks to be proved, as one table of cases that the checker computes over the definitions: each description is legal,
--- and its answer has the round count and the labels that the row gives. Two rows after P6 and the last rows are no P: rules applied to parts of one label;
--- an allow list and an order that list nothing both leave tau; and `order=all` widened to an order that names every label of one name.
+-- and its answer has the round count and the labels that the row gives. Two rows after P6 and those after P8 are no P: rules applied to parts of one label;
+-- syncs of whole processes; an allow list and an order that list nothing both leave tau; and `order=all` widened to an order that names every label of one
+-- name.
 -- Assumes nothing.
 use mathlib.Core.Logic.{Dec·and}
 use mathlib.Core.Bool.{Bool, true, false, _&&_}
@@ -11,8 +12,9 @@ use lib.Dec.{T, eqb}
 use Rattle.meaning.specs.Bytes.{Text, ascii}
 use Rattle.meaning.specs.Labels.{Label, size, number, isTau, plus, inside, minus, clear, without, renamedFrom, order}
 use Rattle.meaning.specs.Sets.{member, insert, ascending, spread, product}
-use Rattle.meaning.specs.Descriptions.{Pair, Rule, hide, rename, comm, allow, Term, act, tau, ref, seq, merge, sync, wrap, Order, all, only, Description}
-use Rattle.meaning.specs.Rounds.{target, allowed, communicated, worked, next, roundSets}
+use Rattle.meaning.specs.Descriptions.{Pair, Rule, hide, rename, comm, allow, Term, act, tau, delta, ref, sum, seq, merge, sync, wrap}
+use Rattle.meaning.specs.Descriptions.{Order, all, only, Description}
+use Rattle.meaning.specs.Rounds.{target, allowed, communicated, actionsOnly, worked, next, roundSets}
 use Rattle.meaning.specs.Limits.{total, someLong, someOver, over}
 use Rattle.meaning.specs.Answers.{Outcome, tooLarge, listed, cut, sameLabels, sameSets, answerFrom, answer}
 use Rattle.meaning.proofs.Legality.{legal?, legalTest}
@@ -82,6 +84,20 @@ hidden = described (act 0 ∷ sync 0 0 ∷ wrap (hide (0 ∷ [])) 1 ∷ []) [] 2
 abbrev synced : Description
 synced = described (act 0 ∷ tau ∷ sync 0 1 ∷ []) [] 2
 
+-- Of sync: a deadlock beside an action lets nothing happen, and a sum of one makes the sync one of whole processes. Two sequences,
+-- which run on by themselves after their joint first step. A sync of which one operand is a sync of whole processes is one itself.
+abbrev stuck : Description
+stuck = described (act 0 ∷ delta ∷ sync 0 1 ∷ []) [] 2
+
+abbrev opened : Description
+opened = described (act 0 ∷ delta ∷ sum 1 ∷ sync 0 2 ∷ []) [] 3
+
+abbrev sequences : Description
+sequences = described (act 0 ∷ act 1 ∷ seq 0 1 ∷ act 2 ∷ act 3 ∷ seq 3 4 ∷ sync 2 5 ∷ []) [] 6
+
+abbrev nested : Description
+nested = described (act 0 ∷ sum 0 ∷ sync 0 1 ∷ sync 2 0 ∷ []) [] 3
+
 abbrev allowedTau : Description
 allowedTau = described (act 0 ∷ sync 0 0 ∷ wrap (hide (0 ∷ [])) 1 ∷ wrap (allow []) 2 ∷ []) [] 3
 
@@ -106,6 +122,11 @@ table =
     ∷ case apart all 1 (abcde 2 2 0 0 0 ∷ abcde 0 3 0 0 0 ∷ abcde 2 0 1 0 0 ∷ abcde 0 1 1 0 0 ∷ [])
     ∷ case hidden all 1 (abcde 0 0 0 0 0 ∷ [])
     ∷ case synced all 1 (abcde 1 0 0 0 0 ∷ [])
+    ∷ case stuck all 1 []
+    ∷ case opened all 1 (abcde 1 0 0 0 0 ∷ [])
+    ∷ case sequences all 1 (abcde 1 0 0 0 0 ∷ abcde 0 1 0 0 0 ∷ abcde 0 0 1 0 0 ∷ abcde 1 0 1 0 0 ∷ abcde 0 1 1 0 0
+    ∷ abcde 0 0 0 1 0 ∷ abcde 1 0 0 1 0 ∷ abcde 0 1 0 1 0 ∷ [])
+    ∷ case nested all 1 (abcde 1 0 0 0 0 ∷ abcde 2 0 0 0 0 ∷ abcde 3 0 0 0 0 ∷ [])
     ∷ case allowedTau (only []) 1 (abcde 0 0 0 0 0 ∷ [])
     ∷ case single all 1 ((1 ∷ []) ∷ [])
     ∷ case single (only (upTo 31)) 1 ((1 ∷ []) ∷ [])
@@ -124,7 +145,7 @@ all-hold (c ∷ cs) = holds c && all-hold cs
 
 pub computed : T (all-hold table)
 unfolding all-hold holds says upTo legalTest legal? decLe decLt ℕ-discrete Dec·and
-    answer answerFrom cut sameLabels sameSets over total someOver someLong roundSets next worked
+    answer answerFrom cut sameLabels sameSets over total someOver someLong roundSets next worked actionsOnly
     communicated flatMap allowed target product spread ascending insert member order
     renamedFrom without clear minus inside plus isTau number size
 computed = tt

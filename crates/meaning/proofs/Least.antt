@@ -14,9 +14,11 @@ use Rattle.meaning.specs.Descriptions.{Term, act, tau, delta, ref, sum, 
 use Rattle.meaning.specs.Descriptions.{sync, wrap, Order, Description, termCount, termAt, bodyAt}
 use Rattle.meaning.specs.Legal.{LegalTerm, LegalTerms, Legal}
 use Rattle.meaning.specs.Rounds.{Shape, leaf, reference, one, either, both, joint, through, shape, made, worked, bodySets, next, roundSets, InSet}
+use Rattle.meaning.specs.Rounds.{areMultiActions}
 use Rattle.meaning.specs.Regrouping.{Below}
 use Rattle.meaning.proofs.Members.{Sum, in-ascending}
 use Rattle.meaning.proofs.Shapes.{Family, Made, In, alike, in-made, in-made→, made-grows, made-same, same-below}
+use Rattle.meaning.proofs.Actions.{Operands, below-sync}
 use Rattle.meaning.proofs.Carried.{worked-earlier, worked-last, worked-past, against-last}
 use Rattle.meaning.proofs.Growth.{rounds-grow, round-length, at-body}
 
@@ -42,14 +44,14 @@ legal-below d n (ifelse t u) h = h
 legal-below d n (seq t u) h = h
 legal-below d n (merge t u) h = h
 legal-below d n (lmerge t u) h = h
-legal-below d n (sync t u) h = h .0
+legal-below d n (sync t u) h = below-sync n t u (areMultiActions d t u) h
 legal-below d n (wrap o t) h = h .0
 
-pub legal-operands : (d : Description) (o : Order) → Legal d o → (n : ℕ) → Below n (shape d (termAt d n))
+pub legal-operands : (d : Description) (o : Order) → Legal d o → Operands d
 legal-operands d o l n = legal-below d n (termAt d n) (term-legal d o l n)
 
 -- So the pass over the terms makes the set of each of the sets that it ends with.
-pub worked-is : (d : Description) → ((n : ℕ) → Below n (shape d (termAt d n))) → (eqs : List (List Label)) (n i : ℕ) → i < n
+pub worked-is : (d : Description) → Operands d → (eqs : List (List Label)) (n i : ℕ) → i < n
     → at (worked d eqs n) i ≡ ascending (made eqs (worked d eqs n) (shape d (termAt d i)))
 worked-is d first eqs zero i h = absurd (not-suc-le-zero h)
 worked-is d first eqs (suc n) i h = meet (against-last i n) (worked-is d first eqs n i)
@@ -67,7 +69,7 @@ worked-is d first eqs (suc n) i h = meet (against-last i n) (worked-is d first e
         ∙ ap ascending (earlier (omega arith))
     meet (inr (inr l)) ih = absurd (omega arith)
 
-pub round-is : (d : Description) → ((n : ℕ) → Below n (shape d (termAt d n))) → (eqs : List (List Label)) (i : ℕ)
+pub round-is : (d : Description) → Operands d → (eqs : List (List Label)) (i : ℕ)
     → at (worked d eqs (termCount d)) i ≡ ascending (made eqs (worked d eqs (termCount d)) (shape d (termAt d i)))
 unfolding ascending
 round-is d first eqs i =

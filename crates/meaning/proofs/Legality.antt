@@ -10,9 +10,9 @@ use lib.ListN.{length}
 use Rattle.meaning.specs.Labels.{Label, size, number}
 use Rattle.meaning.specs.Sets.{Above, Rising}
 use Rattle.meaning.specs.Descriptions.{Pair, Rule, Operator, block, hide, rename, comm, allow, Term, act, tau, delta, ref, sum, cond, choice, ifelse, seq}
-use Rattle.meaning.specs.Descriptions.{merge, lmerge, sync, wrap, Order, all, only, Description, names, termCount, equations, termAt}
+use Rattle.meaning.specs.Descriptions.{merge, lmerge, sync, wrap, Order, all, only, Description, names, termCount, equations}
 use Rattle.meaning.specs.Legal.{Each, LegalLabel, LegalNames, LegalPair, LegalRule, LegalLabels, LegalOperator}
-use Rattle.meaning.specs.Legal.{isMultiAction, LegalTwo, LegalTerm, LegalTerms, LegalOrder, Legal}
+use Rattle.meaning.specs.Legal.{LegalTwo, LegalTerm, LegalTerms, LegalOrder, Legal}
 
 three : {A B C : Type 0} → Dec A → Dec B → Dec C → Dec (A × B × C)
 three (yes a) (yes b) (yes c) = yes (a, b, c)
@@ -59,10 +59,6 @@ dec-operator n (comm rs) =
     four (decLe 1 (length rs)) (decLe (length rs) 8) (dec-each (LegalRule n) (dec-rule n) rs) (dec-rising (map (λ r. number (r .left)) rs))
 dec-operator n (allow ls) = dec-labels n ls
 
-dec-test : (b : Bool) → Dec (T b)
-dec-test true = yes tt
-dec-test false = no (λ x. x)
-
 dec-two : (n t u : ℕ) → Dec (LegalTwo n t u)
 dec-two n t u = Dec·and (decLt t n) (decLt u n)
 
@@ -78,7 +74,7 @@ dec-term d n (ifelse t u) = dec-two n t u
 dec-term d n (seq t u) = dec-two n t u
 dec-term d n (merge t u) = dec-two n t u
 dec-term d n (lmerge t u) = dec-two n t u
-dec-term d n (sync t u) = three (dec-two n t u) (dec-test (isMultiAction (termAt d t))) (dec-test (isMultiAction (termAt d u)))
+dec-term d n (sync t u) = dec-two n t u
 dec-term d n (wrap o t) = Dec·and (decLt t n) (dec-operator (names d) o)
 
 dec-terms : (d : Description) (n : ℕ) (ts : List Term) → Dec (LegalTerms d n ts)
@@ -95,7 +91,7 @@ dec-counts d =
 
 unfoldable pub legal? : (d : Description) (o : Order) → Dec (Legal d o)
 unfolding three four dec-each dec-above dec-rising dec-label dec-names dec-pair dec-rule dec-labels
-    dec-operator dec-test dec-two dec-term dec-terms dec-order dec-counts
+    dec-operator dec-two dec-term dec-terms dec-order dec-counts
 legal? d o =
     elim (three (dec-counts d) (dec-terms d 0 (d .terms))
     (three (dec-each (λ b. b < termCount d) (λ b. decLt b (termCount d)) (d .bodies)) (decLt (d .root) (termCount d)) (dec-order (names d) o))) [

@@ -1,7 +1,8 @@
 -- Every label of a round has a count for each name.
 -- Assumes nothing.
 use mathlib.Core.Path.{_≡_, sym, ap, subst, _∙_}
-use mathlib.Core.Logic.{inl, inr}
+use mathlib.Core.Logic.{_⊎_, inl, inr}
+use mathlib.Core.Bool.{Bool, true, false}
 use mathlib.Core.List.{List}
 use Prim.Native.Nat.{ℕ, zero, suc}
 use lib.ListN.{length, length-replicate}
@@ -9,7 +10,7 @@ use Rattle.meaning.specs.Labels.{Label}
 use Rattle.meaning.specs.Sets.{_∈_, at}
 use Rattle.meaning.specs.Descriptions.{Term, act, tau, delta, ref, sum, cond, choice, ifelse, seq, merge, lmerge}
 use Rattle.meaning.specs.Descriptions.{sync, wrap, Description, names, termAt, bodyAt, termCount}
-use Rattle.meaning.specs.Rounds.{shape, made, bodySets, next, roundSets}
+use Rattle.meaning.specs.Rounds.{syncShape, areMultiActions, shape, made, bodySets, next, roundSets}
 use Rattle.meaning.proofs.Bags.{length-plus, length-several}
 use Rattle.meaning.proofs.Members.{Sum, in-ascending}
 use Rattle.meaning.proofs.Shapes.{Family, Made, In, in-made→}
@@ -24,6 +25,18 @@ full-sum : (n : ℕ) (P Q : Label → Type 0) → ((a : Label) → P a → lengt
     → (a : Label) → Sum P Q a → length a ≡ n
 full-sum n P Q p q a x = ap length (x .adds) ∙ length-plus n (x .left) (x .right) (p (x .left) (x .inLeft)) (q (x .right) (x .inRight))
 
+full-both : (n : ℕ) (P Q : Label → Type 0) → ((a : Label) → P a → length a ≡ n) → ((a : Label) → Q a → length a ≡ n)
+    → (a : Label) → (P a ⊎ Q a) ⊎ Sum P Q a → length a ≡ n
+full-both n P Q p q a (inl (inl k)) = p a k
+full-both n P Q p q a (inl (inr k)) = q a k
+full-both n P Q p q a (inr k) = full-sum n P Q p q a k
+
+-- a sync, in either of its shapes
+full-sync : (n : ℕ) (P Q : Family) → ((t : ℕ) (a : Label) → Q t a → length a ≡ n) → (t u : ℕ) (b : Bool) (a : Label)
+    → Made P Q (syncShape b t u) a → length a ≡ n
+full-sync n P Q q t u true a m = full-sum n (Q t) (Q u) (q t) (q u) a m
+full-sync n P Q q t u false a m = full-both n (Q t) (Q u) (q t) (q u) a m
+
 full-made : (d : Description) (P Q : Family) → ((e : ℕ) (a : Label) → P e a → length a ≡ names d) → ((t : ℕ) (a : Label) → Q t a → length a ≡ names d)
     → (t : Term) (a : Label) → Made P Q (shape d t) a → length a ≡ names d
 full-made d P Q p q (act n) a m = elim m [ inl e ↦ ap length e ∙ length-several (names d) n 1 | inr k ↦ absurd k ]
@@ -35,9 +48,9 @@ full-made d P Q p q (cond t) a m = q t a m
 full-made d P Q p q (choice t u) a m = elim m [ inl k ↦ q t a k | inr k ↦ q u a k ]
 full-made d P Q p q (ifelse t u) a m = elim m [ inl k ↦ q t a k | inr k ↦ q u a k ]
 full-made d P Q p q (seq t u) a m = elim m [ inl k ↦ q t a k | inr k ↦ q u a k ]
-full-made d P Q p q (merge t u) a m = elim m [ inl k ↦ elim k [ inl l ↦ q t a l | inr l ↦ q u a l ] | inr k ↦ full-sum (names d) (Q t) (Q u) (q t) (q u) a k ]
-full-made d P Q p q (lmerge t u) a m = elim m [ inl k ↦ elim k [ inl l ↦ q t a l | inr l ↦ q u a l ] | inr k ↦ full-sum (names d) (Q t) (Q u) (q t) (q u) a k ]
-full-made d P Q p q (sync t u) a m = full-sum (names d) (Q t) (Q u) (q t) (q u) a m
+full-made d P Q p q (merge t u) a m = full-both (names d) (Q t) (Q u) (q t) (q u) a m
+full-made d P Q p q (lmerge t u) a m = full-both (names d) (Q t) (Q u) (q t) (q u) a m
+full-made d P Q p q (sync t u) a m = full-sync (names d) P Q q t u (areMultiActions d t u) a m
 full-made d P Q p q (wrap o t) a m = length-image (names d) o (m .source) a (q t (m .source) (m .there)) (m .gives)
 
 pub round-full : (d : Description) (k t : ℕ) → Full (names d) (at (roundSets d k) t)

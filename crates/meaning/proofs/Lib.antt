@@ -21,8 +21,12 @@ pub mod Members
 pub mod Maps
 -- allowed→, tau-allowed, allowed-common, clear-union, ..: allow lists and blocked names as filters of labels
 pub mod Filters
+-- sync-or-other, built-other: a term is a sync or any other
+pub mod SyncOrOther
 -- in-made, made-grows, made-same: what a term is made of, as a property of labels, and what it depends on
 pub mod Shapes
+-- multi-is, lines-agree: what a term is built of, by its line and its operands
+pub mod Actions
 -- carried: a relation of sets that two passes over the terms keep; growth, order and lengths are its instances
 pub mod Carried
 -- rounds-widen, rounds-grow, round-ascends: sets grow with widening and with each round, and ascend
@@ -55,8 +59,12 @@ pub mod WideningCases
 pub mod Examples
 -- hidden-twice, blocked-twice, allowed-twice, tau-passes: operators in a row
 pub mod Rows
--- spread-choice, map-merge, spread-merge, spread-sync: operators over two sides
+-- spread-choice, map-merge, spread-merge: operators over two sides
 pub mod Spreading
+-- same-rounds, same-answer, same-shapes: rounds and answers by the shapes of the terms alone
+pub mod ByShapes
+-- old-sets, old-rounds, old-answer: what was well-formed while sync was of multi-actions alone has the sets and the answer that it had
+pub mod OldSync
 -- rewritten-sets, rewritten-answer: a line regrouped in its place
 pub mod Rewriting
 -- extended-sets, extended-equations: lines that are added

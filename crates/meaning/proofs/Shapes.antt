@@ -3,13 +3,15 @@
 -- Assumes nothing.
 use mathlib.Core.Path.{_≡_, refl, ap, ap₂}
 use mathlib.Core.Logic.{_⊎_, inl, inr}
+use mathlib.Core.Bool.{Bool, _&&_}
 use mathlib.Core.List.{List, [], _∷_, _++_}
 use Prim.Native.Nat.{ℕ, _<_}
 use Rattle.meaning.specs.Labels.{Label, empty, single}
 use Rattle.meaning.specs.Sets.{_∈_, at, spread, product}
 use Rattle.meaning.specs.Descriptions.{Term, act, tau, delta, ref, sum, cond, choice, ifelse, seq, merge, lmerge, sync, wrap, Description, names}
-use Rattle.meaning.specs.Rounds.{image, Shape, leaf, reference, one, either, both, joint, through, shape, made}
+use Rattle.meaning.specs.Rounds.{syncShape, image, isMultiAction, Shape, leaf, reference, one, either, both, joint, through, shape, made}
 use Rattle.meaning.specs.Regrouping.{Below}
+use Rattle.meaning.proofs.SyncOrOther.{NoSync, SyncOrOther, is-sync, other, sync-or-other}
 use Rattle.meaning.proofs.Members.{Through, Sum, in-append, in-spread, in-spread→, in-product, in-product→}
 
 -- a family of label sets: of the equations, or of the terms
@@ -52,10 +54,12 @@ in-made eqs sets (both t u) a m =
 in-made eqs sets (joint t u) a m = in-product (at sets t) (at sets u) a m
 in-made eqs sets (through f t) a m = in-spread f (at sets t) (m .source) a (m .there) (m .gives)
 
--- A shape that gives at least what another gives: the same, one in place of nothing, or through a function that gives more.
+-- A shape that gives at least what another gives: the same, one in place of nothing, both sets beside the product, or through a
+-- function that gives more.
 pub data Grown : Shape → Shape → Type 0 where
   alike : (s : Shape) → Grown s s
   filled : (s : Shape) → Grown (leaf []) s
+  widened : (t u : ℕ) → Grown (joint t u) (both t u)
   fuller : (f g : Label → List Label) (t : ℕ) → ((a b : Label) → b ∈ f a → b ∈ g a) → Grown (through f t) (through g t)
 
 abbrev pub Inside : Family → Family → Type 0
@@ -77,6 +81,7 @@ made-alike P Q P′ Q′ p q (through f t) a m = record { source = m .source; th
 pub made-grows : (P Q P′ Q′ : Family) → Inside P P′ → Inside Q Q′ → {s s′ : Shape} → Grown s s′ → (a : Label) → Made P Q s a → Made P′ Q′ s′ a
 made-grows P Q P′ Q′ p q (alike s) a m = made-alike P Q P′ Q′ p q s a m
 made-grows P Q P′ Q′ p q (filled s) a m = absurd m
+made-grows P Q P′ Q′ p q (widened t u) a m = inr (sum-grows (q t) (q u) m)
 made-grows P Q P′ Q′ p q (fuller f g t h) a m =
     record { source = m .source; there = q t (m .source) (m .there); gives = h (m .source) a (m .gives) }
 
@@ -113,18 +118,25 @@ same-below eqs sets sets′ n h (both t u) b = (h t (b .0), h u (b .1))
 same-below eqs sets sets′ n h (joint t u) b = (h t (b .0), h u (b .1))
 same-below eqs sets sets′ n h (through f t) b = h t b
 
--- The shape of a term depends on no more of a description than its number of names.
-pub shape-names : (d d′ : Description) → names d ≡ names d′ → (t : Term) → shape d t ≡ shape d′ t
-shape-names d d′ e (act a) = ap (λ (n : ℕ). leaf (single n a ∷ [])) e
-shape-names d d′ e tau = ap (λ (n : ℕ). leaf (empty n ∷ [])) e
-shape-names d d′ e delta = refl
-shape-names d d′ e (ref x) = refl
-shape-names d d′ e (sum t) = refl
-shape-names d d′ e (cond t) = refl
-shape-names d d′ e (choice t u) = refl
-shape-names d d′ e (ifelse t u) = refl
-shape-names d d′ e (seq t u) = refl
-shape-names d d′ e (merge t u) = refl
-shape-names d d′ e (lmerge t u) = refl
-shape-names d d′ e (sync t u) = refl
-shape-names d d′ e (wrap o t) = ap (λ (n : ℕ). through (image n o) t) e
+-- The shape of a term depends on no more of a description than its number of names and, of a sync, what its operands are built of.
+pub shape-other : (d d′ : Description) → names d ≡ names d′ → (t : Term) → NoSync t → shape d t ≡ shape d′ t
+shape-other d d′ e (act a) o = ap (λ (n : ℕ). leaf (single n a ∷ [])) e
+shape-other d d′ e tau o = ap (λ (n : ℕ). leaf (empty n ∷ [])) e
+shape-other d d′ e delta o = refl
+shape-other d d′ e (ref x) o = refl
+shape-other d d′ e (sum t) o = refl
+shape-other d d′ e (cond t) o = refl
+shape-other d d′ e (choice t u) o = refl
+shape-other d d′ e (ifelse t u) o = refl
+shape-other d d′ e (seq t u) o = refl
+shape-other d d′ e (merge t u) o = refl
+shape-other d d′ e (lmerge t u) o = refl
+shape-other d d′ e (sync t u) o = absurd o
+shape-other d d′ e (wrap p t) o = ap (λ (n : ℕ). through (image n p) t) e
+
+pub shape-same : (d d′ : Description) → names d ≡ names d′ → ((t : ℕ) → isMultiAction d t ≡ isMultiAction d′ t) → (t : Term) → shape d t ≡ shape d′ t
+shape-same d d′ e m t = same (sync-or-other t)
+  where
+    same : {x : Term} → SyncOrOther x → shape d x ≡ shape d′ x
+    same (is-sync t u) = ap₂ {C = Shape} (λ (a b : Bool). syncShape (a && b) t u) (m t) (m u)
+    same (other x o) = shape-other d d′ e x o

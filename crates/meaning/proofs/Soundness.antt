@@ -2,17 +2,20 @@
 -- Assumes nothing.
 use mathlib.Core.Path.{_≡_, refl, sym, subst}
 use mathlib.Core.Logic.{_⊎_, inl, inr}
+use mathlib.Core.Bool.{Bool, true, false}
 use mathlib.Core.List.{List}
-use Prim.Native.Nat.{ℕ}
+use Prim.Native.Nat.{ℕ, zero, suc}
+use lib.Dec.{T}
 use Rattle.meaning.specs.Labels.{Label}
 use Rattle.meaning.specs.Sets.{_∈_}
 use Rattle.meaning.specs.Descriptions.{Term, act, tau, ref, sum, cond, choice, ifelse, seq, merge, lmerge}
 use Rattle.meaning.specs.Descriptions.{sync, wrap, Order, Description, names, termAt, bodyAt}
-use Rattle.meaning.specs.Legal.{LegalOperator, MultiAction, LegalTerm, Legal}
-use Rattle.meaning.specs.Rounds.{image, shape, InSet}
+use Rattle.meaning.specs.Legal.{LegalOperator, LegalTerm, Legal}
+use Rattle.meaning.specs.Rounds.{syncShape, areMultiActions, image, ofActions, actionsOnly, isMultiAction, shape, InSet}
 use Rattle.meaning.specs.Runs.{State, ended, term, followed, beside, within, Step, by-act, by-tau, by-ref, by-sum, by-cond}
 use Rattle.meaning.specs.Runs.{by-choice-left, by-choice-right, by-ifelse-left, by-ifelse-right, by-seq, by-merge, by-lmerge, by-sync}
 use Rattle.meaning.specs.Runs.{by-operator, before, after, on-left, on-right, on-both, inner, Run, stop, go, OnRun}
+use Rattle.meaning.proofs.Tests.{and-left, and-right}
 use Rattle.meaning.proofs.Members.{Through, Sum}
 use Rattle.meaning.proofs.Shapes.{Made, sum-grows}
 use Rattle.meaning.proofs.Operators.{acts-image}
@@ -64,26 +67,50 @@ module _ (d : Description) (o : Order) (legal : Legal d o) where
   legal-as : (t : ℕ) (x : Term) → termAt d t ≡ x → LegalTerm d t x
   legal-as t x e = subst (λ (y : Term). LegalTerm d t y) e (term-legal d o legal t)
 
-  multi-as : (t : ℕ) (x : Term) → termAt d t ≡ x → MultiAction (termAt d t) → MultiAction x
-  multi-as t x e = subst MultiAction e
-
   -- a multi-action ends with its one step
-  quiet : {t : ℕ} {a : Label} {s : State} → MultiAction (termAt d t) → Step d (term t) a s → (b : Label) → Can d s b → ⊥
-  quiet {t} h (by-act e) b c = c
-  quiet {t} h (by-tau e) b c = c
-  quiet {t} h (by-ref {e = n} e p) b c = multi-as t (ref n) e h
-  quiet {t} h (by-sum {u = u} e p) b c = multi-as t (sum u) e h
-  quiet {t} h (by-cond {u = u} e p) b c = multi-as t (cond u) e h
-  quiet {t} h (by-choice-left {u = u} {v = v} e p) b c = multi-as t (choice u v) e h
-  quiet {t} h (by-choice-right {u = u} {v = v} e p) b c = multi-as t (choice u v) e h
-  quiet {t} h (by-ifelse-left {u = u} {v = v} e p) b c = multi-as t (ifelse u v) e h
-  quiet {t} h (by-ifelse-right {u = u} {v = v} e p) b c = multi-as t (ifelse u v) e h
-  quiet {t} h (by-seq {u = u} {v = v} e p) b c = multi-as t (seq u v) e h
-  quiet {t} h (by-merge {u = u} {v = v} e p) b c = multi-as t (merge u v) e h
-  quiet {t} h (by-lmerge {u = u} {v = v} e p) b c = multi-as t (lmerge u v) e h
-  quiet {t} h (by-operator {u = u} {o = w} e p) b c = multi-as t (wrap w u) e h
-  quiet {t} h (by-sync {u = u} {v = v} e p q) b c =
-      silent (λ x y. quiet (legal-as t (sync u v) e .1) p x y) (λ x y. quiet (legal-as t (sync u v) e .2) q x y) c
+  multi-as : (deep t : ℕ) (x : Term) → termAt d t ≡ x → T (actionsOnly (suc deep) d t) → T (ofActions (actionsOnly deep d) x)
+  unfolding actionsOnly
+  multi-as deep t x e = subst (λ (y : Term). T (ofActions (actionsOnly deep d) y)) e
+
+  never : (t : ℕ) → T (actionsOnly 0 d t) → ⊥
+  unfolding actionsOnly
+  never t h = h
+
+  quiet : (deep : ℕ) {t : ℕ} {a : Label} {s : State} → T (actionsOnly deep d t) → Step d (term t) a s → (b : Label) → Can d s b → ⊥
+  quiet zero {t} h p b c = never t h
+  quiet (suc deep) {t} h (by-act e) b c = c
+  quiet (suc deep) {t} h (by-tau e) b c = c
+  quiet (suc deep) {t} h (by-ref {e = n} e p) b c = multi-as deep t (ref n) e h
+  quiet (suc deep) {t} h (by-sum {u = u} e p) b c = multi-as deep t (sum u) e h
+  quiet (suc deep) {t} h (by-cond {u = u} e p) b c = multi-as deep t (cond u) e h
+  quiet (suc deep) {t} h (by-choice-left {u = u} {v = v} e p) b c = multi-as deep t (choice u v) e h
+  quiet (suc deep) {t} h (by-choice-right {u = u} {v = v} e p) b c = multi-as deep t (choice u v) e h
+  quiet (suc deep) {t} h (by-ifelse-left {u = u} {v = v} e p) b c = multi-as deep t (ifelse u v) e h
+  quiet (suc deep) {t} h (by-ifelse-right {u = u} {v = v} e p) b c = multi-as deep t (ifelse u v) e h
+  quiet (suc deep) {t} h (by-seq {u = u} {v = v} e p) b c = multi-as deep t (seq u v) e h
+  quiet (suc deep) {t} h (by-merge {u = u} {v = v} e p) b c = multi-as deep t (merge u v) e h
+  quiet (suc deep) {t} h (by-lmerge {u = u} {v = v} e p) b c = multi-as deep t (lmerge u v) e h
+  quiet (suc deep) {t} h (by-operator {u = u} {o = w} e p) b c = multi-as deep t (wrap w u) e h
+  quiet (suc deep) {t} h (by-sync {u = u} {v = v} e p q) b c =
+      let each = multi-as deep t (sync u v) e h in
+      silent (quiet deep (and-left (actionsOnly deep d u) (actionsOnly deep d v) each) p)
+      (quiet deep (and-right (actionsOnly deep d u) (actionsOnly deep d v) each) q) c
+
+  -- The joint step of a sync, and what its sides can do after it: nothing where both are multi-actions.
+  abbrev Synced : Bool → ℕ → ℕ → Label → Type 0
+  Synced multi u v = Made (λ e. InSet d (bodyAt d e)) (InSet d) (syncShape multi u v)
+
+  joint-step : (multi : Bool) (u v : ℕ) (a : Label) → Sum (InSet d u) (InSet d v) a → Synced multi u v a
+  joint-step true u v a x = x
+  joint-step false u v a x = inr x
+
+  after-sync : (multi : Bool) (u v : ℕ) {a b : Label} {s r : State} → areMultiActions d u v ≡ multi
+      → Step d (term u) a s → Kept d (term u) a s → Step d (term v) b r → Kept d (term v) b r → (c : Label) → Can d (beside s r) c → Synced multi u v c
+  after-sync true u v e p k q l c x =
+      let each = subst T (sym e) tt in
+      absurd (silent (quiet (suc u) (and-left (isMultiAction d u) (isMultiAction d v) each) p)
+      (quiet (suc v) (and-right (isMultiAction d u) (isMultiAction d v) each) q) x)
+  after-sync false u v e p k q l c x = beside-grows (k .rest) (l .rest) x
 
   kept : {s r : State} {a : Label} → Fine d s → Step d s a r → Kept d s a r
   kept h (by-act {t = t} {n = n} e) = record { shown = from t (act n) e _ (inl refl); rest = λ b c. absurd c; fine = tt }
@@ -113,10 +140,11 @@ module _ (d : Description) (o : Order) (legal : Legal d o) where
   kept h (by-sync {t = t} {u = u} {v = v} {a = a} {b = a′} e p q) =
       let k = kept tt p in
       let l = kept tt q in
-      let multi = legal-as t (sync u v) e in
+      let multi = areMultiActions d u v in
       record {
-        shown = from t (sync u v) e _ (record { left = a; right = a′; inLeft = k .shown; inRight = l .shown; adds = refl });
-        rest = λ b c. absurd (silent (quiet (multi .1) p) (quiet (multi .2) q) c);
+        shown = from t (sync u v) e _
+            (joint-step multi u v _ (record { left = a; right = a′; inLeft = k .shown; inRight = l .shown; adds = refl }));
+        rest = λ b c. from t (sync u v) e b (after-sync multi u v refl p k q l b c);
         fine = (k .fine, l .fine);
       }
   kept h (by-operator {t = t} {u = u} {o = w} e p) = as-part d (from t (wrap w u) e) (kept (legal-as t (wrap w u) e .1, tt) p)

@@ -85,9 +85,6 @@ module _ (f : Label → List Label) (multiplies : Multiplies f) where
           (multiplies (l .source) (r .source) c .1
           (record { left = x .left; right = x .right; inLeft = l .gives; inRight = r .gives; adds = x .adds }))
 
-  under-synced : (s t : List Label) → under f (synced s t) ≡ synced (under f s) (under f t)
-  under-synced s t = under-set f (product s t) ∙ under-product s t
-
   under-merged : (s t : List Label) → under f (merged s t) ≡ merged (under f s) (under f t)
   under-merged s t =
       let s′ = under f s in
@@ -134,7 +131,3 @@ image-multiplies names (renames ps) = turn-multiplies names (renamed names (targ
 pub spread-merge : (names : ℕ) {o : Operator} → ActionByAction o → (s t : List Label)
     → wrapped names o (merged s t) ≡ merged (wrapped names o s) (wrapped names o t)
 spread-merge names {o} alone = under-merged (image names o) (image-multiplies names alone)
-
-pub spread-sync : (names : ℕ) {o : Operator} → ActionByAction o → (s t : List Label)
-    → wrapped names o (synced s t) ≡ synced (wrapped names o s) (wrapped names o t)
-spread-sync names {o} alone = under-synced (image names o) (image-multiplies names alone)

@@ -70,16 +70,16 @@ answerFrom (suc more) d o k before =
 unfoldable pub answer : Description → Order → Outcome
 answer d o = answerFrom 2049 d o 0 (roundSets d 0)
 
--- Refusals. 2 to 6 are faults of a line; 1 and 7 come with line 0. (8 is the C call's alone, and is said where that call is.)
+-- Refusals. 2 to 5 are faults of a line; 1 and 7 come with line 0, and the number 6 is given no more. (8 is the C call's alone, and
+-- is said where that call is.)
 pub data Fault : Type 0 where
-  form name range amount operand : Fault
+  form name range amount : Fault
 
 abbrev pub faultNumber : Fault → ℕ
 faultNumber form = 2
 faultNumber name = 3
 faultNumber range = 4
 faultNumber amount = 5
-faultNumber operand = 6
 
 pub data Refusal : Type 0 where
   tooLong : Refusal

@@ -1,16 +1,14 @@
--- Legal descriptions: what refusals 4, 5 and 6 leave, with every name known and every count in range (docs/FORMAT.md,
+-- Legal descriptions: what refusals 4 and 5 leave, with every name known and every count in range (docs/FORMAT.md,
 -- "The lines" and "The lists").
 -- Assumes nothing.
 use mathlib.Core.Path.{_≡_}
-use mathlib.Core.Bool.{Bool, true, false}
 use mathlib.Core.List.{List, [], _∷_, map}
 use Prim.Native.Nat.{ℕ, suc, _≤_, _<_}
-use lib.Dec.{T}
 use lib.ListN.{length}
 use Rattle.meaning.specs.Labels.{Label, size, number}
 use Rattle.meaning.specs.Sets.{Rising}
 use Rattle.meaning.specs.Descriptions.{Pair, Rule, Operator, block, hide, rename, comm, allow, Term, act, tau, delta, ref, sum, cond, choice, ifelse, seq}
-use Rattle.meaning.specs.Descriptions.{merge, lmerge, sync, wrap, Order, all, only, Description, names, termCount, equations, termAt}
+use Rattle.meaning.specs.Descriptions.{merge, lmerge, sync, wrap, Order, all, only, Description, names, termCount, equations}
 
 abbrev pub Each : {A : Type 0} → (A → Type 0) → List A → Type 0
 Each P [] = Unit {0}
@@ -46,25 +44,6 @@ LegalOperator names (rename ps) = LegalPairs names ps
 LegalOperator names (comm rs) = LegalRules names rs
 LegalOperator names (allow ls) = LegalLabels names ls
 
--- An operand of sync is act, tau or such a sync.
-abbrev pub isMultiAction : Term → Bool
-isMultiAction (act a) = true
-isMultiAction tau = true
-isMultiAction (sync t u) = true
-isMultiAction delta = false
-isMultiAction (ref e) = false
-isMultiAction (sum t) = false
-isMultiAction (cond t) = false
-isMultiAction (choice t u) = false
-isMultiAction (ifelse t u) = false
-isMultiAction (seq t u) = false
-isMultiAction (merge t u) = false
-isMultiAction (lmerge t u) = false
-isMultiAction (wrap o t) = false
-
-abbrev pub MultiAction : Term → Type 0
-MultiAction t = T (isMultiAction t)
-
 -- A term at its number: operands have smaller numbers.
 abbrev pub LegalTwo : ℕ → ℕ → ℕ → Type 0
 LegalTwo n t u = (t < n) × (u < n)
@@ -81,7 +60,7 @@ LegalTerm d n (ifelse t u) = LegalTwo n t u
 LegalTerm d n (seq t u) = LegalTwo n t u
 LegalTerm d n (merge t u) = LegalTwo n t u
 LegalTerm d n (lmerge t u) = LegalTwo n t u
-LegalTerm d n (sync t u) = LegalTwo n t u × MultiAction (termAt d t) × MultiAction (termAt d u)
+LegalTerm d n (sync t u) = LegalTwo n t u
 LegalTerm d n (wrap o t) = (t < n) × LegalOperator (names d) o
 
 -- the terms, numbered from n on

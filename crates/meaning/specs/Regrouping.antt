@@ -1,6 +1,7 @@
 -- Regrouping: lines that may stand for each other by the laws, and descriptions that differ by such lines (docs/LAWS.md).
 -- Assumes nothing.
 use mathlib.Core.Path.{_≡_}
+use mathlib.Core.Bool.{false}
 use mathlib.Core.List.{map}
 use Prim.Native.Nat.{ℕ, _<_}
 use lib.ListN.{set}
@@ -8,23 +9,24 @@ use Rattle.meaning.specs.Sets.{at}
 use Rattle.meaning.specs.Descriptions.{Operator, Term, act, tau, delta, ref, sum, cond, choice, ifelse, seq}
 use Rattle.meaning.specs.Descriptions.{merge, lmerge, sync, wrap, Description, termCount, termAt}
 use Rattle.meaning.specs.Legal.{Each}
-use Rattle.meaning.specs.Rounds.{Shape, leaf, reference, one, either, both, joint, through, shape, roundSets, equationSets}
+use Rattle.meaning.specs.Rounds.{areMultiActions, Shape, leaf, reference, one, either, both, joint, through, shape, roundSets, equationSets}
 use Rattle.meaning.specs.Laws.{InOne, ActionByAction}
 
--- Which operators spread over which kinds: each over those of which one side steps at a time; where both sides may step at
--- once, those that look at the actions one by one.
-pub data Spreads (o : Operator) : (ℕ → ℕ → Term) → Type 0 where
-  over-choice : Spreads o choice
-  over-ifelse : Spreads o ifelse
-  over-seq : Spreads o seq
-  over-merge : ActionByAction o → Spreads o merge
-  over-lmerge : ActionByAction o → Spreads o lmerge
-  over-sync : ActionByAction o → Spreads o sync
+-- Which operators spread over which kinds of line: each over those of which one side steps at a time; where both sides may step
+-- at once, those that look at the actions one by one. A sync is such a line where its operands are not both multi-actions: what is
+-- spread out never is one.
+pub data Spreads (d : Description) (o : Operator) (t u : ℕ) : (ℕ → ℕ → Term) → Type 0 where
+  over-choice : Spreads d o t u choice
+  over-ifelse : Spreads d o t u ifelse
+  over-seq : Spreads d o t u seq
+  over-merge : ActionByAction o → Spreads d o t u merge
+  over-lmerge : ActionByAction o → Spreads d o t u lmerge
+  over-sync : ActionByAction o → areMultiActions d t u ≡ false → Spreads d o t u sync
 
 -- Two lines that may stand for each other beside the lines of a description.
 pub data Regroups (d : Description) : Term → Term → Type 0 where
   in-one : {o p q : Operator} {t u : ℕ} → InOne o p q → termAt d t ≡ wrap p u → Regroups d (wrap o t) (wrap q u)
-  spread-out : {o : Operator} {two : ℕ → ℕ → Term} → Spreads o two → {m t u t′ u′ : ℕ} → termAt d m ≡ two t u
+  spread-out : {o : Operator} {two : ℕ → ℕ → Term} {m t u t′ u′ : ℕ} → Spreads d o t u two → termAt d m ≡ two t u
       → termAt d t′ ≡ wrap o t → termAt d u′ ≡ wrap o u → Regroups d (wrap o m) (two t′ u′)
 
 -- The description with another line at a number.

@@ -1,7 +1,7 @@
 -- The sets of all terms, round by round (docs/FORMAT.md, "The terms").
 -- Assumes nothing.
 use mathlib.Core.Path.{_≡_}
-use mathlib.Core.Bool.{Bool, true, false, _||_}
+use mathlib.Core.Bool.{Bool, true, false, _&&_, _||_}
 use mathlib.Core.List.{List, [], _∷_, _++_, map, flatMap}
 use mathlib.Core.Logic.{_≢_}
 use Prim.Native.Nat.{ℕ, zero, suc, pred, _≤_, _<_}
@@ -46,12 +46,45 @@ image names (rename ps) = turn (renamed names (target ps))
 image names (comm rs) = λ a. communicated (size a) names rs a []
 image names (allow ls) = keep (allowed ls)
 
+-- Built of act, tau, delta and sync only, through every sync in it, so that it steps at most once. Operands have smaller numbers, so
+-- that the syncs in a term go no deeper than its number.
+abbrev pub ofActions : (ℕ → Bool) → Term → Bool
+ofActions operand (act a) = true
+ofActions operand tau = true
+ofActions operand delta = true
+ofActions operand (sync t u) = operand t && operand u
+ofActions operand (ref e) = false
+ofActions operand (sum t) = false
+ofActions operand (cond t) = false
+ofActions operand (choice t u) = false
+ofActions operand (ifelse t u) = false
+ofActions operand (seq t u) = false
+ofActions operand (merge t u) = false
+ofActions operand (lmerge t u) = false
+ofActions operand (wrap o t) = false
+
+unfoldable pub actionsOnly : ℕ → Description → ℕ → Bool
+actionsOnly zero d t = false
+actionsOnly (suc deep) d t = ofActions (actionsOnly deep d) (termAt d t)
+
+abbrev pub isMultiAction : Description → ℕ → Bool
+isMultiAction d t = actionsOnly (suc t) d t
+
+abbrev pub areMultiActions : Description → ℕ → ℕ → Bool
+areMultiActions d t u = isMultiAction d t && isMultiAction d u
+
 -- The 17 kinds take their labels in seven ways.
 pub data Shape : Type 0 where
   leaf : List Label → Shape
   reference one : ℕ → Shape
   either both joint : ℕ → ℕ → Shape
   through : (Label → List Label) → ℕ → Shape
+
+-- sync: both operands' sets and their product, because after the joint first step the two sides run on as a merge; where both are
+-- multi-actions, the product alone.
+abbrev pub syncShape : (multi : Bool) → ℕ → ℕ → Shape
+syncShape true t u = joint t u
+syncShape false t u = both t u
 
 abbrev pub shape : Description → Term → Shape
 shape d (act a) = leaf (single (names d) a ∷ [])
@@ -65,7 +98,7 @@ shape d (ifelse t u) = either t u
 shape d (seq t u) = either t u
 shape d (merge t u) = both t u
 shape d (lmerge t u) = both t u
-shape d (sync t u) = joint t u
+shape d (sync t u) = syncShape (areMultiActions d t u) t u
 shape d (wrap o t) = through (image (names d) o) t
 
 abbrev pub made : List (List Label) → List (List Label) → Shape → List Label

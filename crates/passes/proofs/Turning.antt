@@ -26,6 +26,7 @@ unfolding worked flat total
 ready-start d k older before this work b z =
     record {
       legal = b .legal;
+      joins = b .joins;
       room = b .room;
       old = b .old;
       lower = b .lower;

@@ -13,6 +13,7 @@ use Rattle.meaning.specs.Legal.{Legal}
 use Rattle.meaning.specs.Rounds.{equationSets, roundSets}
 use Rattle.meaning.specs.Limits.{over}
 use Rattle.table.specs.Encoded.{storeOf, tableOf}
+use Rattle.syncs.specs.Merges.{SyncsJoin}
 use Rattle.places.specs.Starts.{half, whole, startIn}
 use Rattle.terms.specs.Laid.{Begins, Laid}
 use Rattle.terms.specs.Working.{Kept}
@@ -30,6 +31,7 @@ pub record RoundOver (d : Description) (k : ℕ) (work work′ : List ℕ) : Typ
 -- Between two rounds: round k in the lower half, no round before it stable, no limit passed.
 pub record Between (d : Description) (k : ℕ) (older before work : List ℕ) : Type 0 where
   pub legal : Legal d all
+  pub joins : SyncsJoin d
   pub room : whole ≤ length work
   pub old : Begins (termCount d) (roundSets d (pred k)) older
   pub lower : Laid 0 (termCount d) (roundSets d k) before work

@@ -16,7 +16,7 @@ use Rattle.table.specs.Encoded.{filled, wordOf, slotsFrom, termsWords, orderWor
 use Rattle.table.proofs.Fillings.{length-filled, filled-two}
 use Rattle.faults.specs.CodedFaults.{faultOf}
 use Rattle.faults.specs.declared.Fault.{Fault}
-use Rattle.faults.specs.declared.Fault.the-variants.{Form, Name, Range, Amount, Operand}
+use Rattle.faults.specs.declared.Fault.the-variants.{Form, Name, Range, Amount}
 use Rattle.lists.specs.Lists.{overlaid}
 use Rattle.grammar.specs.Reading.{takeOrder, Walk, reached, halted, walk, oneLine, Reading, read, badLine}
 use Rattle.grammar.specs.Reading.{Whole, fromOrder, fromBodies, fromTerms, wholeText, described}
@@ -41,7 +41,6 @@ fault-back Form = refl
 fault-back Name = refl
 fault-back Range = refl
 fault-back Amount = refl
-fault-back Operand = refl
 
 -- A bad line, where so many lines stand before those that were read.
 pub ends-here : {due : Reading} {after : List ℕ} {r : Read} (before : ℕ) {p : Progress} {f : Fault} {line at : ℕ} → p ≡ Bad f line → before + line ≡ at

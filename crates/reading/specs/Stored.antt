@@ -7,11 +7,11 @@ use Prim.Native.Nat.{ℕ}
 use lib.Dec.{leb}
 use lib.ListN.{length, drop, replicate}
 use Rattle.meaning.specs.Bytes.{Text}
-use Rattle.meaning.specs.Answers.{Fault, form, name, range, amount, operand}
+use Rattle.meaning.specs.Answers.{Fault, form, name, range, amount}
 use Rattle.table.specs.declared.Order.the-variants.{All}
 use Rattle.table.specs.Encoded.{tableOf, blank, orderFor, storeOf}
 use Rattle.faults.specs.declared.Fault as F
-use Rattle.faults.specs.declared.Fault.the-variants.{Form, Name, Range, Amount, Operand}
+use Rattle.faults.specs.declared.Fault.the-variants.{Form, Name, Range, Amount}
 use Rattle.grammar.specs.Reading.{Reading, read, overlong, badLine, readText}
 use Rattle.reading.specs.declared.Answer.{Answer}
 use Rattle.reading.specs.declared.Answer.the-variants.{Fine, TooLong, Bad}
@@ -22,7 +22,6 @@ faultFor form = Form
 faultFor name = Name
 faultFor range = Range
 faultFor amount = Amount
-faultFor operand = Operand
 
 -- What is returned for each reading; after a refusal the table is that of nothing.
 abbrev pub refusing : Answer → Read

@@ -15,7 +15,7 @@ use Rattle.meaning.specs.Descriptions.{Description, Order}
 use Rattle.meaning.specs.Limits.{PassesLimit}
 use Rattle.meaning.specs.Answers as A
 use Rattle.meaning.specs.Answers.{Outcome, tooLarge, listed, Lists, Answers, Fault, form, name, range, amount}
-use Rattle.meaning.specs.Answers.{operand, Refusal, tooLong, inLine, large, reasonOf, Verdict}
+use Rattle.meaning.specs.Answers.{Refusal, tooLong, inLine, large, reasonOf, Verdict}
 use Rattle.meaning.specs.Widening.{Widens}
 use Rattle.meaning.proofs.Tests.{or-true→, or-false→}
 use Rattle.meaning.proofs.Alike.{alike-through}
@@ -132,8 +132,7 @@ refusalFrom (suc (suc zero)) line = inLine form line
 refusalFrom (suc (suc (suc zero))) line = inLine name line
 refusalFrom (suc (suc (suc (suc zero)))) line = inLine range line
 refusalFrom (suc (suc (suc (suc (suc zero))))) line = inLine amount line
-refusalFrom (suc (suc (suc (suc (suc (suc zero)))))) line = inLine operand line
-refusalFrom (suc (suc (suc (suc (suc (suc (suc n))))))) line = large
+refusalFrom (suc (suc (suc (suc (suc (suc n)))))) line = large
 
 refusal-back : (r : Refusal) → refusalFrom (A.refused r .reason) (A.refused r .line) ≡ r
 unfolding refusalFrom
@@ -142,7 +141,6 @@ refusal-back (inLine form line) = refl
 refusal-back (inLine name line) = refl
 refusal-back (inLine range line) = refl
 refusal-back (inLine amount line) = refl
-refusal-back (inLine operand line) = refl
 refusal-back large = refl
 
 pub refusal-unique : {r r′ : Refusal} {v : Verdict} → A.refused r ≡ v → A.refused r′ ≡ v → r ≡ r′

@@ -65,7 +65,6 @@ fault-back A.form = refl
 fault-back A.name = refl
 fault-back A.range = refl
 fault-back A.amount = refl
-fault-back A.operand = refl
 
 -- equal readings say the same
 answer-eq : {x y : Read} → x ≡ y → x .answer ≡ y .answer

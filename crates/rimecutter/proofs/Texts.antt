@@ -17,7 +17,7 @@ use Rattle.meaning.specs.Descriptions.{Description, Order, names}
 use Rattle.meaning.specs.Legal.{Each}
 use Rattle.meaning.specs.Answers as A
 use Rattle.meaning.specs.Answers.{Outcome, tooLarge, listed, Lists, Answers, Refusal, tooLong, inLine, large, Fault, form}
-use Rattle.meaning.specs.Answers.{name, range, amount, operand, faultNumber, reasonOf, lineOf, Verdict}
+use Rattle.meaning.specs.Answers.{name, range, amount, faultNumber, reasonOf, lineOf, Verdict}
 use Rattle.meaning.proofs.Digits.{size→small}
 use Rattle.meaning.proofs.Answers.{reason-eq, line-eq, rounds-eq, labels-eq, answer-right}
 use Rattle.meaning.proofs.Members.{each-in}
@@ -50,14 +50,12 @@ faults-numbered form = omega arith
 faults-numbered name = omega arith
 faults-numbered range = omega arith
 faults-numbered amount = omega arith
-faults-numbered operand = omega arith
 
-pub faults-below : (f : Fault) → faultNumber f ≤ 6
+pub faults-below : (f : Fault) → faultNumber f ≤ 5
 faults-below form = omega arith
 faults-below name = omega arith
 faults-below range = omega arith
 faults-below amount = omega arith
-faults-below operand = omega arith
 
 pub refusals-numbered : (r : Refusal) → 1 ≤ reasonOf r
 refusals-numbered tooLong = omega arith

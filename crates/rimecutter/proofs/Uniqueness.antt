@@ -5,7 +5,7 @@ use mathlib.Core.List.{List}
 use Prim.Native.Nat.{ℕ, zero, suc}
 use Rattle.meaning.specs.Answers.{Verdict}
 use Rattle.meaning.proofs.Alike.{alike, alike-through}
-use Rattle.faults.specs.declared.Fault.the-variants.{Form, Name, Range, Amount, Operand}
+use Rattle.faults.specs.declared.Fault.the-variants.{Form, Name, Range, Amount}
 use Rattle.rimecutter.specs.declared.Answer.{Answer}
 use Rattle.rimecutter.specs.declared.Answer.the-variants.{Listed, TooLong, Bad, TooLarge}
 use Rattle.rimecutter.specs.Calls.{Call, verdictOf}
@@ -19,8 +19,7 @@ answerFrom (suc (suc zero)) v = Bad Form (v .line)
 answerFrom (suc (suc (suc zero))) v = Bad Name (v .line)
 answerFrom (suc (suc (suc (suc zero)))) v = Bad Range (v .line)
 answerFrom (suc (suc (suc (suc (suc zero))))) v = Bad Amount (v .line)
-answerFrom (suc (suc (suc (suc (suc (suc zero)))))) v = Bad Operand (v .line)
-answerFrom (suc (suc (suc (suc (suc (suc (suc n))))))) v = TooLarge
+answerFrom (suc (suc (suc (suc (suc (suc n)))))) v = TooLarge
 
 answer-back : (a : Answer) → answerFrom (verdictFor a .reason) (verdictFor a) ≡ a
 unfolding answerFrom
@@ -30,7 +29,6 @@ answer-back (Bad Form line) = refl
 answer-back (Bad Name line) = refl
 answer-back (Bad Range line) = refl
 answer-back (Bad Amount line) = refl
-answer-back (Bad Operand line) = refl
 answer-back TooLarge = refl
 
 -- A verdict is that of one answer only.

@@ -24,7 +24,7 @@ pub record Large (text : Text) : Type 0 where
   pub reads : readText text ≡ read given order
   pub passes : PassesLimit given
 
--- 1: input too long, or an area too short. 2 to 6: the first bad line and its smallest number (`readText`). 7: the least sets pass a limit.
+-- 1: input too long, or an area too short. 2 to 5: the first bad line and its smallest number (`readText`). 7: the least sets pass a limit.
 abbrev pub Due : Text → (work answer : ℕ) → Refusal → Type 0
 Due text work answer tooLong = (work < workWords) ⊎ ((answer < answerWords) ⊎ (8192 < length text))
 Due text work answer (inLine fault line) = Roomy work answer × (readText text ≡ badLine fault line)

@@ -23,7 +23,7 @@ module _ (k t u entries : ℕ) (h : k < 32) where
   unfolding packedTerm
   third-of = omega arith
 
-  pub wordTerm-packed : wordTerm (packedTerm k t u entries) ≡ kindTerm k (t % 65536) (u % 65536) (entries % 65536)
+  wordTerm-packed : wordTerm (packedTerm k t u entries) ≡ kindTerm k (t % 65536) (u % 65536) (entries % 65536)
   unfolding wordTerm
   wordTerm-packed = rw (kind-of, first-of, second-of, third-of)
 

@@ -2,7 +2,7 @@
 // than 16 bits is cut; a legal description has none.
 //
 // A kind's number is its place in the list of kinds that a line is held to (`kinds` in `crates/grammar/specs/Forms.antt`). Delta
-// is 0, so that a slot which was never written is a deadlock: sync asks for multi-actions, and such a slot is none.
+// is 0, so that a slot which was never written is a deadlock.
 use crate::Operator;
 use crate::Place;
 use crate::Term;

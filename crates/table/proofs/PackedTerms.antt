@@ -60,5 +60,5 @@ module _ (d : D.Description) (narrow : D.names d â‰¤ 12) (few : D.equations d â‰
   term-back (D.seq t u) l = two-back 8 t u (omega arith) l
   term-back (D.merge t u) l = two-back 9 t u (omega arith) l
   term-back (D.lmerge t u) l = two-back 10 t u (omega arith) l
-  term-back (D.sync t u) l = two-back 11 t u (omega arith) (l .0)
+  term-back (D.sync t u) l = two-back 11 t u (omega arith) l
   term-back (D.wrap o t) l = wrap-back o t (l .0) (l .1)

@@ -88,27 +88,36 @@ module _ (d : D.Description) (o : D.Order) where
       ap (take count) (drop-at (filled 3072 0 (termsWords (d .terms))) (filled 32 0 (orderWords o)) 3072 (length-filled 0 3072 (termsWords (d .terms))))
       ∙ first-whole count (orderWords o) e small
 
--- The term of a slot, and the body of an equation.
-slot-from : (k i : ℕ) (ts : List D.Term) → i < length ts → getD (slotsFrom k ts) i 0 ≡ termWord (termFor (k + i) (getD ts i D.delta))
-unfolding slotsFrom
-slot-from k i [] h = absurd (omega arith)
-slot-from k zero (t ∷ ts) h = let e : k + 0 ≡ k = omega arith in ap (λ (m : ℕ). termWord (termFor m t)) (sym e)
-slot-from k (suc i) (t ∷ ts) h =
-    let e : suc k + i ≡ k + suc i = omega arith in
-    slot-from (suc k) i ts (omega arith) ∙ ap (λ (m : ℕ). termWord (termFor m (getD ts i D.delta))) e
+-- The word of a slot and its term, past the last term too; and the body of an equation.
+getD-filler : {A : Type 0} (n : ℕ) (x : A) (xs : List A) (i : ℕ) → length xs ≤ n → getD (filled n x xs) i x ≡ getD xs i x
+unfolding filled
+getD-filler zero x [] i h = refl
+getD-filler zero x (y ∷ ys) i h = absurd (omega arith)
+getD-filler (suc n) x [] zero h = refl
+getD-filler (suc n) x [] (suc i) h = getD-filler n x [] i (omega arith)
+getD-filler (suc n) x (y ∷ ys) zero h = refl
+getD-filler (suc n) x (y ∷ ys) (suc i) h = getD-filler n x ys i (omega arith)
 
-slot-of : (d : D.Description) (n : ℕ) → n < D.termCount d → D.termCount d ≤ 96 → getD (tableOf d .slots) n 0 ≡ termWord (termFor n (D.termAt d n))
+slot-from : (k i : ℕ) (ts : List D.Term) → getD (slotsFrom k ts) i 0 ≡ termWord (termFor (k + i) (getD ts i D.delta))
+unfolding slotsFrom
+slot-from k i [] = refl
+slot-from k zero (t ∷ ts) = let e : k + 0 ≡ k = omega arith in ap (λ (m : ℕ). termWord (termFor m t)) (sym e)
+slot-from k (suc i) (t ∷ ts) =
+    let e : suc k + i ≡ k + suc i = omega arith in
+    slot-from (suc k) i ts ∙ ap (λ (m : ℕ). termWord (termFor m (getD ts i D.delta))) e
+
+pub slot-of : (d : D.Description) (n : ℕ) → D.termCount d ≤ 96 → getD (tableOf d .slots) n 0 ≡ termWord (termFor n (D.termAt d n))
 unfolding tableOf
-slot-of d n h few =
+slot-of d n few =
     let e : 0 + n ≡ n = omega arith in
     let l = length-slots 0 (d .terms) in
-    getD-filled 96 0 0 (slotsFrom 0 (d .terms)) n (omega arith) (omega arith)
-    ∙ slot-from 0 n (d .terms) h ∙ ap (λ (m : ℕ). termWord (termFor m (D.termAt d n))) e
+    getD-filler 96 0 (slotsFrom 0 (d .terms)) n (omega arith)
+    ∙ slot-from 0 n (d .terms) ∙ ap (λ (m : ℕ). termWord (termFor m (D.termAt d n))) e
 
 pub term-of : (d : D.Description) (o : D.Order) (n : ℕ) → Legal d o → n < D.termCount d → wordTerm (getD (tableOf d .slots) n 0) ≡ termFor n (D.termAt d n)
 term-of d o n l h =
     let few = l .termsCount .1 in
-    ap wordTerm (slot-of d n h few) ∙ term-back d (l .nameCount .1) (l .equationCount) n (omega arith) (D.termAt d n) (term-legal d o l n)
+    ap wordTerm (slot-of d n few) ∙ term-back d (l .nameCount .1) (l .equationCount) n (omega arith) (D.termAt d n) (term-legal d o l n)
 
 pub body-of : (d : D.Description) (e : ℕ) → e < D.equations d → D.equations d ≤ 16 → getD (tableOf d .bodies) e 0 ≡ D.bodyAt d e
 unfolding tableOf

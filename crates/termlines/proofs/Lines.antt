@@ -31,18 +31,18 @@ use Rattle.textlines.specs.Lines.{LineEnd}
 use Rattle.textlines.specs.declared.Progress.the-variants.{To, Bad}
 use Rattle.textlines.proofs.Walks.{line-lacks, line-there}
 use Rattle.textlines.proofs.LineFaults.{found-fine, taken-fine, taken-faulty}
-use Rattle.termlines.specs.Terms.{TermLine}
+use Rattle.termlines.specs.Terms.{TermAt, TermLine}
 
 module _ (words : List Text) (equations : ℕ) (terms : List D.Term) (l : Text) where
   abbrev then-term : Past Line → Taken (List D.Term)
-  then-term d = formed d (λ x. takenUnless (termFault words equations terms x) (terms ++ (termSaid words x ∷ [])))
+  then-term d = formed d (λ x. takenUnless (termFault words equations (length terms) x) (terms ++ (termSaid words x ∷ [])))
 
   pub term-stuck : {t : Text} → stuck t ≡ termLine l → faulty form ≡ takeTerm words equations terms l
   unfolding takeTerm
   term-stuck q = ap then-term q
 
-  module _ {before after : List ℕ} {x : Term} {f : G.Found} (k : TermTaken words equations terms (termLine l) before after x f) where
-    term-line : takenUnless (termFault words equations terms (k .line)) (terms ++ (termSaid words (k .line) ∷ [])) ≡ takeTerm words equations terms l
+  module _ {before after : List ℕ} {x : Term} {f : G.Found} (k : TermTaken words equations (length terms) (termLine l) before after x f) where
+    term-line : takenUnless (termFault words equations (length terms) (k .line)) (terms ++ (termSaid words (k .line) ∷ [])) ≡ takeTerm words equations terms l
     unfolding takeTerm
     term-line = ap then-term (k .says)
 
@@ -52,37 +52,41 @@ module _ (words : List Text) (equations : ℕ) (terms : List D.Term) (l : Text) 
     pub term-faulty : {g : F.Fault} → f ≡ Faulty g → faulty (faultOf g) ≡ takeTerm words equations terms l
     term-faulty e = taken-faulty (k .faults) (terms ++ (termSaid words (k .line) ∷ [])) term-line e
 
--- A term's line after the terms of the slots, by what its reader came to.
-module _ {text names : List ℕ} {equations : ℕ} {slots : List ℕ} {n : ℕ} {before after : List ℕ} {end : ℕ} (e : LineEnd text end) where
-  pub line-missing : length text ≤ end → TermLine text names equations slots n before after (Bad Form n)
-  line-missing h = record { within = omega arith; said = λ terms kept counted at. line-lacks _ n e h }
+-- A term's line by what its reader came to.
+module _ {text names : List ℕ} {equations n : ℕ} {before after : List ℕ} {end : ℕ} (e : LineEnd text end) where
+  pub line-missing : length text ≤ end → TermLine text names equations n before after (Bad Form n)
+  line-missing h = record { within = omega arith; said = λ terms counted at. line-lacks _ n e h }
 
-  module _ {s : TermStep} (h : end < length text) (r : TermAnswer names equations slots n (take end text) before after s) where
-    pub line-stuck : {p : ℕ} → s ≡ Stuck p → TermLine text names equations slots n before after (Bad Form n)
+  module _ {s : TermStep} (h : end < length text) (r : TermAnswer names equations n (take end text) before after s) where
+    pub line-stuck : {p : ℕ} → s ≡ Stuck p → TermLine text names equations n before after (Bad Form n)
     line-stuck q =
         record {
           within = omega arith;
-          said = λ terms kept counted at.
-              let k = rw q at (r terms kept counted (at .slot) (at .few)) in
+          said = λ terms counted at.
+              let k = rw q at (r (at .few) (at .slot)) in
               line-there _ n e h (term-stuck (map (nameOf 8) names) equations terms _ (k .0));
         }
 
     module _ {x : Term} {f : G.Found} (q : s ≡ T.To x f) where
-      pub line-faulty : {g : F.Fault} → f ≡ Faulty g → TermLine text names equations slots n before after (Bad g n)
+      -- with the number of the terms before it
+      taken-after : (terms : List D.Term) → n ≡ length terms → TermAt names n
+          → TermTaken (map (nameOf 8) names) equations (length terms) (termLine (take end text)) before after x f
+      taken-after terms counted at = rw counted at (rw q at (r (at .few) (at .slot)))
+
+      pub line-faulty : {g : F.Fault} → f ≡ Faulty g → TermLine text names equations n before after (Bad g n)
       line-faulty b =
           record {
             within = omega arith;
-            said = λ terms kept counted at.
-                let k = rw q at (r terms kept counted (at .slot) (at .few)) in
-                line-there _ n e h (term-faulty (map (nameOf 8) names) equations terms _ k b);
+            said = λ terms counted at.
+                line-there _ n e h (term-faulty (map (nameOf 8) names) equations terms _ (taken-after terms counted at) b);
           }
 
-      pub line-fine : {w : ℕ} → f ≡ Fine → w ≡ termWord x → TermLine text names equations slots n before after (To w (end + 1))
+      pub line-fine : {w : ℕ} → f ≡ Fine → w ≡ termWord x → TermLine text names equations n before after (To w (end + 1))
       line-fine b p =
           record {
             within = omega arith;
-            said = λ terms kept counted at.
-                let k = rw q at (r terms kept counted (at .slot) (at .few)) in
+            said = λ terms counted at.
+                let k = taken-after terms counted at in
                 record {
                   term = termSaid (map (nameOf 8) names) (k .line);
                   says = line-there _ n e h (term-fine (map (nameOf 8) names) equations terms _ k b);

@@ -4,7 +4,7 @@ use mathlib.Core.Path.{_≡_, refl, sym, _∙_}
 use mathlib.Core.List.{List, [], _∷_, _++_, map}
 use Prim.Native.Nat.{ℕ, _+_, _*_, _-_, _≤_, _<_}
 use native.Mathlib.Omega.{arith}
-use lib.ListN.{length, take, drop, set, replicate, length-set}
+use lib.ListN.{length, take, drop, set, replicate}
 use Rattle.meaning.specs.Bytes.{Text}
 use Rattle.meaning.specs.Descriptions as D
 use Rattle.table.specs.Decoded.{nameOf}
@@ -31,24 +31,24 @@ own n store = take (size n) (drop (32 * n) store)
 abbrev withOwn : (n : ℕ) → (own store : List ℕ) → List ℕ
 withOwn n own store = take (32 * n) store ++ (own ++ drop (size n) (drop (32 * n) store))
 
-module _ {slots : List ℕ} {n : ℕ} {store : List ℕ} (after : List ℕ) (h : n < 96) where
-  in-store : (text : Text) (terms : List D.Term) (due : Walk (List D.Term)) → Termed terms slots store → n ≡ length terms → (r : Progress)
+module _ {n : ℕ} {store : List ℕ} (after : List ℕ) (h : n < 96) where
+  in-store : (text : Text) (terms : List D.Term) (due : Walk (List D.Term)) → store ≡ filled 3072 0 (termsWords terms) → n ≡ length terms → (r : Progress)
       → TermWalks terms text n due (own n store) after r → NextWalks terms text n due (withOwn n after store) r
-  in-store text terms due t c (To w took) g =
-      let stored = store-more terms n (size n) store h c (omega arith) (t .stored) (g .term) (g .stored) in
+  in-store text terms due s c (To w took) g =
+      let stored = store-more terms n (size n) store h c (omega arith) s (g .term) (g .stored) in
       record { term = g .term; says = g .says; kept = g .kept; stored = stored }
-  in-store text terms due t c (Bad f line) g = g
+  in-store text terms due s c (Bad f line) g = g
 
-  pub store-short : {text names : List ℕ} {equations : ℕ} → length store < 32 * n + 32 → NextTerm text names equations slots n store after (Bad Form n)
+  pub store-short : {text names : List ℕ} {equations : ℕ} → length store < 32 * n + 32 → NextTerm text names equations n store after (Bad Form n)
   store-short l =
       record {
         within = omega arith;
-        said = λ terms t c at. let s : length store ≡ 3072 = rw (t .stored) (length-filled 0 3072 (termsWords terms)) in absurd (omega arith);
+        said = λ terms s c at. let k : length store ≡ 3072 = rw s (length-filled 0 3072 (termsWords terms)) in absurd (omega arith);
       }
 
-  pub line-in-store : {text names : List ℕ} {equations : ℕ} (r : Progress) → TermLine text names equations slots n (own n store) after r
-      → NextTerm text names equations slots n store (withOwn n after store) r
-  line-in-store {text} r l = record { within = l .within; said = λ terms t c at. in-store text terms _ t c r (l .said terms (t .kept) c at) }
+  pub line-in-store : {text names : List ℕ} {equations : ℕ} (r : Progress) → TermLine text names equations n (own n store) after r
+      → NextTerm text names equations n store (withOwn n after store) r
+  line-in-store {text} r l = record { within = l .within; said = λ terms s c at. in-store text terms _ s c r (l .said terms c at) }
 
 abbrev taking : List ℕ → ℕ → List D.Term → Text → Taken (List D.Term)
 taking names equations = takeTerm (map (nameOf 8) names) equations
@@ -62,7 +62,6 @@ pub record ReadTerms (text names : List ℕ) (equations count : ℕ) (slots stor
 
 pub record TermsSoFar (text names : List ℕ) (equations count : ℕ) (before slots store : List ℕ) (from n : ℕ) : Type 0 where
   pub long : length store ≡ length before
-  pub places : length slots ≡ 96
   pub within : from ≤ length text
   pub upto : n ≤ count
   pub read : TermsAt names before → ReadTerms text names equations count slots store from n
@@ -76,7 +75,6 @@ module _ (text names : List ℕ) (equations count : ℕ) (before : List ℕ) whe
   terms-start =
       record {
         long = refl;
-        places = refl;
         within = omega arith;
         upto = omega arith;
         read = λ at. record {
@@ -92,12 +90,12 @@ module _ {text names : List ℕ} {equations count : ℕ} {before slots store : L
   abbrev rest : Text
   rest = take (length text - from) (drop from text)
 
-  module _ (more : n < count) {after : List ℕ} {r : Progress} (t : NextTerm rest names equations slots n store after r) where
+  module _ (more : n < count) {after : List ℕ} {r : Progress} (t : NextTerm rest names equations n store after r) where
     next-said : (at : TermsAt names before)
         → NextWalks (s .read at .terms) rest n (oneLine (taking names equations (s .read at .terms)) n rest) after r
     next-said at =
         let so-far = s .read at in
-        t .said (so-far .terms) (so-far .termed) (so-far .counted) (record { slot = omega arith; few = at .few })
+        t .said (so-far .terms) (so-far .termed .stored) (so-far .counted) (record { slot = omega arith; few = at .few })
 
     pub terms-within : {w took : ℕ} → r ≡ To w took → from + took ≤ length text
     terms-within e = let l = rest-length text from in omega (arith, s .within, (rw e at t) .within)
@@ -107,7 +105,6 @@ module _ {text names : List ℕ} {equations count : ℕ} {before slots store : L
     terms-step e l =
         record {
           long = l ∙ s .long;
-          places = rw length-set (s .places);
           within = terms-within e;
           upto = omega arith;
           read = λ at.

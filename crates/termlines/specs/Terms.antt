@@ -34,16 +34,11 @@ abbrev pub TermWalks : List D.Term → Text → ℕ → Walk (List D.Term) → L
 TermWalks terms text n due before after (To w took) = TermTo terms text n due before after w took
 TermWalks terms text n due before after (Bad f line) = halted (faultOf f) line ≡ due
 
--- The same after the terms before it, which are those of the slots.
-pub record TermLine (text : Text) (names : List ℕ) (equations : ℕ) (slots : List ℕ) (n : ℕ) (before after : List ℕ) (r : Progress) : Type 0 where
+-- The same after any terms before it, of which the line asks no more than their number.
+pub record TermLine (text : Text) (names : List ℕ) (equations n : ℕ) (before after : List ℕ) (r : Progress) : Type 0 where
   pub within : TookOf text (suc n) r
-  pub said : (terms : List D.Term) → slots ≡ filled 96 0 (slotsFrom 0 terms) → n ≡ length terms → TermAt names n
+  pub said : (terms : List D.Term) → n ≡ length terms → TermAt names n
       → TermWalks terms text n (oneLine (takeTerm (map (nameOf 8) names) equations terms) n text) before after r
-
--- Some terms, as they stand in the table and in the store.
-pub record Termed (terms : List D.Term) (slots : List ℕ) (store : List ℕ) : Type 0 where
-  pub kept : slots ≡ filled 96 0 (slotsFrom 0 terms)
-  pub stored : store ≡ filled 3072 0 (termsWords terms)
 
 -- One term more, in the whole store.
 pub record NextTo (terms : List D.Term) (text : Text) (n : ℕ) (due : Walk (List D.Term)) (after : List ℕ) (w took : ℕ) : Type 0 where
@@ -56,10 +51,15 @@ abbrev pub NextWalks : List D.Term → Text → ℕ → Walk (List D.Term) → L
 NextWalks terms text n due after (To w took) = NextTo terms text n due after w took
 NextWalks terms text n due after (Bad f line) = halted (faultOf f) line ≡ due
 
-pub record NextTerm (text : Text) (names : List ℕ) (equations : ℕ) (slots : List ℕ) (n : ℕ) (before after : List ℕ) (r : Progress) : Type 0 where
+pub record NextTerm (text : Text) (names : List ℕ) (equations n : ℕ) (before after : List ℕ) (r : Progress) : Type 0 where
   pub within : TookOf text (suc n) r
-  pub said : (terms : List D.Term) → Termed terms slots before → n ≡ length terms → TermAt names n
+  pub said : (terms : List D.Term) → before ≡ filled 3072 0 (termsWords terms) → n ≡ length terms → TermAt names n
       → NextWalks terms text n (oneLine (takeTerm (map (nameOf 8) names) equations terms) n text) after r
+
+-- Some terms, as they stand in the table and in the store.
+pub record Termed (terms : List D.Term) (slots : List ℕ) (store : List ℕ) : Type 0 where
+  pub kept : slots ≡ filled 96 0 (slotsFrom 0 terms)
+  pub stored : store ≡ filled 3072 0 (termsWords terms)
 
 -- All terms that were asked for; none where a line is bad.
 pub record TermsTo (text : Text) (due : Walk (List D.Term)) (count : ℕ) (after : List ℕ) (slots : List ℕ) (v took : ℕ) : Type 0 where

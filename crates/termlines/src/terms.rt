@@ -12,22 +12,14 @@ use textlines::Progress;
 use textlines::line_end;
 
 // The line's number is the term's; its number after reading is its packed term. Its list goes to its part of the store.
-fn take_term(
-    text: &[u8],
-    names: &[u64],
-    equations: usize,
-    slots: &[u64],
-    n: usize,
-    part: &mut [u64],
-) -> Progress
-    ensures { λ r. ⌜ TermLine (now (text .entry)) (now (names .entry)) equations (now (slots .entry)) n
-        (now (part .entry)) (now (part .exit)) r ⌝ }
+fn take_term(text: &[u8], names: &[u64], equations: usize, n: usize, part: &mut [u64]) -> Progress
+    ensures { λ r. ⌜ TermLine (now (text .entry)) (now (names .entry)) equations n (now (part .entry)) (now (part .exit)) r ⌝ }
 {
     let end = line_end(text);
     if text.len() <= end {
         return Progress::Bad(Fault::Form, n);
     }
-    let step = read_term(&text[..end], names, equations, slots, n, part);
+    let step = read_term(&text[..end], names, equations, n, part);
     let TermStep::To(term, found) = step else {
         return Progress::Bad(Fault::Form, n);
     };
@@ -39,17 +31,9 @@ fn take_term(
 }
 
 // The same with the whole store, where the term's list goes to its own 32 words; where the store ends before them the line is refused.
-fn next_term(
-    text: &[u8],
-    names: &[u64],
-    equations: usize,
-    slots: &[u64],
-    n: usize,
-    store: &mut [u64],
-) -> Progress
+fn next_term(text: &[u8], names: &[u64], equations: usize, n: usize, store: &mut [u64]) -> Progress
     requires { ⌜ n < 96 ⌝ }
-    ensures { λ r. ⌜ NextTerm (now (text .entry)) (now (names .entry)) equations (now (slots .entry)) n
-        (now (store .entry)) (now (store .exit)) r ⌝ }
+    ensures { λ r. ⌜ NextTerm (now (text .entry)) (now (names .entry)) equations n (now (store .entry)) (now (store .exit)) r ⌝ }
 {
     let first = 32 * n;
     let last = first + 32;
@@ -57,7 +41,7 @@ fn next_term(
         return Progress::Bad(Fault::Form, n);
     }
     let part = &mut store[first..last];
-    take_term(text, names, equations, slots, n, part)
+    take_term(text, names, equations, n, part)
 }
 
 // Packed terms in their array, with 0 behind them; all 0 after a bad line.
@@ -93,7 +77,7 @@ pub fn take_terms(
     let mut from = 0;
     let mut n = 0;
     while n < count {
-        let step = next_term(&text[from..], names, equations, &slots, n, store);
+        let step = next_term(&text[from..], names, equations, n, store);
         let Progress::To(w, took) = step else {
             return no_terms(step);
         };

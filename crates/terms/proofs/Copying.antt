@@ -1,7 +1,7 @@
 -- A set copied from the round before: what is laid, and that it is the term's set where what that is built of stayed.
 -- Assumes nothing.
 use mathlib.Core.Path.{_≡_, refl, sym, ap, subst, _∙_}
-use mathlib.Core.Bool.{_&&_}
+use mathlib.Core.Bool.{Bool, true, false, _&&_}
 use mathlib.Core.List.{List, []}
 use Prim.Native.Nat.{ℕ, zero, suc, _+_, _-_, _<_}
 use native.Mathlib.Omega.{arith}
@@ -12,7 +12,8 @@ use Rattle.meaning.specs.Sets.{at, ascending, spread, product}
 use Rattle.meaning.specs.Descriptions.{Description, all, termCount, equations, termAt, bodyAt}
 use Rattle.meaning.specs.Descriptions.{Term, act, tau, delta, ref, sum, cond, choice, ifelse, seq, merge, lmerge, sync, wrap}
 use Rattle.meaning.specs.Legal.{LegalTerm}
-use Rattle.meaning.specs.Rounds.{Shape, leaf, reference, one, either, both, joint, through, shape, made, next, roundSets, equationSets}
+use Rattle.meaning.specs.Rounds.{Shape, leaf, reference, one, either, both, joint, through, areMultiActions, syncShape, shape, made}
+use Rattle.meaning.specs.Rounds.{next, roundSets, equationSets}
 use Rattle.meaning.proofs.Tests.{and-left, and-right}
 use Rattle.meaning.proofs.Growth.{round-length, at-body}
 use Rattle.meaning.proofs.Least.{term-legal}
@@ -69,6 +70,10 @@ module _ (d : Description) (k n : ℕ) (older before this work : List ℕ) (r : 
     two t u h j s =
         (operands t h (and-left (stays before this t) (stays before this u) s), operands u j (and-right (stays before this t) (stays before this u) s))
 
+    same-sync : (t u : ℕ) (b : Bool) → Same sets sets′ t × Same sets sets′ u → IsBuilt (syncShape b t u) × SameFor eqs eqs′ sets sets′ (syncShape b t u)
+    same-sync t u true s = (tt, s)
+    same-sync t u false s = (tt, s)
+
     same-for : (t : Term) → LegalTerm d n t → T (unchanged (tableOf d .bodies) older before this (shapeFor (termFor n t)))
         → IsBuilt (shape d t) × SameFor eqs eqs′ sets sets′ (shape d t)
     same-for (act a) l s = absurd s
@@ -82,7 +87,7 @@ module _ (d : Description) (k n : ℕ) (older before this work : List ℕ) (r : 
     same-for (seq t u) l s = (tt, two t u (l .0) (l .1) s)
     same-for (merge t u) l s = (tt, two t u (l .0) (l .1) s)
     same-for (lmerge t u) l s = (tt, two t u (l .0) (l .1) s)
-    same-for (sync t u) l s = (tt, two t u (l .0 .0) (l .0 .1) s)
+    same-for (sync t u) l s = same-sync t u (areMultiActions d t u) (two t u (l .0) (l .1) s)
     same-for (wrap op t) l s = (tt, operands t (l .0) s)
 
 -- The set of a term whose operands and bodies stayed is that of the round before.

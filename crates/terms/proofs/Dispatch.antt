@@ -1,7 +1,7 @@
 -- The set of a term of the table of a legal description, built as its kind says, is the term's set, or passes a limit.
 -- Assumes nothing.
 use mathlib.Core.Path.{_≡_, refl, sym, ap, subst, _∙_}
-use mathlib.Core.Bool.{true, false}
+use mathlib.Core.Bool.{Bool, true, false}
 use mathlib.Core.List.{List, [], _∷_}
 use Prim.Native.Nat.{ℕ, zero, suc, _+_, _-_, _≤_, _<_}
 use native.Mathlib.Nat.{le-refl}
@@ -12,15 +12,17 @@ use Rattle.meaning.specs.Labels.{empty, single}
 use Rattle.meaning.specs.Descriptions.{Description, Order, all, names, termCount, termAt}
 use Rattle.meaning.specs.Descriptions.{Term, act, tau, delta, ref, sum, cond, choice, ifelse, seq, merge, lmerge, sync, wrap}
 use Rattle.meaning.specs.Legal.{Each, LegalTerm}
-use Rattle.meaning.specs.Rounds.{shape, equationSets}
+use Rattle.meaning.specs.Rounds.{joint, areMultiActions, syncShape, shape, equationSets}
 use Rattle.meaning.specs.Limits.{total}
 use Rattle.meaning.proofs.Bags.{length-several, size-several, size-empty}
 use Rattle.meaning.proofs.Carried.{length-worked}
+use Rattle.meaning.proofs.SyncOrOther.{NoSync}
 use Rattle.meaning.proofs.Least.{term-legal}
 use Rattle.table.specs.Encoded.{operatorFor, termFor, storeOf, tableOf}
 use Rattle.table.proofs.Stores.{body-of}
 use Rattle.labels.proofs.Words.{number-empty}
 use Rattle.labels.proofs.Refinement.{Packs, single-number}
+use Rattle.syncs.specs.Merges.{syncOr, asMerge}
 use Rattle.sets.specs.declared.Built.{Built}
 use Rattle.ways.specs.declared.Way.{Way}
 use Rattle.parts.specs.Parts.{roomAt}
@@ -68,6 +70,11 @@ module _ (d : Description) (o : Order) (k n : ℕ) (older before this work work�
   abbrev Made : Term → Type 0
   Made t = Grown (built room (placeOf d k n) (storeOf d o) (tableOf d .bodies) before this work old (shapeFor (termFor n t))) (placeOf d k n) 0 work work′ r
 
+  -- every sync is one of multi-actions
+  sync-joint : (t u : ℕ) (b : Bool) → syncOr b t u ≡ sync t u → syncShape b t u ≡ joint t u
+  sync-joint t u true h = refl
+  sync-joint t u false h = absurd (subst NoSync h tt)
+
   narrow : names d ≤ 12
   narrow = ready .legal .nameCount .1
 
@@ -91,7 +98,9 @@ module _ (d : Description) (o : Order) (k n : ℕ) (older before this work work�
   kind (seq t u) e l g = two-grown-arm d k n older before this work work′ r ready more false t u (l .0) (l .1) (ap (shape d) e) g
   kind (merge t u) e l g = two-grown-arm d k n older before this work work′ r ready more true t u (l .0) (l .1) (ap (shape d) e) g
   kind (lmerge t u) e l g = two-grown-arm d k n older before this work work′ r ready more true t u (l .0) (l .1) (ap (shape d) e) g
-  kind (sync t u) e l g = joint-arm d k n older before this work work′ r ready more t u (l .0 .0) (l .0 .1) (ap (shape d) e) g
+  kind (sync t u) e l g =
+      joint-arm d k n older before this work work′ r ready more t u (l .0) (l .1)
+      (ap (shape d) e ∙ sync-joint t u (areMultiActions d t u) (subst (λ (x : Term). asMerge d x ≡ x) e (ready .joins n))) g
   kind (wrap op t) e l g =
       let Wrapped : Way → List ℕ → Type 0 =
       λ way ws. Grown

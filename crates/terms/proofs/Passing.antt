@@ -107,6 +107,7 @@ module _ (d : Description) (k n : ℕ) (older before this work work′ : List �
   ready-next =
       record {
         legal = r .legal;
+        joins = r .joins;
         room = omega (arith, r .room, term-kept .long);
         old = r .old;
         lower = lower-stays;

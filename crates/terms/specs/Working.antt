@@ -14,6 +14,7 @@ use Rattle.meaning.specs.Legal.{Legal}
 use Rattle.meaning.specs.Rounds.{shape, made, worked, equationSets, roundSets}
 use Rattle.meaning.specs.Limits.{total, over}
 use Rattle.slots.specs.declared.Term.{Term}
+use Rattle.syncs.specs.Merges.{SyncsJoin}
 use Rattle.table.specs.Encoded.{termFor, storeOf, tableOf}
 use Rattle.sets.specs.declared.Built.{Built}
 use Rattle.sets.specs.declared.Built.the-variants.{TooLarge, Holds}
@@ -25,9 +26,10 @@ abbrev pub partly : Description → ℕ → ℕ → List (List Label)
 partly d k n = worked d (equationSets d k) n
 
 -- Ready for term n of round k+1. `older` and `before` are where the sets of rounds k-1 and k began, `this` is where those of
--- round k+1 begin; in round 1 there is nothing older.
+-- round k+1 begin; in round 1 there is nothing older. Every sync is one of multi-actions: the others are merges by now.
 pub record Ready (d : Description) (k n : ℕ) (older before this work : List ℕ) : Type 0 where
   pub legal : Legal d all
+  pub joins : SyncsJoin d
   pub room : whole ≤ length work
   pub old : Begins (termCount d) (roundSets d (pred k)) older
   pub lower : Laid 0 (termCount d) (roundSets d k) before work

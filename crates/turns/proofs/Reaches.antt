@@ -26,6 +26,10 @@ use Rattle.places.specs.Starts.{half, whole, startIn, partOf}
 use Rattle.places.proofs.Beginnings.{start-low}
 use Rattle.terms.proofs.Areas.{laid-part}
 use Rattle.keeping.specs.Settling.{alone}
+use Rattle.syncs.specs.Merging.{mergedTo}
+use Rattle.syncs.specs.Merges.{withMerges}
+use Rattle.syncs.proofs.MergedSets.{merged-count, merged-legal, merged-join, merged-answer, merged-store}
+use Rattle.syncs.proofs.MergedSlots.{merged-slots}
 use Rattle.turns.specs.declared.Found.{Found}
 use Rattle.turns.specs.declared.Found.the-variants as F
 use Rattle.passes.specs.declared.closing.Counts.{Counts}
@@ -38,18 +42,23 @@ use Rattle.turns.specs.Endings.{foundOf, labelsOf, Fitting, Reached}
 abbrev countsOf : Table → Counts
 countsOf table = record { equations = table .equations; terms = table .terms }
 
+-- The slots with a merge in place of every sync of whole processes are those of the description in which it is one.
+abbrev slotsOf : Table → List ℕ
+slotsOf table = mergedTo (length (table .slots)) (table .slots)
+
 describes : {table : Table} {store : List ℕ} (d : D.Description) (o : D.Order)
     → Legal d o
     → table ≡ tableOf d
     → store ≡ storeOf d o
-    → Describes d o (table .slots) (table .bodies) (countsOf table) store
+    → Describes (withMerges d) o (slotsOf table) (table .bodies) (countsOf table) store
 unfolding tableOf
 describes d o l e f =
     record {
-      legal = l;
-      read = (ap (λ (t : Table). t .slots) e, ap (λ (t : Table). t .bodies) e, ap (λ (t : Table). t .terms) e);
+      legal = merged-legal d o l;
+      joins = merged-join d o l;
+      read = (ap slotsOf e ∙ merged-slots d o l, ap (λ (t : Table). t .bodies) e, ap (λ (t : Table). t .terms) e ∙ sym (merged-count d));
       equations = ap (λ (t : Table). t .equations) e;
-      stored = f;
+      stored = f ∙ sym (merged-store d o);
     }
 
 module _ {table : Table} {store work : List ℕ} where
@@ -69,16 +78,17 @@ module _ {table : Table} {store work : List ℕ} where
       }
 
   module _ {before this now work′ : List ℕ} (room : whole ≤ length work) (long : length now ≡ length work) where
-    reached-large : LastMade (table .slots) (table .bodies) (countsOf table) store work before this now L.TooLarge
+    reached-large : LastMade (slotsOf table) (table .bodies) (countsOf table) store work before this now L.TooLarge
         → work′ ≡ zeroed whole now
         → Reached table store work work′ F.TooLarge
     reached-large last w =
         record {
           short = λ x. absurd (omega arith);
           right = λ d o l e f r.
-              let x = last .right d o (describes d o l e f) in
-              let none : labelsOf (answer d D.all) ≡ [] = ap labelsOf (x .outcome) in (
-                sym (ap foundOf (x .outcome)),
+              let x = last .right (withMerges d) o (describes d o l e f) in
+              let outcome = sym (merged-answer d o l D.all) ∙ x .outcome in
+              let none : labelsOf (answer d D.all) ≡ [] = ap labelsOf outcome in (
+                sym (ap foundOf outcome),
                 w
                     ∙ zeroed-front whole now (omega arith)
                     ∙ ap (λ (l : List ℕ). replicate whole 0 ++ l) (x .kept .rest)
@@ -87,7 +97,7 @@ module _ {table : Table} {store work : List ℕ} where
         }
 
     reached-stable : {k : ℕ}
-        → LastMade (table .slots) (table .bodies) (countsOf table) store work before this now (L.Stable k)
+        → LastMade (slotsOf table) (table .bodies) (countsOf table) store work before this now (L.Stable k)
         → work′ ≡ alone (part (half + startIn this (table .root)) (half + startIn this (suc (table .root))) now) now
         → Reached table store work work′ (F.At k (half + startIn this (suc (table .root)) - (half + startIn this (table .root))))
     unfolding tableOf
@@ -95,14 +105,15 @@ module _ {table : Table} {store work : List ℕ} where
         record {
           short = λ x. absurd (omega arith);
           right = λ d o l e f r.
-              let x = last .right d o (describes d o l e f) in
-              let sets = roundSets d k in
+              let x = last .right (withMerges d) o (describes d o l e f) in
+              let outcome = sym (merged-answer d o l D.all) ∙ x .outcome in
+              let sets = roundSets (withMerges d) k in
               let labels = at sets (d .root) in
               let from = half + startIn this (table .root) in
               let to = half + startIn this (suc (table .root)) in
               let root : table .root ≡ d .root = ap (λ (z : Table). z .root) e in
               let words : part from to now ≡ map number labels =
-              rw root (laid-part half (D.termCount d) sets this now (x .upper) (d .root) (l .root)) in
+              rw root (laid-part half (D.termCount (withMerges d)) sets this now (x .upper) (d .root) (merged-legal d o l .root)) in
               let within : to ≤ length now = omega (arith, start-low this (suc (table .root))) in
               let size : to - from ≡ length labels =
               to - from
@@ -112,13 +123,13 @@ module _ {table : Table} {store work : List ℕ} where
               work′
               ≡⟨ s ⟩ alone (part from to now) now
               ≡⟨ ap₂ (λ (v rest : List ℕ). v ++ (replicate (whole - length v) 0 ++ rest)) words (x .kept .rest) ⟩ alone (map number labels) work ∎ in (
-                ap (F.At k) size ∙ sym (ap foundOf (x .outcome)),
-                there ∙ sym (ap (λ (y : Outcome). alone (map number (labelsOf y)) work) (x .outcome)),
+                ap (F.At k) size ∙ sym (ap foundOf outcome),
+                there ∙ sym (ap (λ (y : Outcome). alone (map number (labelsOf y)) work) outcome),
               );
         }
 
     pub reached-last : (last : Last) {r : Found}
-        → LastMade (table .slots) (table .bodies) (countsOf table) store work before this now last
+        → LastMade (slotsOf table) (table .bodies) (countsOf table) store work before this now last
         → Concluded last (partOf half this (table .root)) now work′ r
         → Reached table store work work′ r
     reached-last L.TooLarge made c = rw (c .0) (reached-large made (c .1))

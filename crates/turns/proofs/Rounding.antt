@@ -38,16 +38,18 @@ use Rattle.passes.proofs.Progress.{laid→passed}
 use Rattle.passes.specs.declared.closing.Counts.{Counts}
 use Rattle.turns.specs.declared.stages.Last.{Last}
 use Rattle.turns.specs.declared.stages.Last.the-variants as L
+use Rattle.syncs.specs.Merges.{SyncsJoin}
 use Rattle.turns.specs.Stages.{Startable, Describes, LastMade}
 use Rattle.turns.proofs.Staying.{stable-if, unstable-if, between-lowered, kept-lowered}
 
 -- Before the first round there is nothing.
 between-start : (d : D.Description) (o : D.Order) (work : List ℕ)
     → Legal d o
+    → SyncsJoin d
     → whole ≤ length work
     → Between d 0 (replicate 97 0) (replicate 97 0) work
 unfolding roundSets total flat
-between-start d o work l room =
+between-start d o work l joins room =
     let begins : Begins (D.termCount d) [] (replicate 97 0) = λ i h. start-zero 97 i ∙ sym (ap total (take-nil {A = List Label} i)) in
     record {
       legal = record {
@@ -59,6 +61,7 @@ between-start d o work l room =
         root = l .root;
         order = tt;
       };
+      joins = joins;
       room = room;
       old = begins;
       lower = record { words = refl; begins = begins };
@@ -102,7 +105,7 @@ module _ {slots bodies : List ℕ} {counts : Counts} {store work₀ : List ℕ} 
         size = length-zeros 97;
         sizeThis = length-zeros 97;
         first = start-zero 97 0;
-        right = λ d o e. (between-start d o work₀ (e .legal) (h .room), kept-self work₀);
+        right = λ d o e. (between-start d o work₀ (e .legal) (e .joins) (h .room), kept-self work₀);
       })
 
   module _ {work older before this : List ℕ} {k : ℕ} (t : Turned slots bodies counts store work₀ work older before this k) where

@@ -59,6 +59,7 @@ between-lowered d k count older before this work now work′ b r unstable c e =
     let size : length (take count (drop half now)) ≡ count = ap length words ∙ length-flat (roundSets d (suc k)) ∙ sym c in
     record {
       legal = b .legal;
+      joins = b .joins;
       room = omega (arith, b .room, ap length e, length-append (take count (drop half now)) (drop count now), length-drop count now);
       old = b .lower .begins;
       lower = record {

@@ -12,6 +12,7 @@ use Rattle.meaning.specs.Rounds.{roundSets}
 use Rattle.meaning.specs.Limits.{over}
 use Rattle.meaning.specs.Answers.{tooLarge, listed, answer}
 use Rattle.table.specs.Encoded.{storeOf, tableOf}
+use Rattle.syncs.specs.Merges.{SyncsJoin}
 use Rattle.places.specs.Starts.{half, whole}
 use Rattle.terms.specs.Laid.{Laid}
 use Rattle.terms.specs.Working.{Kept}
@@ -43,9 +44,10 @@ abbrev pub LastEnds : Description → (this work work′ : List ℕ) → Last �
 LastEnds d this work work′ L.TooLarge = LastOver d work work′
 LastEnds d this work work′ (L.Stable k) = LastStable d k this work work′
 
--- what the rounds read of the table of a legal description and of its list store
+-- what the rounds read of the table of a legal description, in which every sync is one of multi-actions, and of its list store
 pub record Describes (d : Description) (o : Order) (slots bodies : List ℕ) (counts : Counts) (store : List ℕ) : Type 0 where
   pub legal : Legal d o
+  pub joins : SyncsJoin d
   pub read : Read d slots bodies (counts .terms)
   pub equations : counts .equations ≡ tableOf d .equations
   pub stored : store ≡ storeOf d o

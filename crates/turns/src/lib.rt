@@ -7,6 +7,7 @@ use crate::settling::conclude;
 use crate::stages::turn_on;
 use passes::closing::Counts;
 use places::starts::part_at;
+use syncs::merge_wholes;
 use table::EQUATIONS;
 use table::TERMS;
 use table::Table;
@@ -50,7 +51,8 @@ pub fn until_stable(table: Table, store: &[u64], work: &mut [u64]) -> Found
     if !fits(work.len(), counts) {
         return Found::TooLarge;
     }
-    let slots = table.slots;
+    let mut slots = table.slots;
+    merge_wholes(&mut slots);
     let bodies = table.bodies;
     let mut before = [0usize; 97];
     let mut this = [0usize; 97];

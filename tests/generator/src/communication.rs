@@ -43,8 +43,10 @@ impl Writer {
         let mut all = self.part(random);
         for _ in 1..random.within(2..=5) {
             let part = self.part(random);
-            let kind = random.pick(&["merge", "merge", "merge", "lmerge", "choice"]);
-            all = self.draft.two(kind, all, part);
+            all = match random.below(5) {
+                0 => self.draft.two("choice", all, part),
+                _ => self.draft.side_by_side(random, all, part),
+            };
         }
         let sum = |name: usize| self.likely.iter().map(|label| label[name]).sum();
         let together = (0..self.draft.names.len()).map(sum).collect();
@@ -84,7 +86,7 @@ impl Writer {
             label.resize(self.draft.names.len(), 0);
             self.likely.push(label);
         }
-        doubled(die, dies, &mut |left, right| self.draft.two("merge", left, right))
+        doubled(die, dies, &mut |left, right| self.draft.side_by_side(random, left, right))
     }
 
     /// Many labels with many choices of parts, of which few are what another
@@ -92,7 +94,7 @@ impl Writer {
     fn long_label_beside_dies(&mut self, random: &mut Random) -> usize {
         let label = self.long_label(random);
         let dies = self.dies(random);
-        self.draft.two("merge", label, dies)
+        self.draft.side_by_side(random, label, dies)
     }
 
     fn communicate(&mut self, random: &mut Random, operand: usize) -> usize {
@@ -116,7 +118,7 @@ impl Writer {
         let mut inner = self.draft.with_list("comm", operand, &rules);
         if random.chance(30) {
             let part = self.part(random);
-            inner = self.draft.two("merge", inner, part);
+            inner = self.draft.side_by_side(random, inner, part);
         }
         if random.chance(40) {
             return self.draft.with_list("comm", inner, &rules);

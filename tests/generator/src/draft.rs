@@ -1,6 +1,11 @@
 //! A description while it is being put together.
 
 use crate::names;
+use crate::random::Random;
+
+/// The kinds that have both sides and their product; sync, which stands last,
+/// has the product alone where both sides are multi-actions.
+pub const GROWING: &[&str] = &["merge", "lmerge", "sync"];
 
 /// The values of the lines; nothing here demands that they are right.
 #[derive(Clone)]
@@ -10,11 +15,15 @@ pub struct Draft {
     pub bodies: Vec<usize>,
     pub root: usize,
     pub order: String,
+    /// Of each term, whether it is built of act, tau, delta and sync only.
+    multi_actions: Vec<bool>,
 }
 
 impl Draft {
     pub fn new(names: Vec<String>) -> Draft {
-        Draft { names, terms: Vec::new(), bodies: Vec::new(), root: 0, order: String::from("all") }
+        let order = String::from("all");
+        let (terms, multi_actions) = (Vec::new(), Vec::new());
+        Draft { names, terms, bodies: Vec::new(), root: 0, order, multi_actions }
     }
 
     /// A draft with the names a, b, c and so on.
@@ -25,9 +34,21 @@ impl Draft {
     /// Adds a term, which is the root until another is added, and gives its
     /// number.
     pub fn add(&mut self, term: String) -> usize {
+        self.multi_actions.push(self.builds_multi_action(&term));
         self.terms.push(term);
         self.root = self.terms.len() - 1;
         self.root
+    }
+
+    fn builds_multi_action(&self, term: &str) -> bool {
+        let is_one = |word: &str| {
+            word.parse().ok().and_then(|term: usize| self.multi_actions.get(term)) == Some(&true)
+        };
+        match term.split(' ').collect::<Vec<_>>()[..] {
+            ["act", _] | ["tau"] | ["delta"] => true,
+            ["sync", left, right] => is_one(left) && is_one(right),
+            _ => false,
+        }
     }
 
     pub fn act(&mut self, name: usize) -> usize {
@@ -79,13 +100,21 @@ impl Draft {
     /// Takes the term away that was added last.
     pub fn drop_last(&mut self) {
         self.terms.pop();
+        self.multi_actions.pop();
         self.root = self.terms.len() - 1;
     }
 
-    /// Whether a term may be an operand of sync.
+    /// Whether a term is built of act, tau, delta and sync only: a sync of two
+    /// such terms has their product alone.
     pub fn is_multi_action(&self, term: usize) -> bool {
-        let text = &self.terms[term];
-        text == "tau" || text.starts_with("act ") || text.starts_with("sync ")
+        self.multi_actions[term]
+    }
+
+    /// A term of two operands that has both sides and their product.
+    pub fn side_by_side(&mut self, random: &mut Random, left: usize, right: usize) -> usize {
+        let is_narrow = self.is_multi_action(left) && self.is_multi_action(right);
+        let kinds = if is_narrow { &GROWING[..2] } else { GROWING };
+        self.two(random.pick(kinds), left, right)
     }
 
     pub fn lines(&self) -> Vec<Vec<u8>> {

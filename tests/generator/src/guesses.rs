@@ -1,6 +1,7 @@
 //! A few labels that a term probably has. Lists that are chosen by them cut
 //! and combine something; whether the guess is right does not matter.
 
+use crate::draft::GROWING;
 use crate::lists::{actions, ascending, difference, Label};
 use crate::random::Random;
 
@@ -18,12 +19,19 @@ fn kept(random: &mut Random, mut labels: Vec<Label>) -> Guess {
     labels
 }
 
-pub fn of_two(random: &mut Random, kind: &str, left: &Guess, right: &Guess) -> Guess {
+/// A sync of multi-actions does not have both sides, every other term does.
+pub fn of_two(
+    random: &mut Random,
+    kind: &str,
+    has_both: bool,
+    left: &Guess,
+    right: &Guess,
+) -> Guess {
     let mut labels = Vec::new();
-    if kind != "sync" {
+    if has_both {
         labels.extend(left.iter().chain(right).cloned());
     }
-    if matches!(kind, "merge" | "lmerge" | "sync") {
+    if GROWING.contains(&kind) {
         for one in left {
             labels.extend(right.iter().map(|other| sum(one, other)));
         }

@@ -45,7 +45,7 @@ const CLASSES: &[Class] = &[
     ("actions-of-a-label", set_limits::actions_of_a_label, 2_000),
     ("shared-bodies", set_limits::shared_bodies, 60),
     ("dies", set_limits::dies, 300),
-    ("sync-operands", sync_operands::record, 5_000),
+    ("sync-operands", sync_operands::record, 8_000),
     ("bytes", reading_limits::bytes, 2_500),
     ("counts", reading_limits::counts, 1_500),
     ("list-lengths", reading_limits::list_lengths, 8_000),

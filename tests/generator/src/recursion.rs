@@ -1,17 +1,16 @@
 //! Recursion through each operator, from a few rounds up to many hundreds.
 
-use crate::draft::Draft;
+use crate::draft::{Draft, GROWING};
 use crate::lists::Lists;
 use crate::names;
 use crate::random::Random;
 use crate::well_formed::{list_for, order};
 
 pub const UNIONS: &[&str] = &["choice", "ifelse", "seq"];
-const GROWING: &[&str] = &["merge", "lmerge"];
 const SHRINKING: &[&str] = &["block", "hide", "allow"];
 const OPERATORS: &[&str] = &[
-    "sum", "cond", "choice", "ifelse", "seq", "merge", "lmerge", "block", "hide", "rename", "comm",
-    "allow",
+    "sum", "cond", "choice", "ifelse", "seq", "merge", "lmerge", "sync", "block", "hide", "rename",
+    "comm", "allow",
 ];
 
 /// Every equation is something at once, or what one to three operators make
@@ -40,16 +39,18 @@ pub fn record(random: &mut Random) -> Vec<u8> {
     draft.bytes()
 }
 
-/// A term whose set is one small label.
+/// A term whose set is one small label, seldom none.
 fn add_multi_action(random: &mut Random, draft: &mut Draft) -> usize {
-    if random.chance(10) {
-        return draft.add(String::from("tau"));
+    match random.below(100) {
+        0..=9 => return draft.add(String::from("tau")),
+        10..=12 => return draft.add(String::from("delta")),
+        _ => (),
     }
     let first = draft.act(random.below(draft.names.len()));
     if random.chance(60) {
         return first;
     }
-    let second = draft.act(random.below(draft.names.len()));
+    let second = add_multi_action(random, draft);
     draft.two("sync", first, second)
 }
 
@@ -119,7 +120,8 @@ pub fn turning_for_long(random: &mut Random) -> Vec<u8> {
     let back = draft.one("ref", delays - 1);
     let turned = draft.with_list("rename", back, &turn(rings));
     let last = draft.with_list("allow", back, "c:1.g:1.l:1");
-    let second = draft.two("merge", last, ones[random.below(3)]);
+    let next = ones[random.below(3)];
+    let second = draft.side_by_side(random, last, next);
     let either = draft.two(random.pick(UNIONS), seed, second);
     let body = draft.two(random.pick(UNIONS), either, turned);
     delay(random, &mut draft, body, delays);
@@ -173,7 +175,7 @@ pub fn climbing(random: &mut Random) -> Vec<u8> {
     let act = draft.act(0);
     let more = if step == 1 { act } else { draft.two("sync", act, act) };
     let back = draft.one("ref", delays - 1);
-    let grown = draft.two(random.pick(GROWING), more, back);
+    let grown = draft.side_by_side(random, more, back);
     let steps: Vec<String> = (1..=top).map(|count| format!("a:{}", count)).collect();
     let held = draft.with_list("allow", grown, &steps.join(","));
     let body = draft.two(random.pick(UNIONS), more, held);

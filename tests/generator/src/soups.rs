@@ -36,9 +36,9 @@ const FRAGMENTS: &[&str] = &[
 const LINES: &[&str] = &[
     "names=1", "names=2", "names=3", "name=a", "name=b", "name=c", "name=tau", "equations=0",
     "equations=1", "terms=1", "terms=2", "terms=3", "term=act a", "term=act b", "term=tau",
-    "term=delta", "term=ref 0", "term=sum 0", "term=choice 0 1", "term=sync 0 0", "term=merge 0 1",
-    "term=block 0 a", "term=comm 1 a:2>b", "term=allow 1 a:1,b:1", "equation=0", "equation=1",
-    "root=0", "root=1", "root=2", "order=all", "order=none", "order=a:1",
+    "term=delta", "term=ref 0", "term=sum 0", "term=choice 0 1", "term=sync 0 0", "term=sync 0 1",
+    "term=merge 0 1", "term=block 0 a", "term=comm 1 a:2>b", "term=allow 1 a:1,b:1", "equation=0",
+    "equation=1", "root=0", "root=1", "root=2", "order=all", "order=none", "order=a:1",
 ];
 
 pub fn record(random: &mut Random) -> Vec<u8> {

@@ -11,7 +11,7 @@ use crate::random::Random;
 const KINDS: &[(&str, usize, usize)] = &[
     ("act", 4, 4),
     ("tau", 3, 3),
-    ("delta", 2, 1),
+    ("delta", 3, 2),
     ("ref", 9, 6),
     ("sum", 2, 2),
     ("cond", 2, 2),
@@ -117,7 +117,8 @@ impl Writer {
     /// Adds a term of some kind, or an act where that kind cannot stand yet.
     fn add(&mut self, random: &mut Random, weights: &[(&str, usize)]) {
         let kind = random.weighted(weights);
-        let can_be_operand = |term: &usize| kind != "sync" || self.draft.is_multi_action(*term);
+        let of_multi_actions = kind == "sync" && random.chance(40);
+        let can_be_operand = |term: &usize| !of_multi_actions || self.draft.is_multi_action(*term);
         let operands: Vec<usize> = (0..self.draft.terms.len()).filter(can_be_operand).collect();
         match kind {
             "tau" => self.note(kind, vec![vec![0; self.draft.names.len()]]),
@@ -138,14 +139,25 @@ impl Writer {
                 let operand = self.operand(random, &operands);
                 self.add_with_list(random, kind, operand);
             }
+            // As they come: a deadlock, which holds least, is wanted as well.
+            _ if of_multi_actions => {
+                let (left, right) = (random.pick(&operands), random.pick(&operands));
+                self.add_of_two(random, kind, left, right);
+            }
             _ => {
                 let left = self.operand(random, &operands);
                 let right = self.second_operand(random, &operands, left);
-                let guess =
-                    guesses::of_two(random, kind, &self.guesses[left], &self.guesses[right]);
-                self.note(&format!("{} {} {}", kind, left, right), guess);
+                self.add_of_two(random, kind, left, right);
             }
         }
+    }
+
+    fn add_of_two(&mut self, random: &mut Random, kind: &str, left: usize, right: usize) {
+        let term = self.draft.two(kind, left, right);
+        let has_both = !self.draft.is_multi_action(term);
+        let (left, right) = (&self.guesses[left], &self.guesses[right]);
+        let guess = guesses::of_two(random, kind, has_both, left, right);
+        self.guesses.push(guess);
     }
 
     fn add_with_list(&mut self, random: &mut Random, kind: &str, operand: usize) {

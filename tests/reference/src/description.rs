@@ -56,6 +56,21 @@ pub enum Order<N> {
     Only(Vec<Parts<N>>),
 }
 
+/// For each term, whether it is built of act, tau, delta and sync only, through
+/// every sync in it. The operands of a term come before it, so that what they
+/// are built of is known by then; a ref is never looked through.
+pub fn multi_actions(terms: &[Term<usize>]) -> Vec<bool> {
+    let mut found: Vec<bool> = Vec::new();
+    for term in terms {
+        found.push(match term {
+            Term::Act(_) | Term::Tau | Term::Delta => true,
+            Term::Two(TwoKind::Sync, left, right) => found[*left] && found[*right],
+            _ => false,
+        });
+    }
+    found
+}
+
 /// A well-formed description.
 #[derive(Clone, Debug)]
 pub struct Description {

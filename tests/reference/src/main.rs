@@ -1,8 +1,9 @@
 //! The alphabet of a process description, worked out a second time.
 //!
-//! This program is written from document 01 alone and shares nothing
-//! with the proved crates, so that a misreading on either side shows up as a
-//! difference. It prefers the plainest way over the quickest one.
+//! This program is written from document 01 and the requests that were built
+//! since, and shares nothing with the proved crates, so that a misreading on
+//! either side shows up as a difference. It prefers the plainest way over the
+//! quickest one.
 //!
 //! Without an argument it reads one description and prints its text; with
 //! `--batch` it does so for each record (see `batch`).

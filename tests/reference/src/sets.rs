@@ -11,6 +11,8 @@ pub struct Workings<'a> {
     pub names: usize,
     pub earlier: &'a [LabelSet],
     pub equations: &'a [LabelSet],
+    /// Of each term, the one that is worked out among them.
+    pub multi_actions: &'a [bool],
 }
 
 impl Workings<'_> {
@@ -24,7 +26,9 @@ impl Workings<'_> {
             Term::Ref(equation) => Ok(self.equations[*equation].clone()),
             Term::One(_, operand) => Ok(self.earlier[*operand].clone()),
             Term::Two(kind, left, right) => {
-                set_of_two(*kind, &self.earlier[*left], &self.earlier[*right])
+                let is_multi_action = self.multi_actions[self.earlier.len()];
+                let (left, right) = (&self.earlier[*left], &self.earlier[*right]);
+                set_of_two(*kind, is_multi_action, left, right)
             }
             Term::With(operand, list) => self.set_with(&self.earlier[*operand], list),
         }
@@ -49,9 +53,16 @@ impl Workings<'_> {
     }
 }
 
-fn set_of_two(kind: TwoKind, left: &LabelSet, right: &LabelSet) -> Result<LabelSet, TooLarge> {
+/// After the joint first step the sides of a sync run on as a merge, so it has
+/// the labels of each side, too. Those of a multi-action have ended by then.
+fn set_of_two(
+    kind: TwoKind,
+    is_multi_action: bool,
+    left: &LabelSet,
+    right: &LabelSet,
+) -> Result<LabelSet, TooLarge> {
     let mut set = LabelSet::default();
-    let has_both = kind != TwoKind::Sync;
+    let has_both = !is_multi_action;
     let has_product = matches!(kind, TwoKind::Merge | TwoKind::LMerge | TwoKind::Sync);
     if has_both {
         set.add_all(left.iter().chain(right.iter()).cloned())?;

@@ -17,6 +17,12 @@ fits-requires c κs = search needs
 returns : tie.Need-returns
 returns c = let tested = c .before .fits2 in reached-unfit (rw (not-true (tested .result) (c .if1 .taken)) at (tested .ensures))
 
+slice-aggregate-merge-wholes : tie.Need-slice-aggregate-merge-wholes
+slice-aggregate-merge-wholes c = search needs
+
+merge-wholes-requires : tie.Need-merge-wholes-requires
+merge-wholes-requires c κs = search needs
+
 slice-aggregate-turn-on : tie.Need-slice-aggregate-turn-on
 slice-aggregate-turn-on c = search needs
 
@@ -25,9 +31,10 @@ slice-aggregate-turn-on-2 c = search needs
 
 turn-on-requires : tie.Need-turn-on-requires
 turn-on-requires c κs =
-    let table = c .before .before .before .before .before .before .before .before .before .before .before .args .table in
-    let tested = c .before .before .before .before .before .before .before .before .fits2 in
-    let fits = rw (not-false (tested .result) (c .before .before .before .before .before .before .before .if1 .left)) at (tested .ensures) in
+    let start = c .before .before .before .before .before .before .before .before .before .before in
+    let table = start .before .before .before .before .args .table in
+    let tested = start .before .fits2 in
+    let fits = rw (not-false (tested .result) (start .if1 .left)) at (tested .ensures) in
     let sixteen : length (table .bodies) ≡ 16 = search needs in
     record {
       few = fits .1;
@@ -47,9 +54,10 @@ conclude-requires : tie.Need-conclude-requires
 conclude-requires c κs =
     let after = c .before .before .before .before .before in
     let turned = after .turn-on in
-    let tested = after .before .before .before .before .before .before .before .before .before .fits2 in
-    let fits = rw (not-false (tested .result) (after .before .before .before .before .before .before .before .before .if1 .left)) at (tested .ensures) in
-    let end = suc (after .before .before .before .before .before .before .before .before .before .before .before .before .args .table .root) in
+    let start = after .before .before .before .before .before .before .before .before .before .before .before in
+    let tested = start .before .fits2 in
+    let fits = rw (not-false (tested .result) (start .if1 .left)) at (tested .ensures) in
+    let end = suc (start .before .before .before .before .args .table .root) in
     record {
       room = omega (arith, turned .kept .1 .1 .1 .1 .1 .1 .0, fits .0);
       end = rw (c .before .part-at .ensures) (omega (arith, start-low (turned .last .1 .1 .1 .1 .0) end, start-low (turned .last .1 .1 .1 .1 .1 .0) end));
@@ -62,13 +70,15 @@ returns-2 : tie.Need-returns-2
 returns-2 c =
     let after = c .before .before .before .before .before .before .before .before in
     let turned = after .turn-on in
-    let tested = after .before .before .before .before .before .before .before .before .before .fits2 in
-    let fits = rw (not-false (tested .result) (after .before .before .before .before .before .before .before .before .if1 .left)) at (tested .ensures) in
+    let start = after .before .before .before .before .before .before .before .before .before .before .before in
+    let tested = start .before .fits2 in
+    let fits = rw (not-false (tested .result) (start .if1 .left)) at (tested .ensures) in
     let concluded = rw (c .before .before .before .before .part-at .ensures) at (c .before .before .conclude .ensures) in
-    reached-last (fits .0) (turned .kept .1 .1 .1 .1 .1 .1 .0) (turned .result) (turned .ensures) concluded
+    let merged = after .before .before .before .before .before .before .before .before .merge-wholes in
+    reached-last (fits .0) (turned .kept .1 .1 .1 .1 .1 .1 .0) (turned .result) (rw (merged .ensures) at (turned .ensures)) concluded
 
 pub until-stable-spec : {M : Type 1} → statement M
 until-stable-spec =
     tie.close
-    (tie.spec fits-requires returns slice-aggregate-turn-on slice-aggregate-turn-on-2 turn-on-requires slice-aggregate-part-at
-    part-at-requires conclude-requires same-length returns-2)
+    (tie.spec fits-requires returns slice-aggregate-merge-wholes merge-wholes-requires slice-aggregate-turn-on slice-aggregate-turn-on-2
+    turn-on-requires slice-aggregate-part-at part-at-requires conclude-requires same-length returns-2)

@@ -2,7 +2,7 @@
 
 mod sized;
 
-use crate::draft::{doubled, Draft};
+use crate::draft::{doubled, Draft, GROWING};
 use crate::lists::{self, Lists};
 use crate::random::Random;
 use crate::well_formed::order;
@@ -21,7 +21,7 @@ pub fn labels_of_one_set(random: &mut Random) -> Vec<u8> {
     let left = sized.set_of(random, side, has_tau);
     let has_tau_too = has_tau && random.chance(50);
     let right = sized.set_of(random, size_with_tau / side, has_tau_too);
-    let top = sized.merge(left, right);
+    let top = sized.merge(random, left, right);
     assert_eq!(top.size(), size, "the size that was asked for");
     assert!(sized.together() < 2_000, "the other limit is far");
     let mut draft = sized.draft;
@@ -77,10 +77,12 @@ pub fn actions_of_a_label(random: &mut Random) -> Vec<u8> {
     let mut draft = Draft::with_letters(names);
     // Half of the records use the last names only, whose numbers are large.
     let used = if random.chance(50) { names } else { names.min(2) };
-    let left = add_label(random, &mut draft, used, first);
+    let mut left = add_label(random, &mut draft, used, first);
+    if random.chance(30) {
+        left = draft.one("sum", left);
+    }
     let right = add_label(random, &mut draft, used, actions - first);
-    let kind = random.pick(&["sync", "merge", "lmerge"]);
-    let top = draft.two(kind, left, right);
+    let top = draft.two(random.pick(GROWING), left, right);
     draft.root = match random.below(6) {
         0 => draft.with_list("hide", top, "a"),
         1 => draft.with_list("block", top, "a"),
@@ -129,7 +131,7 @@ pub fn dies(random: &mut Random) -> Vec<u8> {
     let die = draft.one("ref", 0);
     let body = draft.two("seq", one_of_them, die);
     draft.bodies.push(body);
-    let top = doubled(die, dies, &mut |left, right| draft.two("merge", left, right));
+    let top = doubled(die, dies, &mut |left, right| draft.side_by_side(random, left, right));
     match random.below(4) {
         0 => {
             let list = Lists::new(&draft.names, &[]).rules(random, 3);

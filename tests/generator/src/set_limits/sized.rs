@@ -78,13 +78,19 @@ impl Sized {
         self.draft.bodies.extend(largest.iter().take(free).map(|node| node.term));
     }
 
-    /// The merge of two sets that have no name in common.
-    pub fn merge(&mut self, left: Node, right: Node) -> Node {
-        self.merge_to(left, right, left.size_with_tau * right.size_with_tau)
+    /// Two sets that have no name in common, side by side.
+    pub fn merge(&mut self, random: &mut Random, left: Node, right: Node) -> Node {
+        self.merge_to(random, left, right, left.size_with_tau * right.size_with_tau)
     }
 
-    fn merge_to(&mut self, left: Node, right: Node, size_with_tau: usize) -> Node {
-        let term = self.draft.two("merge", left.term, right.term);
+    fn merge_to(
+        &mut self,
+        random: &mut Random,
+        left: Node,
+        right: Node,
+        size_with_tau: usize,
+    ) -> Node {
+        let term = self.draft.side_by_side(random, left.term, right.term);
         self.note(term, size_with_tau, left.has_tau || right.has_tau)
     }
 
@@ -96,13 +102,13 @@ impl Sized {
     }
 
     /// One to `most` actions of a name that no label so far has.
-    fn chain(&mut self, most: usize) -> Node {
+    fn chain(&mut self, random: &mut Random, most: usize) -> Node {
         let term = self.draft.act(self.next_name);
         self.next_name += 1;
         let act = self.note(term, 2, false);
         doubled(act, most, &mut |left, right| {
             let size_with_tau = left.size_with_tau + right.size_with_tau - 1;
-            self.merge_to(left, right, size_with_tau)
+            self.merge_to(random, left, right, size_with_tau)
         })
     }
 
@@ -115,18 +121,18 @@ impl Sized {
     /// A set of this size (counting tau), built from chains of fresh names.
     pub fn set_of(&mut self, random: &mut Random, size_with_tau: usize, has_tau: bool) -> Node {
         if size_with_tau <= 9 {
-            let chain = self.chain(size_with_tau - 1);
+            let chain = self.chain(random, size_with_tau - 1);
             return if has_tau { self.with_tau(chain) } else { chain };
         }
         let side = random.within(4..=6.min(size_with_tau / 2));
         let (quotient, remainder) = (size_with_tau / side, size_with_tau % side);
         let left = self.set_of(random, quotient, has_tau);
-        let right = self.chain(side - 1);
-        let product = self.merge(left, right);
+        let right = self.chain(random, side - 1);
+        let product = self.merge(random, left, right);
         if remainder == 0 {
             return product;
         }
-        let further = self.chain(remainder);
+        let further = self.chain(random, remainder);
         self.choice(product, further)
     }
 }

@@ -1,8 +1,8 @@
 //! What may still be wrong in a line of right form with known names:
-//! numbers out of range (4), disorderly lists (5), sync operands (6).
+//! numbers out of range (4), disorderly lists (5).
 
 use crate::bag::Bag;
-use crate::description::{List, Order, Parts, Term, TwoKind};
+use crate::description::{List, Order, Parts, Term};
 use crate::limits::{
     LEAST_ACTIONS_OF_A_LEFT_SIDE, MOST_ACTIONS_WRITTEN, MOST_LABELS_OF_A_LIST, MOST_RULES,
 };
@@ -34,18 +34,6 @@ pub fn order_is_orderly(names: usize, order: &Order<usize>) -> bool {
     match order {
         Order::All => true,
         Order::Only(labels) => labels_are_orderly(names, labels),
-    }
-}
-
-/// Each operand of a sync is an act, a tau or again a sync.
-pub fn sync_operands_are_multi_actions(term: &Term<usize>, earlier: &[Term<usize>]) -> bool {
-    let is_multi_action = |operand: &usize| {
-        let operand = earlier.get(*operand);
-        matches!(operand, Some(Term::Act(_) | Term::Tau | Term::Two(TwoKind::Sync, _, _)))
-    };
-    match term {
-        Term::Two(TwoKind::Sync, left, right) => is_multi_action(left) && is_multi_action(right),
-        _ => true,
     }
 }
 

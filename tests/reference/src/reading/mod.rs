@@ -1,8 +1,8 @@
 //! Reading a description, line by line in the fixed order.
 //!
 //! A line goes through the refusals in the order of their numbers: its form
-//! (2), its names (3), its numbers (4), its lists (5), its sync operands (6).
-//! Each step looks at the whole line, so the smallest number decides.
+//! (2), its names (3), its numbers (4), its lists (5). Each step looks at the
+//! whole line, so the smallest number decides.
 
 mod checks;
 mod forms;
@@ -25,7 +25,7 @@ pub fn read(input: &[u8]) -> Result<Description, Refusal> {
     let term_count = read_count(&mut lines, "terms", TERMS)?;
     let mut terms = Vec::new();
     for _ in 0..term_count {
-        let term = read_term(&mut lines, &names, equation_count, &terms)?;
+        let term = read_term(&mut lines, &names, equation_count, terms.len())?;
         terms.push(term);
     }
     let mut bodies = Vec::new();
@@ -71,18 +71,15 @@ fn read_term(
     lines: &mut Lines,
     names: &[String],
     equations: usize,
-    earlier: &[Term<usize>],
+    own_number: usize,
 ) -> Result<Term<usize>, Refusal> {
     let form = forms::term(lines.value("term")?).ok_or_else(|| lines.refuse(2))?;
     let term = naming::term(names, &form).ok_or_else(|| lines.refuse(3))?;
-    if !checks::numbers_in_range(&term, earlier.len(), equations) {
+    if !checks::numbers_in_range(&term, own_number, equations) {
         return Err(lines.refuse(4));
     }
     if !checks::list_is_orderly(names.len(), &term) {
         return Err(lines.refuse(5));
-    }
-    if !checks::sync_operands_are_multi_actions(&term, earlier) {
-        return Err(lines.refuse(6));
     }
     Ok(term)
 }

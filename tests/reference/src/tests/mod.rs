@@ -6,6 +6,7 @@ mod reading_limits;
 mod refusals;
 mod set_limits;
 mod sets_by_kind;
+mod syncs;
 mod whole_text;
 
 use crate::text;

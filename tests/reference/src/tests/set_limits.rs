@@ -161,6 +161,8 @@ fn growing_by_recursion() {
     let cases: &[(&[&str], usize, bool)] = &[
         (&["act a", "ref 0", "merge 0 1"], 2, true),
         (&["act a", "ref 0", "lmerge 1 0"], 2, true),
+        (&["act a", "ref 0", "sync 0 1"], 2, true),
+        (&["act a", "ref 0", "sync 1 1"], 2, false),
         (&["act a", "ref 0", "merge 0 1", "hide 2 a"], 2, true),
         (&["act a", "ref 0", "merge 0 1", "hide 2 a"], 3, false),
         (&["act a", "ref 0", "hide 1 a", "merge 0 2"], 3, false),

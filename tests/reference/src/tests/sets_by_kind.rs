@@ -3,9 +3,9 @@
 use super::{answered, Case};
 
 /// Terms (the last is the root), bodies, rounds and labels.
-type Row = (&'static [&'static str], &'static [usize], usize, &'static str);
+pub type Row = (&'static [&'static str], &'static [usize], usize, &'static str);
 
-fn check(rows: &[Row]) {
+pub fn check(rows: &[Row]) {
     for (terms, bodies, rounds, labels) in rows {
         let root = terms.len() - 1;
         let names = &["a", "b", "c", "d"];

@@ -3,11 +3,10 @@
 use borrow.Author.Needs.{needs}
 use mathlib.Core.Path.{_≡_}
 use mathlib.Core.List.{map}
-use native.Mathlib.Omega.{arith}
 use lib.ListN.{length}
 use Rattle.table.specs.Decoded.{nameOf}
 use Rattle.faults.proofs.Calls.{asks-nothing}
-use Rattle.forms.proofs.Slotted.{term-stays, term-taken}
+use Rattle.forms.proofs.JoinedFaults.{term-stays, term-taken}
 use Rattle.forms.proofs.terms.read_term.Statement.{statement}
 use Rattle.forms.proofs.terms.read_term.Tie as tie
 
@@ -21,25 +20,25 @@ same-length : tie.Need-same-length
 same-length c = search needs
 
 returns : tie.Need-returns
-returns c terms e i h j =
+returns c few fits =
     let read = c .before .before .before .before in
-    let a = read .before .before .before .before .before .before .args in
+    let a = read .before .before .before .before .before .args in
     let after = read .read-line .last .1 .1 .1 .0 in
     let l : length after ≡ length (a .store .now) = search needs in
-    term-stays (map (nameOf 8) (a .names .now)) (a .equations) terms (a .slots .now) (omega arith) e (a .n) i (a .line .now) (a .store .now) after l
-    (read .read-line .result) (c .enum-told .given .1) (read .read-line .ensures j h)
+    term-stays (a .equations) (a .n) (map (nameOf 8) (a .names .now)) (a .line .now) (a .store .now) after l (read .read-line .result)
+    (c .enum-told .given .1) (read .read-line .ensures few fits)
 
 same-length-2 : tie.Need-same-length-2
 same-length-2 c = search needs
 
 returns-2 : tie.Need-returns-2
-returns-2 c terms e i h j =
+returns-2 c few fits =
     let read = c .before .before .before .before .before .before in
-    let a = read .before .before .before .before .before .before .args in
+    let a = read .before .before .before .before .before .args in
     let after = read .read-line .last .1 .1 .1 .0 in
     let l : length after ≡ length (a .store .now) = search needs in
-    term-taken (map (nameOf 8) (a .names .now)) (a .equations) terms (a .slots .now) (omega arith) e (a .n) i (a .line .now) (a .store .now) after l
-    (c .before .before .said .given .1) (read .read-line .ensures j h) (c .joined-fault .ensures)
+    term-taken (a .equations) (a .n) (map (nameOf 8) (a .names .now)) (a .line .now) (a .store .now) after l (c .before .before .said .given .1)
+    (read .read-line .ensures few fits) (c .joined-fault .ensures)
 
 pub read-term-spec : {M : Type 1} → statement M
 read-term-spec =

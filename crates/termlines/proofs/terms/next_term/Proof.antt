@@ -14,7 +14,7 @@ add-last : tie.Need-add-last
 add-last c = search needs
 
 returns : tie.Need-returns
-returns c = store-short _ (c .before .before .before .before .before .pre) (omega (arith, c .if1 .taken))
+returns c = store-short _ (c .before .before .before .before .pre) (omega (arith, c .if1 .taken))
 
 mul-part : tie.Need-mul-part
 mul-part c = search needs
@@ -32,7 +32,7 @@ same-length : tie.Need-same-length
 same-length c = search needs
 
 returns-2 : tie.Need-returns-2
-returns-2 c = line-in-store _ (c .before .before .before .before .before .before .before .before .before .pre) _ (c .before .before .take-term .ensures)
+returns-2 c = line-in-store _ (c .before .before .before .before .before .before .before .before .pre) _ (c .before .before .take-term .ensures)
 
 pub next-term-spec : {M : Type 1} → statement M
 next-term-spec =

@@ -1,2 +1,0 @@
--- What the slots of the terms stand for.
-pub mod Slots
