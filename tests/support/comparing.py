@@ -3,6 +3,7 @@
 import concurrent.futures
 import contextlib
 import dataclasses
+import operator
 import os
 import subprocess
 import threading
@@ -40,16 +41,17 @@ def escaped(line):
     return line.encode("unicode_escape").decode()
 
 
-def differences(command, sample, seconds=None):
+def differences(command, sample, seconds=None, agrees=operator.eq):
     """Runs the command with `--batch` over the sample and yields each
-    Difference. Ends with Failed if the program does not answer each record
-    once, does not end well, or takes more seconds than it may."""
+    Difference, that is where the text expected does not agree with the one
+    printed. Ends with Failed if the program does not answer each record once,
+    does not end well, or takes more seconds than it may."""
     program = started(command, sample)
     limit = threading.Timer(seconds or threading.TIMEOUT_MAX, program.kill)
     limit.daemon = True
     limit.start()
     try:
-        yield from differing(program.stdout, sample)
+        yield from differing(program.stdout, sample, agrees)
         status = program.wait()
         if status != 0:
             raise Failed(f"every text is there, but {command[0]} {how_it_ended(program)}")
@@ -80,7 +82,7 @@ def how_it_ended(program):
     return f"ended with {status}" if status >= 0 else f"was ended by signal {-status}"
 
 
-def differing(stream, sample):
+def differing(stream, sample, agrees):
     """Each Difference in a stream of texts. Broken if there is not one text
     for each record."""
     texts = read_from(stream)
@@ -91,15 +93,15 @@ def differing(stream, sample):
         except (Broken, StopIteration) as fault:
             which = f"record {number} of {len(sample.records)}"
             raise Broken(f"no text for {which}: {fault}\n{shown(record)}") from fault
-        if printed != expected:
+        if not agrees(expected, printed):
             yield Difference(number, record, expected, printed)
     if stream.read(1):
         raise Broken(f"more texts than the {len(sample.records)} records")
 
 
-def first_difference(command, sample, seconds=None):
+def first_difference(command, sample, seconds=None, agrees=operator.eq):
     """The first Difference, or None."""
-    with contextlib.closing(differences(command, sample, seconds)) as found:
+    with contextlib.closing(differences(command, sample, seconds, agrees)) as found:
         return next(found, None)
 
 

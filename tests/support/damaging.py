@@ -1,5 +1,6 @@
 """The test of the test: the reference is damaged on purpose, and the
-comparison must find each damage with the records that the gate uses.
+comparison must find each damage with the records that the gate uses. Where only
+the following of runs is damaged, the lists held to the runs must find it.
 
 A damage is a file in tests/damages: a line that tells what is wrong then,
 and one or more edits. An edit is a line `in FILE`, the lines to be replaced
@@ -7,12 +8,15 @@ after `-` and those that replace them after `+`.
 """
 
 import concurrent.futures
+import contextlib
 import dataclasses
+import operator
 import os
 import queue
 import shutil
 
-from support.comparing import differences, first_difference
+from support import exact
+from support.comparing import differences
 from support.programs import TESTS, Failed, output_folder, run
 
 SECONDS_TO_ANSWER = 300
@@ -20,6 +24,11 @@ SECONDS_TO_ANSWER = 300
 # The records are well mixed, so the first of them must do to find a damage.
 # That is stricter than a comparison with all of them, and takes less time.
 FIRST_RECORDS = 40_000
+# The same for records whose runs are followed.
+FIRST_RUNS = 600
+
+# What the name of a damage of following runs begins with.
+OF_RUNS = "runs-"
 
 
 @dataclasses.dataclass
@@ -104,54 +113,82 @@ class Workshop:
         return [str(program)]
 
 
+class Texts:
+    """How a damage of what is printed is found: another text for a record."""
+
+    options = ()
+    agrees = staticmethod(operator.eq)
+
+    def __init__(self, sample):
+        self.sample = sample
+
+    def differences(self, command):
+        return differences([*command, *self.options], self.sample, SECONDS_TO_ANSWER, self.agrees)
+
+    def first(self, command):
+        """What finds it first, in words; nothing if it is not found."""
+        with contextlib.closing(self.differences(command)) as found:
+            return next((f"record {difference.number}" for difference in found), "")
+
+
+class Runs(Texts):
+    """How a damage of following runs is found: a record has another list than
+    its runs, or an example shows a label that should be on no run."""
+
+    options = ("--runs",)
+    agrees = staticmethod(exact.agrees)
+
+    def first(self, command):
+        return ", ".join(exact.seen_in_examples(command)) or super().first(command)
+
+
 def try_all(sample, count=False):
     """Tries every damage, as many at a time as there are processors; ends with
     Failed unless each one is found."""
-    if not count:
-        sample = sample.first(FIRST_RECORDS)
+    texts = Texts(sample if count else sample.first(FIRST_RECORDS))
+    runs = Runs(exact.made_to_follow(sample, None if count else FIRST_RUNS))
     damages = [Damage.read(path) for path in sorted((TESTS / "damages").glob("*.edit"))]
     if not damages:
         raise Failed("there are no damages to try")
     number = os.cpu_count() or 1
-    with concurrent.futures.ThreadPoolExecutor(number) as runs:
+    with concurrent.futures.ThreadPoolExecutor(number) as beside:
         free = queue.SimpleQueue()
-        for workshop in runs.map(lambda number: prepared(number, sample), range(number)):
+        for workshop in beside.map(lambda number: prepared(number, [texts, runs]), range(number)):
             free.put(workshop)
         unfound = []
-        tries = runs.map(lambda damage: records_found(damage, free, sample, count), damages)
+        ways = [runs if damage.name.startswith(OF_RUNS) else texts for damage in damages]
+        tries = beside.map(lambda damage, way: found_by(damage, free, way, count), damages, ways)
         for damage, found in zip(damages, tries):
             print(f"{damage.name}: {found or 'NOT FOUND'}", flush=True)
             if not found:
                 unfound.append(damage.name)
     if unfound:
         raise Failed(f"{len(unfound)} of {len(damages)} are not found: {', '.join(unfound)}")
-    print(f"{len(damages)} damages are found, each by the records alone")
+    print(f"{len(damages)} damages are found, {ways.count(runs)} of them by the lists held to the runs")
 
 
-def prepared(number, sample):
+def prepared(number, ways):
     """A workshop whose whole program is built and prints what it should."""
     workshop = Workshop(number)
-    if first_difference(workshop.whole(), sample):
+    program = workshop.whole()
+    if any(way.first(program) for way in ways):
         raise Failed("a copy of the reference without damage differs from it")
     return workshop
 
 
-def records_found(damage, free, sample, count):
+def found_by(damage, free, way, count):
     """Tries a damage in a workshop that is free: what `told` says of it."""
     workshop = free.get()
     try:
-        return told(damage, workshop.damaged(damage), sample, count)
+        return told(damage, workshop.damaged(damage), way, count)
     finally:
         free.put(workshop)
 
 
-def told(damage, command, sample, count):
-    """The records by which a damage is found, in words; none if it is not."""
+def told(damage, command, way, count):
+    """What a damage is found by, in words; nothing if it is not found."""
     try:
-        if count:
-            found = sum(1 for _ in differences(command, sample, SECONDS_TO_ANSWER))
-            return f"{found} records" if found else ""
-        first = first_difference(command, sample, SECONDS_TO_ANSWER)
-        return f"record {first.number}" if first else ""
+        found = sum(1 for _ in way.differences(command)) if count else 0
+        return f"{found} records" if found else way.first(command)
     except Failed as failure:
         raise Failed(f"{damage.name}: the damaged program must answer, but {failure}") from failure

@@ -40,17 +40,28 @@ class Sample:
 
     def first(self, count):
         """The first records alone."""
-        return self.only("first-records", slice(count))
+        return self.only("first-records", range(len(self.records))[:count])
 
     def parts(self, count):
         """The records dealt out in turn, as so many samples."""
-        return [self.only(f"records-{at}", slice(at, None, count)) for at in range(count)]
+        return [self.only(f"records-{at}", range(at, len(self.records), count)) for at in range(count)]
 
-    def only(self, name, which):
+    def only(self, name, places):
         """Some of the records, in a file of that name."""
         path = programs.output_folder() / name
-        path.write_bytes(written(self.records[which]))
-        return Sample(path, self.records[which], self.classes[which], self.texts[which])
+        records, classes, texts = ([of[at] for at in places] for of in (self.records, self.classes, self.texts))
+        path.write_bytes(written(records))
+        return Sample(path, records, classes, texts)
+
+
+def answered(records, *options, program=None):
+    """The texts of the reference, or of another program, with these options."""
+    command = program or [str(programs.built("reference"))]
+    printed = programs.run([*command, *options, "--batch"], input=written(records))
+    texts = list(read_from(io.BytesIO(printed)))
+    if len(texts) != len(records):
+        raise programs.Failed(f"{command[0]} has {len(texts)} texts for {len(records)} records")
+    return texts
 
 
 def generate(options=()):

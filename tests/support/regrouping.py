@@ -3,12 +3,10 @@ forms. Of a law both forms get the same text, whatever stands below and above
 them; of what is no law some do not. The reference answers, which knows nothing
 of the proofs."""
 
-import io
 import random
-import subprocess
 
-from support.programs import Failed, built
-from support.records import read_from, written
+from support.programs import Failed
+from support.records import answered
 
 NAMES = ("start", "done", "busy", "close")
 EACH = 250
@@ -48,13 +46,6 @@ def odd(name, before, after):
     labels_seen = sum(text.count(b"\nlabel=") for text in before)
     if labels_seen < len(before):
         yield f"{name} is tried on {labels_seen} labels alone"
-
-
-def answered(records):
-    """The reference's texts."""
-    program = [str(built("reference")), "--batch"]
-    done = subprocess.run(program, input=written(records), stdout=subprocess.PIPE, check=True)
-    return list(read_from(io.BytesIO(done.stdout)))
 
 
 def described(rng, form):

@@ -1,14 +1,12 @@
 """Programs that do not answer as they should, and what is said of them."""
 
-import pathlib
 import sys
-import tempfile
 import types
-import unittest
 from unittest import mock
 
 from support import programs
 from support.comparing import Difference, differences, first_difference, some_difference
+from support.in_folder import InFolder
 from support.programs import Failed
 from support.records import Sample, written
 
@@ -22,11 +20,10 @@ def program(output, status=0):
     return [sys.executable, "-c", code]
 
 
-class Comparing(unittest.TestCase):
+class Comparing(InFolder):
     def setUp(self):
-        folder = tempfile.TemporaryDirectory()
-        self.addCleanup(folder.cleanup)
-        path = pathlib.Path(folder.name) / "records"
+        super().setUp()
+        path = self.top / "records"
         path.write_bytes(written(RECORDS))
         self.sample = types.SimpleNamespace(path=path, records=RECORDS, texts=TEXTS)
 
@@ -39,6 +36,10 @@ class Comparing(unittest.TestCase):
         self.assertEqual(found, Difference(3, RECORDS[2], TEXTS[2], b"other"))
         shown = "three\\x00\n--- the reference prints:\nthird\n--- the program prints:\nother"
         self.assertIn(shown, str(found))
+
+    def test_what_agrees_is_no_difference(self):
+        found = first_difference(program(written(TEXTS)), self.sample, agrees=lambda text, _: b"c" not in text)
+        self.assertEqual(found, Difference(2, RECORDS[1], TEXTS[1], TEXTS[1]))
 
     def test_all_differences_are_counted(self):
         other = [b"x" + text for text in TEXTS]
@@ -73,9 +74,9 @@ class Comparing(unittest.TestCase):
         texts = [b"a%d" % number for number in range(5)]
         sample = Sample(self.sample.path, texts, ["x"] * 5, texts)
         for processors in (1, 2, 3, 7):
-            folder = mock.patch.object(programs, "output_folder", lambda: self.sample.path.parent)
+            folder = mock.patch.object(programs, "output_folder", lambda: self.top)
             with folder, mock.patch("os.cpu_count", return_value=processors):
                 found = some_difference([sys.executable, "-c", code], sample)
                 self.assertEqual(found, Difference(3, b"a2", b"a2", b"b"))
-                others = sample.only("others", slice(3, None))
+                others = sample.only("others", range(3, 5))
                 self.assertIsNone(some_difference([sys.executable, "-c", code], others))

@@ -2,10 +2,9 @@
 
 import contextlib
 import io
-import pathlib
-import tempfile
 import unittest
 
+from support.in_folder import InFolder
 from support.laws import NO_LAW, OPERATORS, check_laws
 from support.programs import Failed
 
@@ -14,13 +13,10 @@ OTHER = "answer=ok\nrounds=1\nlabels=1\nlabel=close:1\n"
 LATER = "answer=ok\nrounds=2\nlabels=1\nlabel=done:1\n"
 
 
-class Laws(unittest.TestCase):
+class Laws(InFolder):
     def setUp(self):
-        folder = tempfile.TemporaryDirectory()
-        self.addCleanup(folder.cleanup)
-        self.top = pathlib.Path(folder.name)
-        for name in ("docs", "examples"):
-            (self.top / name).mkdir()
+        super().setUp()
+        self.make_folders("docs", "examples")
         self.shown = []
         self.write("law-twice", ONE, ONE)
         for name in OPERATORS:

@@ -2,21 +2,17 @@
 
 import contextlib
 import io
-import pathlib
-import tempfile
 import unittest
 
+from support.in_folder import InFolder
 from support.lines import check_lines
 from support.programs import Failed
 
 
-class Lines(unittest.TestCase):
+class Lines(InFolder):
     def setUp(self):
-        folder = tempfile.TemporaryDirectory()
-        self.addCleanup(folder.cleanup)
-        self.top = pathlib.Path(folder.name)
-        (self.top / "crates" / "room" / "src").mkdir(parents=True)
-        (self.top / "crates" / "room" / "proofs").mkdir()
+        super().setUp()
+        self.make_folders("crates/room/src", "crates/room/proofs")
 
     def check(self, code, proof=""):
         (self.top / "crates" / "room" / "src" / "lib.rt").write_text(code)

@@ -2,10 +2,9 @@
 
 import contextlib
 import io
-import pathlib
-import tempfile
 import unittest
 
+from support.in_folder import InFolder
 from support.pages import REASONS, check_pages
 from support.programs import Failed
 
@@ -14,13 +13,10 @@ def in_header(number):
     return f"    RIMECUTTER_R{number} = {number}, /* {number} */\n"
 
 
-class Pages(unittest.TestCase):
+class Pages(InFolder):
     def setUp(self):
-        folder = tempfile.TemporaryDirectory()
-        self.addCleanup(folder.cleanup)
-        self.top = pathlib.Path(folder.name)
-        for name in ("include", "docs", "examples"):
-            (self.top / name).mkdir()
+        super().setUp()
+        self.make_folders("include", "docs", "examples")
         (self.top / "examples" / "one.txt").write_text("")
         self.write("include/rimecutter.h", "".join(map(in_header, REASONS)))
         self.write("docs/FORMAT.md", "".join(f"| {n} | when |\n" for n in REASONS))

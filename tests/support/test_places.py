@@ -2,20 +2,16 @@
 
 import contextlib
 import io
-import pathlib
-import tempfile
-import unittest
 
+from support.in_folder import InFolder
 from support.places import check_places
 from support.programs import Failed
 
 
-class Places(unittest.TestCase):
+class Places(InFolder):
     def setUp(self):
-        folder = tempfile.TemporaryDirectory()
-        self.addCleanup(folder.cleanup)
-        self.top = pathlib.Path(folder.name)
-        (self.top / "docs").mkdir()
+        super().setUp()
+        self.make_folders("docs")
         (self.top / "code.rt").write_text("one\nfn two-more()\nfn two()\n")
 
     def check(self, text):

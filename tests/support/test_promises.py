@@ -2,10 +2,8 @@
 
 import contextlib
 import io
-import pathlib
-import tempfile
-import unittest
 
+from support.in_folder import InFolder
 from support.programs import Failed
 from support.promises import check_promises
 
@@ -34,11 +32,9 @@ MODULE = """pub extern "C" fn asks(
 ENTRIES = ["- `one::plain`: the same.\n  Shut out: `wrong.edit`.", "- `one::shown::asks`: the same; it\n  requires a digit."]
 
 
-class Promises(unittest.TestCase):
+class Promises(InFolder):
     def setUp(self):
-        folder = tempfile.TemporaryDirectory()
-        self.addCleanup(folder.cleanup)
-        self.top = pathlib.Path(folder.name)
+        super().setUp()
         self.write("docs/PROMISES.md", "\n".join(ENTRIES))
         self.write("crates/one/src/lib.rt", LIBRARY)
         self.write("crates/one/src/shown.rt", MODULE)

@@ -21,7 +21,7 @@ use Rattle.meaning.proofs.Tests.{and-left, and-right}
 use Rattle.meaning.proofs.Bags.{plus-none, number-plus, inside-plus}
 use Rattle.meaning.proofs.Ascent.{Within}
 use Rattle.meaning.proofs.Digits.{number-injective}
-use Rattle.meaning.proofs.Members.{in-append, in-spread, in-spread→, in-map→}
+use Rattle.meaning.proofs.Members.{in-at, in-append, in-spread, in-spread→, in-map→}
 use Rattle.meaning.proofs.Operators.{rule-legal, set-aside, bound-loses-nothing}
 use Rattle.labels.specs.Packing.{packed}
 use Rattle.labels.proofs.Refinement.{Packs, packs-small, number-fits, inside-number, difference-number}
@@ -163,16 +163,12 @@ module _ (names : ℕ) (few : names ≤ 12) (rs : List Rule) (legal : Each (Lega
       (each-agrees (followed depth all) (whole names listed depth) (followed-agrees depth) rules w rest aside p)
 
 -- A number that is found stands in the list.
-in-at : (s : List ℕ) (p : ℕ) → p < length s → getD s p 0 ∈ s
-in-at (v ∷ s) zero h = inl refl
-in-at (v ∷ s) (suc p) h = inr (in-at s p (omega arith))
-
 present-in : (s : List ℕ) (w : ℕ) → present s w ≡ true → w ∈ s
 present-in s w e =
     let p = placeOf s w in
     let t : T (ltb p (length s) && eqb (getD s p 0) w) = rw e tt in
     let l = ltb→lt p (length s) (and-left (ltb p (length s)) (eqb (getD s p 0) w) t) in
-    subst (λ (v : ℕ). v ∈ s) (eqb→eq (getD s p 0) w (and-right (ltb p (length s)) (eqb (getD s p 0) w) t)) (in-at s p l)
+    subst (λ (v : ℕ). v ∈ s) (eqb→eq (getD s p 0) w (and-right (ltb p (length s)) (eqb (getD s p 0) w) t)) (in-at s p 0 l)
 
 -- The labels of an operand through comm.
 module _ (names : ℕ) (few : names ≤ 12) (rs : List Rule) (legal : Each (LegalRule names) rs) (N : List Label) (packs : AllPack names N) where

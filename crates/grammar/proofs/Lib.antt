@@ -37,3 +37,5 @@ pub mod Sections
 pub mod LegalLines
 -- accepted, written-injective: a text is accepted exactly if it is the writing of a legal description
 pub mod Acceptance
+-- exact-text-tested, exact-texts, unseen-texts: the test of an exact text is the definition, and texts of examples/
+pub mod ExactTexts

@@ -11,6 +11,8 @@ use Rattle.meaning.specs.Labels.{plus}
 use Rattle.meaning.specs.Sets.{_∈_}
 use Rattle.meaning.specs.Descriptions.{Term, Description, act, ref, seq, merge, sync, comm, wrap, all}
 use Rattle.meaning.specs.Answers.{form, name, range, amount}
+use Rattle.meaning.proofs.Alphabets as M
+use Rattle.meaning.proofs.Alphabets.{hangs, busyForEver, startBlocked, startNotAllowed, startInStep, startFirst, fifteenOfSixteen, twoDies}
 use Rattle.grammar.specs.Text.{sameText, ended, literal, isDigit, isLower, secondDigit, number, wordOn, word, separatedOn}
 use Rattle.grammar.specs.Forms.{part, pair, rule, labelList, alone, ofName, ofOne, ofTwo, ofList, kinds, ofKind, countLine, nameLine, termLine, orderLine}
 use Rattle.grammar.specs.Faults.{worst, rising, nameNumber, nameFault, labelSaid, actions, labelFault, wordsFault}
@@ -44,6 +46,47 @@ stripe t =
       root = 4;
     }
 
+-- Texts of examples/ that docs/EXACT.md speaks of: those named `unseen-` and a kind, then the two of the exact kinds.
+abbrev unseenDelta : List String
+unseenDelta = "names=1" ∷ "name=done" ∷ "equations=0" ∷ "terms=3" ∷ "term=delta" ∷ "term=act done" ∷ "term=seq 0 1" ∷ "root=2" ∷ "order=all" ∷ []
+
+abbrev unseenRef : List String
+unseenRef =
+    "names=2" ∷ "name=busy" ∷ "name=done" ∷ "equations=1" ∷ "terms=5" ∷ "term=act busy" ∷ "term=ref 0" ∷ "term=seq 0 1" ∷ "term=act done"
+    ∷ "term=seq 1 3" ∷ "equation=2" ∷ "root=4" ∷ "order=all" ∷ []
+
+abbrev unseenBlock : List String
+unseenBlock =
+    "names=2" ∷ "name=start" ∷ "name=done" ∷ "equations=0" ∷ "terms=4" ∷ "term=act start" ∷ "term=act done" ∷ "term=seq 0 1"
+    ∷ "term=block 2 start" ∷ "root=3" ∷ "order=all" ∷ []
+
+abbrev unseenAllow : List String
+unseenAllow =
+    "names=2" ∷ "name=start" ∷ "name=done" ∷ "equations=0" ∷ "terms=4" ∷ "term=act start" ∷ "term=act done" ∷ "term=seq 0 1"
+    ∷ "term=allow 2 done:1" ∷ "root=3" ∷ "order=all" ∷ []
+
+abbrev unseenSync : List String
+unseenSync =
+    "names=3" ∷ "name=start" ∷ "name=done" ∷ "name=arm" ∷ "equations=0" ∷ "terms=5" ∷ "term=act start" ∷ "term=act done" ∷ "term=seq 0 1"
+    ∷ "term=act arm" ∷ "term=sync 2 3" ∷ "root=4" ∷ "order=all" ∷ []
+
+abbrev unseenLmerge : List String
+unseenLmerge =
+    "names=2" ∷ "name=start" ∷ "name=arm" ∷ "equations=0" ∷ "terms=3" ∷ "term=act start" ∷ "term=act arm" ∷ "term=lmerge 0 1" ∷ "root=2"
+    ∷ "order=all" ∷ []
+
+abbrev exactStripe : List String
+exactStripe =
+    "names=2" ∷ "name=done" ∷ "name=close" ∷ "equations=0" ∷ "terms=6" ∷ "term=act done" ∷ "term=merge 0 0" ∷ "term=merge 1 1"
+    ∷ "term=merge 2 2" ∷ "term=merge 3 3" ∷ "term=comm 4 done:15>close" ∷ "root=5" ∷ "order=all" ∷ []
+
+abbrev exactTwoDies : List String
+exactTwoDies =
+    "names=5" ∷ "name=start" ∷ "name=done" ∷ "name=busy" ∷ "name=retry" ∷ "name=close" ∷ "equations=0" ∷ "terms=15" ∷ "term=act start"
+    ∷ "term=act done" ∷ "term=act busy" ∷ "term=tau" ∷ "term=seq 2 3" ∷ "term=choice 1 4" ∷ "term=seq 0 5" ∷ "term=sum 6"
+    ∷ "term=rename 7 busy>retry" ∷ "term=merge 7 8" ∷ "term=comm 9 done:2>close" ∷ "term=hide 10 start" ∷ "term=act close"
+    ∷ "term=ifelse 11 12" ∷ "term=cond 13" ∷ "root=14" ∷ "order=all" ∷ []
+
 -- A text with its reading.
 pub record Case : Type 0 where
   pub given : Text
@@ -69,6 +112,22 @@ table =
     ∷ case (listing ++ ("x" ∷ [])) (badLine form 14)
     ∷ []
 
+abbrev readAs : List String → M.Case → Case
+readAs t c = case t (read (c .given) (c .order))
+
+abbrev pub unseenTexts : List Case
+unseenTexts =
+    readAs unseenDelta hangs
+    ∷ readAs unseenRef busyForEver
+    ∷ readAs unseenBlock startBlocked
+    ∷ readAs unseenAllow startNotAllowed
+    ∷ readAs unseenSync startInStep
+    ∷ readAs unseenLmerge startFirst
+    ∷ []
+
+abbrev pub exactTexts : List Case
+exactTexts = readAs exactStripe fifteenOfSixteen ∷ readAs exactTwoDies twoDies ∷ []
+
 abbrev Holds : Case → Type 0
 Holds c = readText (c .given) ≡ c .reading
 
@@ -76,16 +135,26 @@ abbrev All : List Case → Type 0
 All [] = Unit {0}
 All (c ∷ cs) = Holds c × All cs
 
-computed : All table
+computed : All table × All unseenTexts × All exactTexts
 unfolding plus sameText ended literal isDigit isLower secondDigit number wordOn word separatedOn
     part pair rule labelList alone ofName ofOne ofTwo ofList kinds ofKind countLine nameLine termLine orderLine
     worst rising nameNumber nameFault labelSaid actions labelFault wordsFault pairsFault rulesFault labelsFault wordsOfFault termFault orderFault
     takeNumber isFree takeName takeTerm takeBody takeOrder firstLine lines wholeText readText
-computed = (refl, (refl, (refl, (refl, (refl, (refl, (refl, (refl, (refl, (refl, (refl, (refl, tt))))))))))))
+computed = (
+  (refl, (refl, (refl, (refl, (refl, (refl, (refl, (refl, (refl, (refl, (refl, (refl, tt)))))))))))),
+  (refl, (refl, (refl, (refl, (refl, (refl, tt)))))),
+  (refl, (refl, tt)),
+)
 
 each : (cs : List Case) → All cs → (c : Case) → c ∈ cs → Holds c
 each (b ∷ cs) h c (inl e) = subst⁻¹ Holds e (h .0)
 each (b ∷ cs) h c (inr m) = each cs (h .1) c m
 
 pub cases : (c : Case) → c ∈ table → readText (c .given) ≡ c .reading
-cases = each table computed
+cases = each table (computed .0)
+
+pub unseen-texts : (c : Case) → c ∈ unseenTexts → readText (c .given) ≡ c .reading
+unseen-texts = each unseenTexts (computed .1)
+
+pub exact-texts : (c : Case) → c ∈ exactTexts → readText (c .given) ≡ c .reading
+exact-texts = each exactTexts (computed .2)

@@ -16,3 +16,5 @@ pub mod Writing
 pub mod Printed
 -- What a writer of texts leaves in a lent area
 pub mod Areas
+-- Which texts list no more than runs show
+pub mod Exact

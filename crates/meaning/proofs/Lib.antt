@@ -3,7 +3,7 @@
 pub mod Alike
 -- legal-tested: a computed test of legality, and that it is equivalent to legality
 pub mod Legality
--- computed: the examples P1 to P8, as one table that the checker computes
+-- computed: the examples P1 to P8, as one table that the checker computes, and those of docs/EXACT.md
 pub mod Alphabets
 -- and-left, or-cases, compare-says, ..: tests against what they say
 pub mod Tests
@@ -41,6 +41,14 @@ pub mod Operators
 pub mod FedBack
 -- onRun→inSet: every label on any finite run is in the root's set
 pub mod Soundness
+-- exact-tested: the computed test of the exact kinds is the definition
+pub mod ExactKinds
+-- passes-as, leads-in, passes-in: from state to state in any number of steps, and a label on the way
+pub mod Passages
+-- inSet→onRun, exact, exact-list: where every term is of the exact kinds, the root's set holds just the labels on runs
+pub mod Exact
+-- step-of, on-no-run: the steps of a state by its form, and how a label is shown to be on no run
+pub mod Steps
 -- long→someLong, over-cases, over-grows, round-passes, rounds-bound: a limit that a part passes the whole passes
 pub mod Limits
 -- round-full: every label of a round has a count for each name
@@ -55,8 +63,12 @@ pub mod Listings
 pub mod Widening
 -- all-widens: `order=all` to every label of one name widens
 pub mod WideningCases
--- cases: what the computed table says of each of its rows
+-- cases, unseen-holds, exact-holds, lists: what the computed tables say of each of their rows
 pub mod Examples
+-- exact-cases, close-beside-done: two descriptions of the exact kinds
+pub mod ExactCases
+-- unseen-delta, unseen-ref, ..: for each kind that is not exact a description and a label of its list that is on no run
+pub mod Unseen
 -- hidden-twice, blocked-twice, allowed-twice, tau-passes: operators in a row
 pub mod Rows
 -- spread-choice, map-merge, spread-merge: operators over two sides

@@ -4,8 +4,11 @@ use mathlib.Core.Path.{_≡_, refl, sym, ap, subst, _∙_}
 use mathlib.Core.Logic.{_⊎_, inl, inr, _↔_}
 use mathlib.Core.Bool.{Bool, true, false}
 use mathlib.Core.List.{List, [], _∷_, _++_, map, flatMap}
-use Prim.Native.Nat.{Ordering, Ordering·lt, Ordering·eq, Ordering·gt}
+use Prim.Native.Nat.{ℕ, zero, suc, _<_, Ordering, Ordering·lt, Ordering·eq, Ordering·gt}
+use native.Mathlib.Nat.{not-suc-le-zero}
+use native.Mathlib.Omega.{arith}
 use lib.Dec.{T, isEq}
+use lib.ListN.{length, getD}
 use Rattle.meaning.specs.Labels.{Label, order, plus}
 use Rattle.meaning.specs.Legal.{Each}
 use Rattle.meaning.specs.Sets.{_∈_, member, placed, insert, ascending, spread, kept, keep, turn, product}
@@ -27,6 +30,11 @@ each-in P (a ∷ s) h = (h a (inl refl), each-in P s (λ b m. h b (inr m)))
 pub each-of : {A : Type 0} (P : A → Type 0) (s : List A) → Each P s → (a : A) → a ∈ s → P a
 each-of P (b ∷ s) h a (inl e) = subst P (sym e) (h .0)
 each-of P (b ∷ s) h a (inr m) = each-of P s (h .1) a m
+
+pub in-at : {A : Type 0} (s : List A) (n : ℕ) (x : A) → n < length s → getD s n x ∈ s
+in-at [] n x l = absurd (not-suc-le-zero l)
+in-at (a ∷ s) zero x l = inl refl
+in-at (a ∷ s) (suc n) x l = inr (in-at s n x (omega (arith, l)))
 
 pub record Image {A B : Type 0} (f : A → B) (s : List A) (b : B) : Type 0 where
   pub source : A

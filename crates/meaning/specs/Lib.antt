@@ -20,6 +20,8 @@ pub mod Limits
 pub mod Answers
 -- When one description and order widens another
 pub mod Widening
+-- Which descriptions list no more than their runs show
+pub mod Exact
 -- What the laws of the set rules speak of
 pub mod Laws
 -- When one description regroups another

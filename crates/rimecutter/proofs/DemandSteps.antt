@@ -1,20 +1,20 @@
 -- The steps to the theorems of Demands.antt.
 -- Assumes nothing.
-use mathlib.Core.Path.{_≡_, refl, sym, ap, ap₂, subst, _∙_}
+use mathlib.Core.Path.{_≡_, refl, sym, ap, subst, _∙_}
 use mathlib.Core.Bool.{Bool, true, false, _||_}
 use mathlib.Core.Logic.{_⊎_, inl, inr, _↔_}
 use mathlib.Core.List.{List}
 use Prim.Native.Nat.{ℕ, zero, suc, _≤_, _<_}
 use native.Mathlib.Omega.{arith}
 use borrow.Author.Tests.{lt-ltb, le-ltb, ltb-true, ltb-false}
-use lib.Dec.{T, ltb, leb, le→leb, leb→le}
+use lib.Dec.{T, ltb, leb, le→leb}
 use lib.ListN.{length, getD}
 use Rattle.meaning.specs.Bytes.{Text}
 use Rattle.meaning.specs.Labels.{Label}
 use Rattle.meaning.specs.Descriptions.{Description, Order}
 use Rattle.meaning.specs.Limits.{PassesLimit}
 use Rattle.meaning.specs.Answers as A
-use Rattle.meaning.specs.Answers.{Outcome, tooLarge, listed, Lists, Answers, Fault, form, name, range, amount}
+use Rattle.meaning.specs.Answers.{Outcome, tooLarge, listed, Lists, Answers, form, name, range, amount}
 use Rattle.meaning.specs.Answers.{Refusal, tooLong, inLine, large, reasonOf, Verdict}
 use Rattle.meaning.specs.Widening.{Widens}
 use Rattle.meaning.proofs.Tests.{or-true→, or-false→}
@@ -31,7 +31,7 @@ use Rattle.rimecutter.specs.Calls.{Call, refusing, answering, workWords,
 use Rattle.rimecutter.specs.Calls.{ofReading, unlessShort, call, ownCall, verdictOf, textOf}
 use Rattle.rimecutter.specs.Answers.{Settled}
 use Rattle.rimecutter.specs.Refusals.{Roomy, Large, Due}
-use Rattle.rimecutter.specs.Demands.{Made, verdictGiven, DueOf, Answered, RefusedWith, Refused, Listing, Right, Safe}
+use Rattle.rimecutter.specs.Demands.{Made, DueOf, Answered, RefusedWith, Refused, Right, Safe}
 use Rattle.rimecutter.specs.Demands.{Called, textDue, Holds, numberOf, SaysOk, SafeText}
 use Rattle.rimecutter.proofs.Texts.{refusals-numbered, faults-below}
 
@@ -187,11 +187,14 @@ ListsOf (badLine f line) rounds labels = ⊥
 answered-few : (d : Description) (o : Order) → W.Answered (A.answer d o) → PassesLimit d → ⊥
 answered-few d o x p = let e = answer-only d o tooLarge p ∙ x .is in let z : _≡_ {A = ℕ} 0 1 = cc in omega arith
 
+-- What an answered call lists of the description that its text is read as.
+pub answered-lists : (m : Made) {d : Description} {o : Order} → readText (m .text) ≡ read d o → (a : Answered m) → Lists d o (a .rounds) (a .labels)
+answered-lists m reads a = subst (λ (x : Reading). ListsOf x (a .rounds) (a .labels)) (sym (a .reads) ∙ reads) (a .lists)
+
 module _ (m m′ : Made) {d d′ : Description} {o o′ : Order} (reads : readText (m .text) ≡ read d o) (reads′ : readText (m′ .text) ≡ read d′ o′) where
   pub widens→safe : Widens d o d′ o′ → Roomy (length (m .work)) (length (m .answer)) → Answered m′ → Safe m m′ d o
   widens→safe w roomy a =
-      let same : read d′ o′ ≡ read (a .given) (a .order) = sym reads′ ∙ a .reads in
-      let lists : Lists d′ o′ (a .rounds) (a .labels) = subst (λ (x : Reading). ListsOf x (a .rounds) (a .labels)) (sym same) (a .lists) in
+      let lists = answered-lists m′ reads′ a in
       let legal = accepted→ (m .text) d o reads .1 in
       let legal′ = accepted→ (m′ .text) d′ o′ reads′ .1 in
       let tight = tightening d o d′ o′ legal legal′ w (a .rounds) (a .labels) (sym (answer-only d′ o′ (listed (a .rounds) (a .labels)) lists)) in
@@ -225,32 +228,43 @@ refusal-not-ok reason at area e = let k = ap (λ (t : Text). getD t 7 0) e in om
 own : Roomy workWords answerWords
 own = record { works = omega arith; answers = omega arith }
 
+-- What a call for C printed that begins with the first line of an answer.
+pub record PrintedAnswer (c : Called) (d : Description) (o : Order) : Type 0 where
+  pub rounds : ℕ
+  pub labels : List Label
+  pub is : A.answer d o ≡ listed rounds labels
+  pub shown : c .area′ ≡ withStart (answerText (d .words) rounds labels) (c .area)
+
+module _ (c : Called) {d : Description} {o : Order} (reads : readText (c .text) ≡ read d o) (holds : Holds c) where
+  outcome-shown : {x : Outcome} → A.answer d o ≡ x → c .area′ ≡ withStart (textOf (ofOutcome d x)) (c .area)
+  outcome-shown e =
+      holds→shown c holds
+      ∙ ap (λ (x : Call). withStart (textOf x) (c .area)) (call-read (c .text) workWords answerWords own reads ∙ ap (ofOutcome d) e)
+
+  of-outcome : (x : Outcome) → A.answer d o ≡ x → SaysOk (c .area′) → PrintedAnswer c d o
+  of-outcome tooLarge e ok = absurd (refusal-not-ok 7 0 (c .area) (subst SaysOk (outcome-shown e) ok))
+  of-outcome (listed rounds labels) e ok = record { rounds = rounds; labels = labels; is = e; shown = outcome-shown e }
+
+  pub printed-answer : SaysOk (c .area′) → PrintedAnswer c d o
+  printed-answer = of-outcome (A.answer d o) refl
+
 module _ (c c′ : Called) {d d′ : Description} {o o′ : Order} (reads : readText (c .text) ≡ read d o) (reads′ : readText (c′ .text) ≡ read d′ o′)
     (holds : Holds c) (holds′ : Holds c′) where
-  safe-text : Widens d o d′ o′ → (x : Outcome) → A.answer d′ o′ ≡ x → SaysOk (withStart (textOf (ofOutcome d′ x)) (c′ .area)) → SafeText c c′ d o d′
-  safe-text w tooLarge e ok = absurd (refusal-not-ok 7 0 (c′ .area) ok)
-  safe-text w (listed rounds labels) e ok =
-      let legal = accepted→ (c .text) d o reads .1 in
-      let legal′ = accepted→ (c′ .text) d′ o′ reads′ .1 in
-      let tight = tightening d o d′ o′ legal legal′ w rounds labels e in
-      let text : Call → Text = λ x. withStart (textOf x) (c .area) in
-      let text′ : Call → Text = λ x. withStart (textOf x) (c′ .area) in
-      let first = call-read (c .text) workWords answerWords own reads ∙ ap (ofOutcome d) (tight .answered .is) in
-      let second = call-read (c′ .text) workWords answerWords own reads′ ∙ ap (ofOutcome d′) e in
-      record {
-        answered =
-            subst SaysOk (sym (holds→shown c holds ∙ ap text first))
-            (answer-ok (d .words) (tight .answered .rounds) (tight .answered .labels) (c .area));
-        rounds = rounds;
-        listed-labels = labels;
-        shown = holds→shown c′ holds′ ∙ ap text′ second;
-        covered = tight .covered;
-      }
-
   pub safe-texts : Widens d o d′ o′ → SaysOk (c′ .area′) → SafeText c c′ d o d′
   safe-texts w ok =
-      let text′ : Call → Text = λ x. withStart (textOf x) (c′ .area) in
-      safe-text w (A.answer d′ o′) refl (subst SaysOk (holds→shown c′ holds′ ∙ ap text′ (call-read (c′ .text) workWords answerWords own reads′)) ok)
+      let p = printed-answer c′ reads′ holds′ ok in
+      let legal = accepted→ (c .text) d o reads .1 in
+      let legal′ = accepted→ (c′ .text) d′ o′ reads′ .1 in
+      let tight = tightening d o d′ o′ legal legal′ w (p .rounds) (p .labels) (p .is) in
+      record {
+        answered =
+            subst SaysOk (sym (outcome-shown c reads holds (tight .answered .is)))
+            (answer-ok (d .words) (tight .answered .rounds) (tight .answered .labels) (c .area));
+        rounds = p .rounds;
+        listed-labels = p .labels;
+        shown = p .shown;
+        covered = tight .covered;
+      }
 
 -- Refusal 8: no text is empty, and no other number is 8.
 text-some : (c : Call) → 1 ≤ length (textOf c)

@@ -3,7 +3,6 @@
 -- Assumes nothing.
 use mathlib.Core.Path.{_≡_, sym, subst, _∙_}
 use mathlib.Core.Logic.{_⊎_, inl, inr, _↔_}
-use Prim.Native.Nat.{ℕ}
 use native.Mathlib.Omega.{arith}
 use lib.ListN.{length}
 use Rattle.meaning.specs.Descriptions.{Description, Order}
@@ -12,7 +11,7 @@ use Rattle.meaning.specs.Answers.{Refusal}
 use Rattle.meaning.specs.Widening.{Widens}
 use Rattle.meaning.proofs.Answers.{reason-eq}
 use Rattle.grammar.specs.Reading.{read, readText}
-use Rattle.rimecutter.specs.Refusals.{Roomy, Large, Due}
+use Rattle.rimecutter.specs.Refusals.{Roomy, Large}
 use Rattle.rimecutter.specs.Demands.{Made, verdictGiven, DueOf, Answered, RefusedWith, Refused, Right, Safe, Called, Holds, numberOf, SaysOk, SafeText}
 use Rattle.rimecutter.proofs.DemandSteps.{due→, refused-by, answered-or-refused, refusal-unique, no-answer}
 use Rattle.rimecutter.proofs.DemandSteps.{answered-roomy, read→right, seven-large, widens→safe, safe-texts, no-room}
@@ -51,6 +50,15 @@ due-once m r r′ due due′ = refusal-unique (sym (due-refused m r due .says)) 
 pub refusal-8 : (c : Called) → ((c .size ≡ 0) ↔ (numberOf c ≡ 8)) × (numberOf c ≡ 8 → c .area′ ≡ c .area)
 refusal-8 c = no-room c
 
+-- Number 0 is given of an answer alone.
+pub answered : (m : Made)
+    → verdictGiven m .reason ≡ 0
+    → Answered m
+answered m zero = elim (demand-1 m) [
+  | inl a ↦ a
+  | inr x ↦ absurd (no-answer (x .refusal) (sym (reason-eq (x .refused .says)) ∙ zero))
+]
+
 -- Demand 2. Of a well-formed description "too large" is said exactly when its least sets pass a limit, and otherwise exactly those labels
 -- of the root's set are listed that the order allows; of no other description is "too large" said.
 pub demand-2 : (m : Made) {d : Description} {o : Order}
@@ -77,10 +85,9 @@ pub demand-3 : (m m′ : Made) {d d′ : Description} {o o′ : Order}
     → length (m .answer) ≡ length (m′ .answer)
     → verdictGiven m′ .reason ≡ 0
     → Safe m m′ d o
-demand-3 m m′ reads reads′ w works answers zero = elim (demand-1 m′) [
-  | inl a ↦ widens→safe m m′ reads reads′ w (rw (works, answers) (answered-roomy m′ a)) a
-  | inr x ↦ absurd (no-answer (x .refusal) (sym (reason-eq (x .refused .says)) ∙ zero))
-]
+demand-3 m m′ reads reads′ w works answers zero =
+    let a = answered m′ zero in
+    widens→safe m m′ reads reads′ w (rw (works, answers) (answered-roomy m′ a)) a
 
 -- The same of two calls for C, over what they print, with text areas that hold either text.
 pub demand-3-text : (c c′ : Called) {d d′ : Description} {o o′ : Order}

@@ -9,3 +9,5 @@ pub mod Uniqueness
 pub mod DemandSteps
 -- demand-1, demand-2, demand-3, refused-exactly, refusal-8, ..: the three demands of the order
 pub mod Demands
+-- exact-list, exact-list-text: exact lists, beside the demands
+pub mod Exact

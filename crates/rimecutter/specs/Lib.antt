@@ -6,3 +6,5 @@ pub mod Answers
 pub mod Refusals
 -- What the three demands say of a call
 pub mod Demands
+-- What is said of exact lists beside them
+pub mod Exact

@@ -6,6 +6,7 @@
 
 mod communication;
 mod draft;
+mod exact_kinds;
 mod fault_pairs;
 mod guesses;
 mod lists;
@@ -46,6 +47,7 @@ const CLASSES: &[Class] = &[
     ("shared-bodies", set_limits::shared_bodies, 60),
     ("dies", set_limits::dies, 300),
     ("sync-operands", sync_operands::record, 8_000),
+    ("exact-kinds", exact_kinds::record, 5_000),
     ("bytes", reading_limits::bytes, 2_500),
     ("counts", reading_limits::counts, 1_500),
     ("list-lengths", reading_limits::list_lengths, 8_000),

@@ -96,18 +96,18 @@ pub fn list_for(random: &mut Random, kind: &str, names: &[String], likely: &[Lab
 }
 
 /// A draft with a guess for each of its terms.
-struct Writer {
+pub struct Writer {
     draft: Draft,
     guesses: Vec<Guess>,
     equations: usize,
 }
 
 impl Writer {
-    fn new(names: Vec<String>, equations: usize) -> Writer {
+    pub fn new(names: Vec<String>, equations: usize) -> Writer {
         Writer { draft: Draft::new(names), guesses: Vec::new(), equations }
     }
 
-    fn note_act(&mut self, name: usize) {
+    pub fn note_act(&mut self, name: usize) {
         self.draft.act(name);
         let mut label = vec![0; self.draft.names.len()];
         label[name] = 1;
@@ -121,19 +121,11 @@ impl Writer {
         let can_be_operand = |term: &usize| !of_multi_actions || self.draft.is_multi_action(*term);
         let operands: Vec<usize> = (0..self.draft.terms.len()).filter(can_be_operand).collect();
         match kind {
-            "tau" => self.note(kind, vec![vec![0; self.draft.names.len()]]),
-            "delta" => self.note(kind, Guess::new()),
-            "ref" if self.equations > 0 => {
-                let names = self.draft.names.len();
-                let guess = (0..2).map(|_| lists::label(random, names, 1..=1)).collect();
-                let term = format!("ref {}", random.below(self.equations));
-                self.note(&term, guess);
-            }
-            "act" | "ref" => self.note_act(random.below(self.draft.names.len())),
-            _ if operands.is_empty() => self.note_act(random.below(self.draft.names.len())),
+            "act" | "tau" | "delta" | "ref" => self.add_leaf(random, kind),
+            _ if operands.is_empty() => self.add_leaf(random, "act"),
             "sum" | "cond" => {
                 let operand = self.operand(random, &operands);
-                self.note(&format!("{} {}", kind, operand), self.guesses[operand].clone());
+                self.add_of_one(kind, operand);
             }
             "block" | "hide" | "rename" | "comm" | "allow" => {
                 let operand = self.operand(random, &operands);
@@ -152,7 +144,26 @@ impl Writer {
         }
     }
 
-    fn add_of_two(&mut self, random: &mut Random, kind: &str, left: usize, right: usize) {
+    /// Adds a term without an operand; an act for a ref, if there is no equation.
+    pub fn add_leaf(&mut self, random: &mut Random, kind: &str) {
+        let names = self.draft.names.len();
+        match kind {
+            "tau" => self.note(kind, vec![vec![0; names]]),
+            "delta" => self.note(kind, Guess::new()),
+            "ref" if self.equations > 0 => {
+                let guess = (0..2).map(|_| lists::label(random, names, 1..=1)).collect();
+                let term = format!("ref {}", random.below(self.equations));
+                self.note(&term, guess);
+            }
+            _ => self.note_act(random.below(names)),
+        }
+    }
+
+    pub fn add_of_one(&mut self, kind: &str, operand: usize) {
+        self.note(&format!("{} {}", kind, operand), self.guesses[operand].clone());
+    }
+
+    pub fn add_of_two(&mut self, random: &mut Random, kind: &str, left: usize, right: usize) {
         let term = self.draft.two(kind, left, right);
         let has_both = !self.draft.is_multi_action(term);
         let (left, right) = (&self.guesses[left], &self.guesses[right]);
@@ -160,7 +171,7 @@ impl Writer {
         self.guesses.push(guess);
     }
 
-    fn add_with_list(&mut self, random: &mut Random, kind: &str, operand: usize) {
+    pub fn add_with_list(&mut self, random: &mut Random, kind: &str, operand: usize) {
         let of = &self.guesses[operand];
         let list = list_for(random, kind, &self.draft.names, of);
         let guess = guesses::with_list(random, kind, &list, &self.draft.names, of);
@@ -194,12 +205,22 @@ impl Writer {
         second
     }
 
-    fn finish(mut self, random: &mut Random) -> Draft {
+    fn finish(self, random: &mut Random) -> Draft {
         let terms: Vec<usize> = (0..self.draft.terms.len()).collect();
         let bodies = (0..self.equations).map(|_| self.operand(random, &terms)).collect();
+        let root = self.operand(random, &terms);
+        self.finish_with(random, bodies, root)
+    }
+
+    pub fn finish_with(mut self, random: &mut Random, bodies: Vec<usize>, root: usize) -> Draft {
         self.draft.bodies = bodies;
-        self.draft.root = self.operand(random, &terms);
-        self.draft.order = order(random, &self.draft.names, &self.guesses[self.draft.root]);
+        self.draft.root = root;
+        self.draft.order = order(random, &self.draft.names, &self.guesses[root]);
         self.draft
+    }
+
+    /// The number of the term that was added last.
+    pub fn last(&self) -> usize {
+        self.draft.terms.len() - 1
     }
 }

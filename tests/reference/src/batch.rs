@@ -1,16 +1,19 @@
 //! Many descriptions in one run: each record is a decimal length, LF and that
 //! many bytes, and so is each text that is printed.
 
-use crate::text;
 use std::io::{BufRead, Error, Read, Write};
 
 /// Answers each record before it reads the next one, so that a comparison can
 /// stop at the first difference.
-pub fn answer_all(input: &mut impl BufRead, output: &mut impl Write) -> Result<(), String> {
+pub fn answer_all(
+    answer: fn(&[u8]) -> String,
+    input: &mut impl BufRead,
+    output: &mut impl Write,
+) -> Result<(), String> {
     let mut number = 1;
     while let Some(record) = next_record(input).map_err(|fault| in_record(number, &fault))? {
-        let answer = text::answer(&record);
-        let written = write!(output, "{}\n{}", answer.len(), answer);
+        let text = answer(&record);
+        let written = write!(output, "{}\n{}", text.len(), text);
         written.map_err(|fault| in_record(number, &fault.to_string()))?;
         number += 1;
     }

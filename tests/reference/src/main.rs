@@ -6,7 +6,8 @@
 //! quickest one.
 //!
 //! Without an argument it reads one description and prints its text; with
-//! `--batch` it does so for each record (see `batch`).
+//! `--runs` it prints the labels that are met on runs instead (see `runs`), and
+//! with `--batch` it does so for each record (see `batch`).
 
 mod bag;
 mod batch;
@@ -15,6 +16,7 @@ mod label_set;
 mod limits;
 mod reading;
 mod rounds;
+mod runs;
 mod sets;
 #[cfg(test)]
 mod tests;
@@ -37,16 +39,28 @@ fn run() -> Result<(), String> {
     let arguments: Vec<String> = std::env::args().skip(1).collect();
     let mut input = io::stdin().lock();
     let mut output = BufWriter::new(io::stdout().lock());
-    match arguments.iter().map(String::as_str).collect::<Vec<_>>()[..] {
-        [] => answer_one(&mut input, &mut output).map_err(|fault| fault.to_string())?,
-        ["--batch"] => batch::answer_all(&mut input, &mut output)?,
-        _ => return Err(String::from("usage: reference [--batch]")),
+    let (answer, is_batch): (fn(&[u8]) -> String, bool) =
+        match arguments.iter().map(String::as_str).collect::<Vec<_>>()[..] {
+            [] => (text::answer, false),
+            ["--batch"] => (text::answer, true),
+            ["--runs"] => (text::met_on_runs, false),
+            ["--runs", "--batch"] => (text::met_on_runs, true),
+            _ => return Err(String::from("usage: reference [--runs] [--batch]")),
+        };
+    if is_batch {
+        batch::answer_all(answer, &mut input, &mut output)?;
+    } else {
+        answer_one(answer, &mut input, &mut output).map_err(|fault| fault.to_string())?;
     }
     output.flush().map_err(|fault| fault.to_string())
 }
 
-fn answer_one(input: &mut impl Read, output: &mut impl Write) -> io::Result<()> {
+fn answer_one(
+    answer: fn(&[u8]) -> String,
+    input: &mut impl Read,
+    output: &mut impl Write,
+) -> io::Result<()> {
     let mut description = Vec::new();
     input.read_to_end(&mut description)?;
-    output.write_all(text::answer(&description).as_bytes())
+    output.write_all(answer(&description).as_bytes())
 }

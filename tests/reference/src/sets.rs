@@ -76,7 +76,7 @@ fn set_of_two(
 }
 
 /// The renaming as a map: every name to itself, but for the pairs.
-fn images(names: usize, pairs: &[(usize, usize)]) -> Vec<usize> {
+pub fn images(names: usize, pairs: &[(usize, usize)]) -> Vec<usize> {
     let mut images: Vec<usize> = (0..names).collect();
     for (from, to) in pairs {
         images[*from] = *to;
@@ -91,10 +91,7 @@ fn communicated(
     operand: &LabelSet,
     rules: &[(Parts<usize>, usize)],
 ) -> Result<LabelSet, TooLarge> {
-    let rules: Vec<(Bag, Bag)> = rules
-        .iter()
-        .map(|(left, right)| (Bag::of_parts(names, left), Bag::of_parts(names, &[(*right, 1)])))
-        .collect();
+    let rules = sides_of(names, rules);
     let mut found = LabelSet::default();
     for label in operand.iter() {
         let ways = ways_to_communicate(names, label, &rules);
@@ -103,12 +100,22 @@ fn communicated(
     Ok(found)
 }
 
+/// Both sides of each rule as labels.
+pub fn sides_of(names: usize, rules: &[(Parts<usize>, usize)]) -> Vec<(Bag, Bag)> {
+    let side = |parts: &[(usize, u64)]| Bag::of_parts(names, parts);
+    rules.iter().map(|(left, right)| (side(left), side(&[(*right, 1)]))).collect()
+}
+
 /// Every choice of applications to disjoint parts of a label, any number of
 /// each rule: what is left of the label, from which alone further parts are
 /// taken, and the results set aside. Which part was taken first makes no
 /// difference, so the rules come one after the other; and two choices that
 /// leave the same and set the same aside are one.
-fn ways_to_communicate(names: usize, label: &Bag, rules: &[(Bag, Bag)]) -> BTreeSet<(Bag, Bag)> {
+pub fn ways_to_communicate(
+    names: usize,
+    label: &Bag,
+    rules: &[(Bag, Bag)],
+) -> BTreeSet<(Bag, Bag)> {
     let mut ways = BTreeSet::from([(label.clone(), Bag::tau(names))]);
     for (left, right) in rules {
         let mut waiting: Vec<(Bag, Bag)> = ways.iter().cloned().collect();

@@ -1,12 +1,12 @@
 //! The batch interface.
 
-use crate::batch;
+use crate::{batch, text};
 
 const LISTED: &str = "names=1\nname=a\nequations=0\nterms=1\nterm=act a\nroot=0\norder=all\n";
 
 fn answers(mut input: &[u8]) -> Result<String, String> {
     let mut output = Vec::new();
-    batch::answer_all(&mut input, &mut output)?;
+    batch::answer_all(text::answer, &mut input, &mut output)?;
     String::from_utf8(output).map_err(|fault| fault.to_string())
 }
 

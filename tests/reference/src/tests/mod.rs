@@ -4,6 +4,7 @@ mod batches;
 mod document_examples;
 mod reading_limits;
 mod refusals;
+mod runs;
 mod set_limits;
 mod sets_by_kind;
 mod syncs;
@@ -46,7 +47,11 @@ fn joined<L: AsRef<str>>(lines: &[L]) -> String {
 fn answered(rounds: usize, labels: &str) -> String {
     let labels: Vec<&str> = labels.split_whitespace().collect();
     let head = format!("answer=ok\nrounds={}\nlabels={}\n", rounds, labels.len());
-    labels.iter().fold(head, |text, label| format!("{}label={}\n", text, label))
+    head + &label_lines(&labels)
+}
+
+fn label_lines(labels: &[&str]) -> String {
+    labels.iter().map(|label| format!("label={}\n", label)).collect()
 }
 
 fn refused(reason: u8, line: usize) -> String {
