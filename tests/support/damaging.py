@@ -1,6 +1,7 @@
 """The test of the test: the reference is damaged on purpose, and the
 comparison must find each damage with the records that the gate uses. Where only
-the following of runs is damaged, the lists held to the runs must find it.
+the following of runs is damaged, the lists held to the runs must find it, and
+where only the tally is, the additions to a tally or the tally over files.
 
 A damage is a file in tests/damages: a line that tells what is wrong then,
 and one or more edits. An edit is a line `in FILE`, the lines to be replaced
@@ -15,9 +16,10 @@ import os
 import queue
 import shutil
 
-from support import exact
+from support import exact, tally
 from support.comparing import differences
 from support.programs import TESTS, Failed, output_folder, run
+from support.tally_files import odd_over_examples, tally_of_examples
 
 SECONDS_TO_ANSWER = 300
 
@@ -27,8 +29,9 @@ FIRST_RECORDS = 40_000
 # The same for records whose runs are followed.
 FIRST_RUNS = 600
 
-# What the name of a damage of following runs begins with.
+# What the name of a damage of following runs, or of the tally, begins with.
 OF_RUNS = "runs-"
+OF_TALLY = "tally-"
 
 
 @dataclasses.dataclass
@@ -142,21 +145,41 @@ class Runs(Texts):
         return ", ".join(exact.seen_in_examples(command)) or super().first(command)
 
 
-def try_all(sample, count=False):
+class Tallies:
+    """How a damage of the tally is found: another text for an addition, or another
+    tally over the examples."""
+
+    def __init__(self, tried):
+        self.tried = tried
+        self.over_examples = tally_of_examples()
+
+    def differences(self, command):
+        return tally.differences([*command, "--additions"], self.tried)
+
+    def first(self, command):
+        for difference in self.differences(command):
+            return f"addition {difference.number}"
+        odd = odd_over_examples([*command, "--tally"], self.over_examples)
+        return "the tally over the examples" if any(odd) else ""
+
+
+def try_all(sample, tried, count=False):
     """Tries every damage, as many at a time as there are processors; ends with
     Failed unless each one is found."""
     texts = Texts(sample if count else sample.first(FIRST_RECORDS))
     runs = Runs(exact.made_to_follow(sample, None if count else FIRST_RUNS))
+    tallies = Tallies(tried)
     damages = [Damage.read(path) for path in sorted((TESTS / "damages").glob("*.edit"))]
     if not damages:
         raise Failed("there are no damages to try")
     number = os.cpu_count() or 1
     with concurrent.futures.ThreadPoolExecutor(number) as beside:
         free = queue.SimpleQueue()
-        for workshop in beside.map(lambda number: prepared(number, [texts, runs]), range(number)):
+        for workshop in beside.map(lambda number: prepared(number, [texts, runs, tallies]), range(number)):
             free.put(workshop)
         unfound = []
-        ways = [runs if damage.name.startswith(OF_RUNS) else texts for damage in damages]
+        others = {OF_RUNS: runs, OF_TALLY: tallies}
+        ways = [way_to_find(damage, others, texts) for damage in damages]
         tries = beside.map(lambda damage, way: found_by(damage, free, way, count), damages, ways)
         for damage, found in zip(damages, tries):
             print(f"{damage.name}: {found or 'NOT FOUND'}", flush=True)
@@ -164,7 +187,13 @@ def try_all(sample, count=False):
                 unfound.append(damage.name)
     if unfound:
         raise Failed(f"{len(unfound)} of {len(damages)} are not found: {', '.join(unfound)}")
-    print(f"{len(damages)} damages are found, {ways.count(runs)} of them by the lists held to the runs")
+    by_others = f"{ways.count(runs)} of them by the lists held to the runs, {ways.count(tallies)} by the tally"
+    print(f"{len(damages)} damages are found, {by_others}")
+
+
+def way_to_find(damage, others, texts):
+    """What must find a damage, by what its name begins with."""
+    return next((way for prefix, way in others.items() if damage.name.startswith(prefix)), texts)
 
 
 def prepared(number, ways):

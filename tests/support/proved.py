@@ -1,7 +1,7 @@
-"""Building and running what is proved: the program `alphabet`, and C programs
-that are linked with the archive of the C call.
+"""Building and running what is proved: the program `alphabet`, the tally, and C
+programs that are linked with the archive of the C call.
 
-Both are made for x86-64. On another processor the kit's emulator and loader
+All are made for x86-64. On another processor the kit's emulator and loader
 run them, and Debian's cross compiler compiles the C programs.
 """
 
@@ -13,7 +13,9 @@ import subprocess
 
 from support.comparing import shown, some_difference
 from support.examples import check_examples
-from support.programs import TESTS, TOP, Failed, output_folder, run
+from support.programs import TESTS, TOP, Failed, built, output_folder, run
+from support.tally import NOT_WHOLE, check_additions
+from support.tally_files import check_files, check_many_files, check_records, example_files
 
 # The emulator goes byte by byte through the instructions with which the C library
 # fills and copies much memory, so that library is told to use its others.
@@ -26,6 +28,8 @@ ARCHIVE = TOP / "target" / "staticlib" / "librimecutter_c.a"
 NATIVE = platform.machine() == "x86_64"
 COMPILER = "cc" if NATIVE else "x86_64-linux-gnu-gcc"
 STRICT = ["-std=c99", "-pedantic", "-Wall", "-Wextra", "-Werror", "-O2"]
+# So many additions to a tally come byte by byte.
+SOME_ADDITIONS = 20
 
 
 def kit():
@@ -55,6 +59,12 @@ def rt(*words):
         subprocess.run([kit() / "bin" / "rt", *words], cwd=TOP, check=True)
     except subprocess.CalledProcessError as fault:
         raise Failed(f"rt {' '.join(words)} ended with {fault.returncode}") from fault
+
+
+def built_by_rt(name):
+    """How a program that is proved and built first is run here."""
+    rt("check", name)
+    return command(TOP / "target" / "bin" / name)
 
 
 def linked(source):
@@ -92,8 +102,7 @@ def check_example_program():
 def check_program():
     """The program: every example, and input that comes byte by byte or is too
     long."""
-    rt("check", "alphabet")
-    program = command(TOP / "target" / "bin" / "alphabet")
+    program = built_by_rt("alphabet")
     check_examples(program)
     listing = (TOP / "crates" / "alphabet" / "stdin").read_bytes()
     due = (TOP / "crates" / "alphabet" / "stdout").read_bytes()
@@ -103,6 +112,24 @@ def check_program():
     expect(program, [listing, bytes(8193 - len(listing))], refused % (1, 0))
     expect(program, [b"\n" * 65536] * 16, refused % (1, 0))
     print("the program answers pieces and too long input as it should", flush=True)
+
+
+def check_tally_program(sample, tried):
+    """The tally over files, by the command that a reader runs; and additions to a
+    tally, by a program that is made for them alone."""
+    program, reference = [str(TOP / "tally")], [str(built("reference")), "--tally"]
+    # The first run may prove and build, which it tells on standard error.
+    run([*program, *example_files()], cwd=TOP)
+    check_files(program, run([*reference, *example_files()], cwd=TOP))
+    check_many_files(program, reference)
+    check_records(program, reference, sample)
+    trials = built_by_rt("tally_trials")
+    check_additions(trials, tried)
+    expect(trials, [], b"")
+    expect(trials, [NOT_WHOLE], b"")
+    some = b"".join(addition.written() for addition in tried.additions[:SOME_ADDITIONS])
+    expect(trials, [some[at : at + 1] for at in range(len(some))], b"".join(tried.texts[:SOME_ADDITIONS]))
+    print("additions in pieces, and a record that is not whole, are answered as they should", flush=True)
 
 
 def expect(program, pieces, due):

@@ -1,13 +1,17 @@
 """Damages that cannot be made are told, not passed over; and what finds one of
-following runs."""
+following runs or of the tally."""
 
 import sys
 import unittest
+from unittest import mock
 
-from support.damaging import Damage, Runs
+from support import damaging
+from support.additions import EMPTY, Addition, Verdict
+from support.damaging import Damage, Runs, Tallies
 from support.in_folder import InFolder
 from support.programs import Failed
 from support.records import Sample, written
+from support.tally import Tried
 
 EDIT = "Told.\nin a.rs\n-two\n+deux\n+zwei\nin b.rs\n-  four\n+  vier\n"
 
@@ -66,6 +70,37 @@ class FindingByRuns(InFolder):
         for text, due in cases:
             with self.subTest(text=text):
                 self.assertEqual(self.found(b"answer=ok\n" + text), due)
+
+
+class FindingByTheTally(InFolder):
+    def found(self, addition, over_files):
+        """What finds a program that prints one text for the additions, and another
+        for any files."""
+        code = (
+            "import sys; option, *files = sys.argv[1:]; "
+            f"sys.stdout.buffer.write({over_files!r} if option == '--tally' else {addition!r}); "
+            "sys.exit(' '.join(files) if any('no-such' in file for file in files) else 0)"
+        )
+        path = self.top / "additions"
+        path.write_bytes(b"")
+        tried = Tried(path, [Addition("some", True, EMPTY, Verdict(1, 0, 0))], [b"right\n"])
+        with mock.patch.object(damaging, "tally_of_examples", lambda: b"files\n"):
+            return Tallies(tried).first([sys.executable, "-c", code])
+
+    def test_each_way(self):
+        cases = [
+            (b"right\n", b"files\n", ""),
+            (b"wrong\n", b"files\n", "addition 1"),
+            (b"right\n", b"wrong\n", "the tally over the examples"),
+        ]
+        for addition, over_files, due in cases:
+            with self.subTest(addition=addition, over_files=over_files):
+                self.assertEqual(self.found(addition, over_files), due)
+
+    def test_which_way_is_for_which_damage(self):
+        others = {"runs-": "runs", "tally-": "tallies"}
+        for name, due in (("runs-one", "runs"), ("tally-one", "tallies"), ("the-tally-one", "texts")):
+            self.assertEqual(damaging.way_to_find(Damage(name, "", []), others, "texts"), due)
 
 
 if __name__ == "__main__":

@@ -5,7 +5,7 @@ import io
 import unittest
 
 from support.in_folder import InFolder
-from support.pages import REASONS, check_pages
+from support.pages import REASONS, TALLY_REASONS, check_pages
 from support.programs import Failed
 
 
@@ -19,7 +19,7 @@ class Pages(InFolder):
         self.make_folders("include", "docs", "examples")
         (self.top / "examples" / "one.txt").write_text("")
         self.write("include/rimecutter.h", "".join(map(in_header, REASONS)))
-        self.write("docs/FORMAT.md", "".join(f"| {n} | when |\n" for n in REASONS))
+        self.write("docs/FORMAT.md", "".join(f"| {n} | when |\n" for n in REASONS + TALLY_REASONS))
         self.write("examples/README.md", "- `one`: an example\n")
         self.write("README.md", "short\n")
 
@@ -32,7 +32,7 @@ class Pages(InFolder):
         return said.getvalue()
 
     def test_right_pages_are_counted(self):
-        self.assertIn("7 numbers of refusals and 1 examples", self.check())
+        self.assertIn("9 numbers of refusals and 1 examples", self.check())
 
     def test_what_is_wrong_is_told(self):
         header = (self.top / "include" / "rimecutter.h").read_text()
@@ -43,6 +43,7 @@ class Pages(InFolder):
             ("include/rimecutter.h", header + in_header(6), "rimecutter.h has refusal 6, which is withdrawn"),
             ("docs/FORMAT.md", rows + "| 6 | when |\n", "FORMAT.md has refusal 6, which is withdrawn"),
             ("docs/FORMAT.md", "| 1 | when |\n", "docs/FORMAT.md lacks refusal 8"),
+            ("docs/FORMAT.md", rows.replace("| 17 |", "| 19 |"), "docs/FORMAT.md lacks refusal 17"),
             ("examples/README.md", "one", "does not name one"),
             ("README.md", "a" * 101, "line 1 of README.md has 101 columns"),
             ("docs/FORMAT.md", "|" + "a" * 130, "line 1 of FORMAT.md has 131 columns"),

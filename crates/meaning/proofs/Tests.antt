@@ -1,11 +1,14 @@
 -- Tests against what they say: `&&`, `||`, equality with a number, and the comparison of two numbers.
 -- Assumes nothing.
-use mathlib.Core.Path.{_≡_, refl, ap}
+use mathlib.Core.Path.{_≡_, refl, sym, ap, _∙_}
 use mathlib.Core.Logic.{_⊎_, inl, inr}
 use mathlib.Core.Bool.{Bool, true, false, _&&_, _||_, true≢false}
-use Prim.Native.Nat.{ℕ, zero, suc, _<_, zero-le, suc-le-suc, compare, Ordering, Ordering·lt, Ordering·eq}
+use Prim.Native.Nat.{ℕ, zero, suc, _+_, _<_, zero-le, suc-le-suc, compare, Ordering, Ordering·lt, Ordering·eq}
 use Prim.Native.Nat.{Ordering·gt, compare·zero-suc, compare·suc-zero, compare·suc-suc}
-use lib.Dec.{T}
+use native.Mathlib.Omega.{arith}
+use native.Mathlib.Decide.{decLt}
+use borrow.Author.Tests.{le-leb, lt-leb}
+use lib.Dec.{T, leb}
 
 pub and-left : (b c : Bool) → T (b && c) → T b
 and-left true c t = tt
@@ -31,7 +34,7 @@ pub or-right : (b c : Bool) → T c → T (b || c)
 or-right true c t = tt
 or-right false c t = t
 
--- The same of what a test of either came to.
+-- The same of what a test of either, or of both, came to.
 pub or-true→ : (b c : Bool) → (b || c) ≡ true → (b ≡ true) ⊎ (c ≡ true)
 or-true→ true c e = inl refl
 or-true→ false c e = inr e
@@ -40,10 +43,22 @@ pub or-false→ : (b c : Bool) → (b || c) ≡ false → (b ≡ false) × (c �
 or-false→ true c e = absurd (true≢false e)
 or-false→ false c e = (refl, e)
 
+pub and-true→ : (b c : Bool) → (b && c) ≡ true → (b ≡ true) × (c ≡ true)
+and-true→ true c e = (refl, e)
+and-true→ false c e = absurd (true≢false (sym e))
+
 -- A test passes or fails.
 pub decided-by : (b : Bool) → T b ⊎ (T b → ⊥)
 decided-by true = inl tt
 decided-by false = inr (λ t. t)
+
+-- A part fits behind another where it fits in what that one leaves.
+pub leb-behind : (size part left whole room : ℕ) → whole ≡ size + part → room ≡ size + left → leb part left ≡ leb whole room
+leb-behind size part left whole room w r =
+    elim (decLt left part) [
+      | yes k ↦ lt-leb part left k ∙ sym (lt-leb whole room (omega arith))
+      | no k ↦ le-leb part left (omega arith) ∙ sym (le-leb whole room (omega arith))
+    ]
 
 -- What a comparison says of the two that it compares, in a strict order of any kind.
 abbrev pub Says : {A : Type 0} → (A → A → Type 0) → Ordering → A → A → Type 0

@@ -1,4 +1,6 @@
-// Numbers in decimal, written into an area that is lent for them: whole, or not at all.
+// Numbers in decimal, and lines of a key and a number, written into an area that is lent for them: whole, or not at all.
+pub mod lines;
+
 ghost use mathlib.Core.Path.{_≡_};
 ghost use Prim.Native.Nat.{_≤_};
 ghost use lib.Dec.{leb};

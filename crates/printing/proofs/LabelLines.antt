@@ -9,8 +9,8 @@ use lib.ListN.{length, drop, getD, length-append}
 use lib.Seq.{drop-cons, drop-length}
 use Rattle.meaning.specs.Bytes.{Text, ascii}
 use Rattle.grammar.specs.Printed.{line, printedLabel, labelLines}
+use Rattle.numerals.proofs.Line.{length-line}
 use Rattle.label_texts.specs.Packed.{nameTexts, countsOf}
-use Rattle.printing.proofs.Line.{length-line}
 use Rattle.label_texts.proofs.Tau.{length-label}
 
 abbrev pub labelLine : List ℕ → ℕ → Text

@@ -9,7 +9,7 @@ use Rattle.meaning.specs.Bytes.{ascii}
 use Rattle.grammar.specs.Printed.{answerText, refusedText}
 pub use Rattle.grammar.proofs.Areas.{printed-within}
 use Rattle.label_texts.specs.Packed.{nameTexts, countsOf}
-use Rattle.printing.proofs.Line.{length-head}
+use Rattle.printing.proofs.Heads.{length-head}
 use Rattle.printing.proofs.LabelLines.{lines-short}
 use Rattle.printing.proofs.Answers.{length-answer-head, length-joined}
 

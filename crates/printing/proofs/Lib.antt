@@ -1,8 +1,8 @@
 -- The computed cases, then the laws that the writers' proofs cite, each file after those that it cites.
 -- packed-listing: the listing of README.md, printed over packed names and labels
 pub mod Cases
--- length-line, key→underway, value→ended, length-head: a line's key, value and end, one behind the other
-pub mod Line
+-- length-head: how long a head can be
+pub mod Heads
 -- lines-step, lines-end, length-lines, lines-short: the first of the labels' lines to come, and those behind it
 pub mod LabelLines
 -- answer-joined, length-joined, answer-fits: an answer is its head and its labels' lines

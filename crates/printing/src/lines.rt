@@ -1,7 +1,7 @@
 // The lines of a text: what was answered and two counts, then a line for each label.
 use label_texts::label_length;
 use label_texts::write_label;
-use numerals::write_number;
+use numerals::lines::write_count_line;
 use table::NAMES;
 ghost use mathlib.Core.Path.{_≡_};
 ghost use mathlib.Core.List.{map};
@@ -9,21 +9,10 @@ ghost use Prim.Native.Nat.{_≤_};
 ghost use lib.Dec.{leb};
 ghost use lib.ListN.{length};
 ghost use Rattle.meaning.specs.Bytes.{ascii};
-ghost use Rattle.grammar.specs.Marks.{decimal};
 ghost use Rattle.grammar.specs.Printed.{line, printedLabel, labelLines};
 ghost use Rattle.grammar.specs.Areas.{Written};
 ghost use Rattle.label_texts.specs.Packed.{nameTexts, countsOf};
 ghost use Rattle.printing.specs.Steps.{headText};
-
-fn write_count_line(text: &mut [u8], key: &[u8], n: usize) -> usize
-    requires { ⌜ length (line (now key) (decimal n)) ≤ length (now text) ⌝ }
-    ensures { λ r. ⌜ Written (line (now (key .entry)) (decimal n)) (now (text .entry)) (now (text .exit)) r ⌝ }
-{
-    let at = bytes::copy(key, text);
-    let end = at + write_number(&mut text[at..], n);
-    text[end] = b'\n';
-    end + 1
-}
 
 // The line of an answer or a refusal, and the lines of its two numbers.
 pub(crate) fn write_head(

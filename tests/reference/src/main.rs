@@ -7,8 +7,11 @@
 //!
 //! Without an argument it reads one description and prints its text; with
 //! `--runs` it prints the labels that are met on runs instead (see `runs`), and
-//! with `--batch` it does so for each record (see `batch`).
+//! with `--batch` it does so for each record (see `batch`). With `--tally` and
+//! the names of files it prints the tally over these (see `tally`), and with
+//! `--additions` it makes additions to a tally (see `additions`).
 
+mod additions;
 mod bag;
 mod batch;
 mod description;
@@ -18,12 +21,15 @@ mod reading;
 mod rounds;
 mod runs;
 mod sets;
+mod tally;
 #[cfg(test)]
 mod tests;
 mod text;
 
+use std::fs;
 use std::io::{self, BufWriter, Read, Write};
 use std::process::ExitCode;
+use tally::{Tally, Verdict};
 
 fn main() -> ExitCode {
     match run() {
@@ -37,30 +43,56 @@ fn main() -> ExitCode {
 
 fn run() -> Result<(), String> {
     let arguments: Vec<String> = std::env::args().skip(1).collect();
+    let arguments: Vec<&str> = arguments.iter().map(String::as_str).collect();
     let mut input = io::stdin().lock();
     let mut output = BufWriter::new(io::stdout().lock());
-    let (answer, is_batch): (fn(&[u8]) -> String, bool) =
-        match arguments.iter().map(String::as_str).collect::<Vec<_>>()[..] {
-            [] => (text::answer, false),
-            ["--batch"] => (text::answer, true),
-            ["--runs"] => (text::met_on_runs, false),
-            ["--runs", "--batch"] => (text::met_on_runs, true),
-            _ => return Err(String::from("usage: reference [--runs] [--batch]")),
-        };
-    if is_batch {
-        batch::answer_all(answer, &mut input, &mut output)?;
-    } else {
-        answer_one(answer, &mut input, &mut output).map_err(|fault| fault.to_string())?;
-    }
-    output.flush().map_err(|fault| fault.to_string())
+    let done = match arguments[..] {
+        [] => answer_one(text::answer, &mut input, &mut output),
+        ["--batch"] => batch::answer_all(text::answer, &mut input, &mut output),
+        ["--runs"] => answer_one(text::met_on_runs, &mut input, &mut output),
+        ["--runs", "--batch"] => batch::answer_all(text::met_on_runs, &mut input, &mut output),
+        ["--tally", ref files @ ..] => tally_files(files, &mut output),
+        ["--additions"] => additions::add_all(&mut input, &mut output),
+        _ => {
+            Err(String::from("usage: reference [--runs] [--batch] | --tally FILE.. | --additions"))
+        }
+    };
+    // What was answered before a fault is printed, too.
+    output.flush().map_err(|fault| fault.to_string())?;
+    done
 }
 
 fn answer_one(
     answer: fn(&[u8]) -> String,
     input: &mut impl Read,
     output: &mut impl Write,
-) -> io::Result<()> {
+) -> Result<(), String> {
     let mut description = Vec::new();
-    input.read_to_end(&mut description)?;
-    output.write_all(answer(&description).as_bytes())
+    let read = input.read_to_end(&mut description);
+    let written = read.and_then(|_| output.write_all(answer(&description).as_bytes()));
+    written.map_err(|fault| fault.to_string())
+}
+
+/// The tally over files. One that cannot be opened or read is named and counted
+/// nowhere.
+fn tally_files(files: &[&str], output: &mut impl Write) -> Result<(), String> {
+    let mut tally = Tally::default();
+    let mut left_out = 0;
+    for file in files {
+        if let Err(fault) = add_file(&mut tally, file) {
+            eprintln!("reference: {}: {}", file, fault);
+            left_out += 1;
+        }
+    }
+    output.write_all(tally.text().as_bytes()).map_err(|fault| fault.to_string())?;
+    match left_out {
+        0 => Ok(()),
+        _ => Err(format!("{} of {} files are not counted", left_out, files.len())),
+    }
+}
+
+fn add_file(tally: &mut Tally, file: &str) -> Result<(), String> {
+    let description = fs::read(file).map_err(|fault| fault.to_string())?;
+    let added = tally.add(&Verdict::of(&description));
+    added.map_err(|left_out| format!("refusal {} of the tally", left_out.number()))
 }

@@ -20,12 +20,18 @@ pub fn met_on_runs(input: &[u8]) -> String {
 
 /// The text of an answer in the words of `tell`, or of the refusal.
 fn answered_by(tell: fn(&Description, &Outcome) -> String, input: &[u8]) -> String {
-    match reading::read(input) {
-        Ok(description) => match rounds::work_out(&description) {
-            Ok(outcome) => tell(&description, &outcome),
-            Err(_too_large) => refused(Refusal { reason: 7, line: 0 }),
-        },
+    match worked_out(input) {
+        Ok((description, outcome)) => tell(&description, &outcome),
         Err(refusal) => refused(refusal),
+    }
+}
+
+/// A description and what it is answered with, or its refusal.
+pub fn worked_out(input: &[u8]) -> Result<(Description, Outcome), Refusal> {
+    let description = reading::read(input)?;
+    match rounds::work_out(&description) {
+        Ok(outcome) => Ok((description, outcome)),
+        Err(_too_large) => Err(Refusal { reason: 7, line: 0 }),
     }
 }
 

@@ -6,8 +6,6 @@ use Rattle.grammar.specs.Marks.{decimal}
 use Rattle.grammar.proofs.Areas.{test-fits, fitting→printed, unfitting→printed}
 use Rattle.numerals.proofs.write_number.Statement.{statement}
 use Rattle.numerals.proofs.write_number.Tie as tie
-use Rattle.numerals.proofs.write_number.Reads as reads
-use Rattle.numerals.proofs.write_number.Lts as lts
 
 number-fits-requires : tie.Need-number-fits-requires
 number-fits-requires c κs = tt

@@ -1,5 +1,6 @@
 //! Tests by table: a case is a line of a table, not a function.
 
+mod additions;
 mod batches;
 mod document_examples;
 mod reading_limits;
@@ -8,6 +9,7 @@ mod runs;
 mod set_limits;
 mod sets_by_kind;
 mod syncs;
+mod tallies;
 mod whole_text;
 
 use crate::text;

@@ -10,6 +10,7 @@ use Rattle.meaning.specs.Bytes.{Text}
 use Rattle.grammar.specs.Marks.{decimal}
 use Rattle.grammar.specs.Printed.{line}
 use Rattle.printing.specs.Steps.{headText}
+use Rattle.grammar.proofs.Areas.{printed→written}
 use Rattle.grammar.proofs.Underway.{Underway, copied→written, underway-first, back, underway-step, underway-last, underway-kept}
 use Rattle.grammar.proofs.Underway.{underway-room, next-room, lent-room, written-within, written-length}
 use Rattle.printing.proofs.lines.write_head.Statement.{statement}
@@ -53,7 +54,7 @@ part-write-count-line-end : tie.Need-part-write-count-line-end
 part-write-count-line-end c = le-refl _
 
 write-count-line-requires : tie.Need-write-count-line-requires
-write-count-line-requires c κs = let s = entry (c .before) in next-room (one s) (two s) (said-written (c .before))
+write-count-line-requires c κs = tt
 
 -- the first line is written too
 abbrev said : tie.After-slice-known3 → tie.After-slice-known2
@@ -64,7 +65,10 @@ line-written : (c : tie.After-slice-known3) →
     let w = said c .before .before .copy in
     let l = c .before .before .write-count-line in
     Underway (head s) (two s) (s .args .text .now) (back (w .result) (w .last .1 .0) (l .last .0)) (w .result + l .result)
-line-written c = underway-step (said-written (said c)) (c .before .before .write-count-line .ensures)
+line-written c =
+    let s = entry (said c) in
+    let w = said-written (said c) in
+    underway-step w (printed→written (next-room (one s) (two s) w) (c .before .before .write-count-line .ensures))
 
 add-second : tie.Need-add-second
 add-second c = omega (arith, underway-room (line-written c), underway-kept (line-written c))
@@ -79,10 +83,12 @@ part-write-count-line-end-2 : tie.Need-part-write-count-line-end-2
 part-write-count-line-end-2 c = le-refl _
 
 write-count-line-requires-2 : tie.Need-write-count-line-requires-2
-write-count-line-requires-2 c κs = lent-room (line-written (c .before))
+write-count-line-requires-2 c κs = tt
 
 returns : tie.Need-returns
-returns c = underway-last (line-written (c .before .before .before .before)) (c .before .before .write-count-line2 .ensures)
+returns c =
+    let w = line-written (c .before .before .before .before) in
+    underway-last w (printed→written (lent-room w) (c .before .before .write-count-line2 .ensures))
 
 add-result : tie.Need-add-result
 add-result c = omega (arith, written-within (entry (said (c .before .before .before .before)) .pre) (returns c))

@@ -12,7 +12,7 @@ use Rattle.grammar.specs.Printed.{printedLabel, line}
 use Rattle.label_texts.specs.Packed.{nameTexts, countsOf}
 use Rattle.grammar.proofs.Areas.{printed→written}
 use Rattle.grammar.proofs.Underway.{Underway, lent, copied→written, underway-room, next-room}
-use Rattle.printing.proofs.Line.{key→underway, Ended, value→ended}
+use Rattle.numerals.proofs.Line.{key→underway, Ended, value→ended}
 use Rattle.printing.proofs.lines.write_label_line.Statement.{statement}
 use Rattle.printing.proofs.lines.write_label_line.Tie as tie
 

@@ -1,4 +1,4 @@
--- A line: its key, its value and its end, one behind the other.
+-- A line: its key, its value and its end, one behind the other, and whether they fit.
 -- Assumes nothing.
 use mathlib.Core.Path.{_≡_, sym}
 use mathlib.Core.List.{[], _∷_, _++_, append-assoc}
@@ -6,12 +6,9 @@ use Prim.Native.Nat.{ℕ, _+_, _≤_, _<_}
 use native.Mathlib.Omega.{arith}
 use lib.ListN.{length, set, length-append}
 use Rattle.meaning.specs.Bytes.{Text}
-use Rattle.grammar.specs.Marks.{decimal}
 use Rattle.grammar.specs.Forms.{lf}
 use Rattle.grammar.specs.Printed.{line}
 use Rattle.grammar.specs.Areas.{Written}
-use Rattle.printing.specs.Steps.{headText}
-use Rattle.grammar.proofs.Decimal.{length-decimal}
 use Rattle.grammar.proofs.Underway.{Underway, underway-first, lent, back, underway-step, underway-byte}
 use Rattle.grammar.proofs.Underway.{underway-end, underway-kept, underway-room, written-length}
 
@@ -35,10 +32,3 @@ value→ended key value h u v =
     let w = underway-step (key→underway key value h u) v in
     let e = underway-end (underway-byte w) in
     record { below = omega (arith, underway-room w, underway-kept w); inside = omega (arith, underway-room w); written = e; same = written-length h e }
-
-pub length-head : (said key : Text) (n : ℕ) (next : Text) (m : ℕ) → length said + length key + length next ≤ 38 → length (headText said key n next m) ≤ 80
-length-head said key n next m h =
-    let one = line key (decimal n) in
-    let two = line next (decimal m) in
-    rw (length-append said (one ++ two), length-append one two, length-line key (decimal n), length-line next (decimal m))
-    (omega (arith, length-decimal n, length-decimal m))

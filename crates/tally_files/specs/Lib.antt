@@ -1,0 +1,2 @@
+-- What is counted of what a call says
+pub mod Verdicts

@@ -1,0 +1,2 @@
+-- The text of a tally
+pub mod Texts
