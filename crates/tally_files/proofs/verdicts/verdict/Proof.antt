@@ -2,7 +2,7 @@
 -- Assumes nothing.
 use borrow.Author.Needs.{needs}
 use mathlib.Core.Path.{ap, _∙_}
-use Rattle.tally_files.specs.Verdicts.{counted}
+use Rattle.tally_verdicts.specs.Verdicts.{counted}
 use Rattle.tally_files.proofs.verdicts.verdict.Statement.{statement}
 use Rattle.tally_files.proofs.verdicts.verdict.Tie as tie
 

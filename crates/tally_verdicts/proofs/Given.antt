@@ -13,7 +13,7 @@ use Rattle.meaning.proofs.Listings.{listed-few}
 use Rattle.rimecutter.specs.Calls.{Call, refusing, answering, call, verdictOf}
 use Rattle.rimecutter.proofs.Texts.{call→origin}
 use Rattle.tally.specs.Additions.{among, answerGiven, refusalGiven, given}
-use Rattle.tally_files.specs.Verdicts.{counted}
+use Rattle.tally_verdicts.specs.Verdicts.{counted}
 
 -- A refusal has one of the numbers that are counted, and neither labels nor rounds.
 refusal-given : (r : Refusal) → given (counted (refused r)) ≡ true

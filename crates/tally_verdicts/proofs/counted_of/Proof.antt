@@ -1,4 +1,4 @@
--- `tally_files::verdicts::counted_of` meets its contract: one case for each answer.
+-- `tally_verdicts::counted_of` meets its contract: one case for each answer.
 -- Assumes nothing.
 use borrow.Author.Needs.{needs}
 use mathlib.Core.Path.{_≡_, refl, sym, ap, _∙_}
@@ -7,9 +7,9 @@ use Rattle.rimecutter.specs.Answers.{verdictFor}
 use Rattle.rimecutter.specs.declared.Answer.{Answer}
 use Rattle.rimecutter.specs.declared.Answer.the-variants.{Listed, TooLong, Bad, TooLarge}
 use Rattle.tally.specs.declared.Verdict.{Verdict}
-use Rattle.tally_files.specs.Verdicts.{counted}
-use Rattle.tally_files.proofs.verdicts.counted_of.Statement.{statement}
-use Rattle.tally_files.proofs.verdicts.counted_of.Tie as tie
+use Rattle.tally_verdicts.specs.Verdicts.{counted}
+use Rattle.tally_verdicts.proofs.counted_of.Statement.{statement}
+use Rattle.tally_verdicts.proofs.counted_of.Tie as tie
 
 by-case : {said : Answer} (case : Answer) {v : Verdict} → said ≡ case → v ≡ counted (verdictFor case) → v ≡ counted (verdictFor said)
 by-case case told counts = counts ∙ sym (ap (λ (a : Answer). counted (verdictFor a)) told)
