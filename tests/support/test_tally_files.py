@@ -72,7 +72,7 @@ class Files(unittest.TestCase):
         cases = [
             ("{}: cannot be read", []),
             ("'{}'", []),
-            ("left out: /some/where/{}.", []),
+            ("left out: some/where/{}.", []),
             ("{}2", [NO_FILE, FOLDER]),
             ("my-{}", [NO_FILE, FOLDER]),
         ]

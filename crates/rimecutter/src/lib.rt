@@ -35,9 +35,9 @@ pub fn alphabet(description: &[u8], work: &mut [u64], answer: &mut [u64]) -> Ans
 }
 
 // The refusals that are no fault of a line.
-const TOO_LONG: usize = 1;
+pub const TOO_LONG: usize = 1;
 
-const TOO_LARGE: usize = 7;
+pub const TOO_LARGE: usize = 7;
 
 const NO_LINE: usize = 0;
 

@@ -9,6 +9,7 @@ use tally::Addition;
 use tally::Answer;
 use tally::Tally;
 use tally::empty;
+use tally_texts::LONGEST_TALLY;
 use tally_texts::write_tally;
 use verdicts::with_description;
 
@@ -17,9 +18,6 @@ const MOST: usize = 8193;
 
 // Progress is told each hundred files.
 const HUNDRED: usize = 100;
-
-// Every text of a tally is shorter.
-const TEXT: usize = 256;
 
 // A file that is left out though it could be opened, with the reason.
 fn name_left_out(path: &[u8], why: &[u8]) {
@@ -119,7 +117,7 @@ fn tally_of_files() -> Tally {
 }
 
 fn main() {
-    let mut text = [0u8; TEXT];
+    let mut text = [0u8; LONGEST_TALLY];
     let length = write_tally(&mut text, tally_of_files());
     io::write_all(STDOUT_FILENO, &text[..length]);
 }

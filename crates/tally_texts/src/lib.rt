@@ -86,8 +86,8 @@ fn write_lines(text: &mut [u8], tally: Tally) -> usize
     add_line(text, end, b"rounds=", tally.rounds as usize)
 }
 
-// Twelve numbers of at most twenty digits, and 113 bytes around them.
-const LONGEST_TALLY: usize = 353;
+// No tally's text is longer: twelve numbers of at most twenty digits, and 113 bytes around them.
+pub const LONGEST_TALLY: usize = 353;
 
 // The text of a tally: its length is returned, or 0 where the area is too short for it.
 pub fn write_tally(text: &mut [u8], tally: Tally) -> usize

@@ -15,6 +15,7 @@ use tally::Tally;
 use tally::Verdict;
 use tally::add;
 use tally::empty;
+use tally_texts::LONGEST_TALLY;
 use tally_texts::write_tally;
 
 const RECORD: usize = 69;
@@ -23,7 +24,7 @@ const RECORD: usize = 69;
 const ANEW: u8 = 1;
 
 // What is written of a record: a line of at most eight bytes, and the text of a tally.
-const TEXT: usize = 264;
+const TEXT: usize = 8 + LONGEST_TALLY;
 
 // A number from two of half its width, the lower first.
 fn of_bytes(low: u8, high: u8) -> u16

@@ -4,12 +4,9 @@ ghost use Rattle.rimecutter.specs.Answers.{verdictFor};
 ghost use Rattle.tally_verdicts.specs.Verdicts.{counted};
 use faults::number_of;
 use rimecutter::Answer;
+use rimecutter::TOO_LARGE;
+use rimecutter::TOO_LONG;
 use tally::Verdict;
-
-// The refusals that are no fault of a line.
-const TOO_LONG: usize = 1;
-
-const TOO_LARGE: usize = 7;
 
 // A refusal has neither rounds nor labels.
 fn refusal(reason: usize) -> Verdict

@@ -10,7 +10,7 @@ use Rattle.grammar.proofs.Areas.{printed-within}
 use Rattle.tally_files.proofs.main.Statement.{statement}
 use Rattle.tally_files.proofs.main.Tie as tie
 
-within : (c : tie.After-write-tally) → c .write-tally .result ≤ 256
+within : (c : tie.After-write-tally) → c .write-tally .result ≤ 353
 within c = omega (arith, printed-within _ _ _ _ (c .write-tally .ensures))
 
 slice-aggregate-write-tally : tie.Need-slice-aggregate-write-tally

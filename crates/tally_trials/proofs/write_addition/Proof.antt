@@ -23,23 +23,23 @@ module _ (c : tie.After-write-tally) where
   abbrev size : ℕ
   size = c .write-tally .result
 
-  whole : length area ≡ 264
+  whole : length area ≡ 361
   whole = c .before .before .before .write-said .kept .0
 
-  lent : length (midOf at (264 - at) area) ≡ 264 - at
-  lent = mid-len at 264 area (omega (arith, whole))
+  lent : length (midOf at (361 - at) area) ≡ 361 - at
+  lent = mid-len at 361 area (omega (arith, whole))
 
-  within : size ≤ 264 - at
+  within : size ≤ 361 - at
   within = omega (arith, lent, printed-within _ _ _ _ (c .write-tally .ensures))
 
-  both-within : at + size ≤ length (putMid at (264 - at) area (c .write-tally .last .0))
+  both-within : at + size ≤ length (putMid at (361 - at) area (c .write-tally .last .0))
   both-within =
       omega (
         arith,
         within,
         whole,
         c .before .before .before .write-said .ensures,
-        same-len-mid at (264 - at) area (c .write-tally .last .0) (c .write-tally .kept .0),
+        same-len-mid at (361 - at) area (c .write-tally .last .0) (c .write-tally .kept .0),
       )
 
 slice-aggregate-write-said : tie.Need-slice-aggregate-write-said
