@@ -179,7 +179,7 @@ module _ (names : ℕ) (few : names ≤ 12) (rs : List Rule) (legal : Each (Lega
   known = listed names few rs legal numbers
 
   -- what is listed of a label
-  gives : Label → List Label
+  pub gives : Label → List Label
   gives a = whole names known (number a) (backwards rs) a []
 
   itself : (a : Label) → Packs names a → Packed names known rs legal a []
@@ -263,3 +263,30 @@ module _ (names : ℕ) (few : names ≤ 12) (rs : List Rule) (legal : Each (Lega
         (sym (rules-read names rs))
         (each-outcome names room Anything moves (closed room numbers (map (exchange names) (backwards rs))) gives (λ a K r s i. each-given room a K r s) l M
         (λ a m. packs a (new a m)) q tt))
+
+  -- The same apart from the set: what is listed of the new labels is of what comes of all, and all of that but for what comes of the
+  -- others.
+  module _ (l L : List Label) (new : Within l N) (old : Within L N) (split : (a : Label) → a ∈ N → (a ∈ l) ⊎ (a ∈ L)) where
+    of-others : Within (spread image′ L) (spread image′ N)
+    of-others b m = let x = in-spread→ image′ L b m in in-spread image′ N (x .source) b (old (x .source) (x .there)) (x .gives)
+
+    pub comm-there : Within (spread gives l) (spread image′ N)
+    comm-there b m =
+        outer l L (spread image′ L) new split (λ a k. k) of-others b (in-append b (spread gives l) (spread image′ L) .1 (inl m))
+
+    pub comm-back : (b : Label) → b ∈ spread image′ N → (b ∈ spread gives l) ⊎ (b ∈ spread image′ L)
+    comm-back b m =
+        in-append b (spread gives l) (spread image′ L) .0 (inner l L (spread image′ L) new split (λ a k. k) of-others b m)
+
+    pub comm-listed : (room : ℕ)
+        → Result names room (spread gives l) (each (closed room numbers (exchangesIn (ruleLabels names rs))) (map number l) [])
+    unfolding ascending
+    comm-listed room =
+        let moves : (K L′ : List Label) → Within K L′ → Within L′ K → Anything K → Anything L′ = λ K L′ w v i. tt in
+        outcome-same names room Anything moves (spread gives l ++ []) (spread gives l) _
+        (λ b m. elim (in-append b (spread gives l) [] .0 m) [ inl k ↦ k | inr k ↦ absurd k ])
+        (λ b m. in-append b (spread gives l) [] .1 (inl m))
+        (subst (λ (xs : List Exchange). Result names room (spread gives l ++ []) (each (closed room numbers xs) (map number l) []))
+        (sym (rules-read names rs))
+        (each-outcome names room Anything moves (closed room numbers (map (exchange names) (backwards rs))) gives (λ a K r s i. each-given room a K r s) l []
+        (λ a m. packs a (new a m)) (λ a m. absurd m) tt))

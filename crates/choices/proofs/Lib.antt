@@ -7,5 +7,6 @@ pub mod InOrder
 pub mod Unfolding
 -- covered: of two states with the same label, the one with no less left of what rules take gives what the other gives
 pub mod Covering
--- comm-outcome: on the numbers of the labels of an operand the walk gives the comm of the labels, or passes a limit
+-- comm-outcome: on the numbers of the labels of an operand the walk gives the comm of the labels, or passes a limit; comm-there,
+-- comm-back, comm-listed: what is listed of some of its labels, apart from a set
 pub mod Communication

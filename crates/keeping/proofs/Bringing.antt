@@ -3,21 +3,24 @@
 use mathlib.Core.Path.{_≡_, refl, sym, ap, ap₂, subst, _∙_, _≡⟨_⟩_, _∎}
 use mathlib.Core.Logic.{_⊎_, inl, inr}
 use mathlib.Core.List.{List, [], _∷_, _++_, append-nil}
-use Prim.Native.Nat.{ℕ, suc, _+_, _-_, _≤_, _<_, zero-le}
-use native.Mathlib.Nat.{zero-add}
+use Prim.Native.Nat.{ℕ, zero, suc, _+_, _-_, _≤_, _<_, zero-le}
+use native.Mathlib.Nat.{zero-add, suc-add}
 use native.Mathlib.Numerals.{add-one}
 use native.Mathlib.Omega.{arith}
 use native.Mathlib.Decide.{decLt}
 use lib.ListN.{length, getD, set, take, drop, replicate, length-drop, length-set, drop-of-length-le}
-use lib.Seq.{paste-zero, paste-suc, take-all, take-at, drop-at, drop-drop, length-slice, length-take-le, getD-append-add, getD-drop}
+use lib.Seq.{paste-zero, paste-suc, take-nil, take-all, take-at, drop-at, drop-drop, length-slice, length-take-le, getD-append-add, getD-drop}
 use Rattle.meaning.proofs.Alike.{alike}
 use Rattle.areas.specs.Areas.{zeroed}
 use Rattle.areas.proofs.Zeroes.{zeroed-front}
 use Rattle.parts.specs.declared.Part.{Part}
 use Rattle.parts.specs.Parts.{part}
-use Rattle.places.specs.Starts.{whole}
-use Rattle.transfers.proofs.Copies.{part-taken}
-use Rattle.keeping.specs.Settling.{alone, Settled}
+use Rattle.keeping.specs.Settling.{whole, alone, Settled}
+
+part-taken : (ls : List ℕ) (from n : ℕ) → part from (from + n) ls ≡ take n (drop from ls)
+part-taken ls zero n = ap (λ (k : ℕ). take k ls) (zero-add n)
+part-taken [] (suc from) n = ap (drop (suc from)) (take-nil (suc from + n)) ∙ sym (take-nil n)
+part-taken (x ∷ ls) (suc from) n = ap (λ (k : ℕ). drop (suc from) (take k (x ∷ ls))) (suc-add from n) ∙ part-taken ls from n
 
 -- So many words brought.
 abbrev brought : List ℕ → ℕ → ℕ → List ℕ

@@ -7,7 +7,10 @@ use Prim.Native.Nat.{ℕ, _-_, _≤_, _<_}
 use lib.ListN.{length, drop, replicate}
 use Rattle.parts.specs.declared.Part.{Part}
 use Rattle.parts.specs.Parts.{part}
-use Rattle.places.specs.Starts.{whole}
+
+-- how many words are used of the work area
+abbrev pub whole : ℕ
+whole = 4096
 
 -- 0 behind it as far as words are used, and the further words as they were
 abbrev pub alone : (set work : List ℕ) → List ℕ

@@ -1,12 +1,14 @@
 // A set kept alone in the work area: at its start, with 0 behind it.
 use areas::clear;
 use parts::Part;
-use places::HALF;
 ghost use mathlib.Core.Path.{_≡_};
 ghost use mathlib.Core.List.{_++_};
 ghost use Prim.Native.Nat.{_+_, _≤_};
 ghost use lib.ListN.{length, take, drop};
 ghost use Rattle.keeping.specs.Settling.{Settled};
+
+// The words that are used of the work area.
+pub const WORK_WORDS: usize = 4096;
 
 // Words from a place on are copied to the start. None is read after it was written, since each goes to where an earlier one stood.
 fn bring(work: &mut [u64], from: usize, count: usize)
@@ -27,18 +29,18 @@ pub fn settle(work: &mut [u64], set: Part) -> usize
 {
     let from = set.from;
     let to = set.to;
-    if work.len() < 2 * HALF {
+    if work.len() < WORK_WORDS {
         return 0;
     }
-    if 2 * HALF < to {
+    if WORK_WORDS < to {
         return 0;
     }
     if to <= from {
-        clear(work, 2 * HALF);
+        clear(work, WORK_WORDS);
         return 0;
     }
     let count = to - from;
     bring(work, from, count);
-    clear(&mut work[count..], 2 * HALF - count);
+    clear(&mut work[count..], WORK_WORDS - count);
     count
 }

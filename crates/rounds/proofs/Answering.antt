@@ -14,9 +14,8 @@ use Rattle.meaning.specs.Answers.{admits, cut}
 use Rattle.labels.proofs.Refinement.{Packs}
 use Rattle.sets.proofs.Refinement.{AllPack}
 use Rattle.labels.proofs.Sizes.{number-zero}
-use Rattle.ways.proofs.Refinement.{eqb-zero, member-number}
-use Rattle.transfers.specs.Cutting.{allows, cutWords}
-use Rattle.terms.proofs.Shaped.{listed-packs}
+use Rattle.images.proofs.Refinement.{eqb-zero, listed-packs, member-number}
+use Rattle.cutting.specs.Cutting.{allows, cutWords}
 
 -- whether an order is `all`, and the words of its list
 abbrev pub isAll : Order → Bool

@@ -30,13 +30,12 @@ use Rattle.areas.specs.Areas.{zeroed}
 use Rattle.table.specs.Encoded.{storeOf, orderFor, tableOf}
 use Rattle.table.proofs.Stores.{order-words}
 use Rattle.areas.proofs.Zeroes.{zeroed-front}
-use Rattle.transfers.specs.Cutting.{put, cutWords, cutInto, whereRoom}
-use Rattle.places.specs.Starts.{whole}
-use Rattle.terms.proofs.Operands.{packed-sets}
-use Rattle.turns.specs.declared.Found.{Found}
-use Rattle.turns.specs.declared.Found.the-variants as F
-use Rattle.keeping.specs.Settling.{alone}
-use Rattle.turns.specs.Endings.{foundOf, labelsOf, Reached}
+use Rattle.cutting.specs.Cutting.{put, cutWords, cutInto, whereRoom}
+use Rattle.deltas.proofs.Passing.{over-in, few-packs}
+use Rattle.stability.specs.declared.Found.{Found}
+use Rattle.stability.specs.declared.Found.the-variants as F
+use Rattle.keeping.specs.Settling.{whole, alone}
+use Rattle.stability.specs.Endings.{foundOf, labelsOf, Reached}
 use Rattle.rounds.specs.declared.Answer.{Answer}
 use Rattle.rounds.specs.declared.Answer.the-variants as A
 use Rattle.rounds.specs.Alphabets.{alphabetOf, answerArea, allIn, listIn, Answered, Listing}
@@ -96,7 +95,9 @@ module _ (d : D.Description) (o : D.Order) (k : ℕ) (labels : List Label) (l : 
   root-few = rw root (few-labels (roundSets d k) (d .root) few)
 
   root-packs : AllPack (D.names d) labels
-  root-packs = rw root (packed-sets (D.names d) (roundSets d k) (d .root) few (round-full d k (d .root)))
+  root-packs =
+      rw root (few-packs 2048 (roundSets d k) (λ t. few (subst (λ (b : Bool). T b) (over-in (roundSets d k)) t)) (D.names d) (d .root)
+      (round-full d k (d .root)))
 
   cut-words : (set area : List ℕ) → set ≡ map number labels → 1024 ≤ length area
       → cutInto (allIn (orderFor o)) (listIn (storeOf d o) (orderFor o)) set area ≡ map number (cut o labels)

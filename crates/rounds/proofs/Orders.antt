@@ -11,7 +11,7 @@ use Rattle.meaning.specs.Descriptions as D
 use Rattle.meaning.specs.Rounds.{bodySets, next, roundSets}
 use Rattle.meaning.specs.Limits.{over}
 use Rattle.meaning.specs.Answers.{Outcome, tooLarge, listed, cut, sameSets, answerFrom, answer}
-use Rattle.turns.proofs.Rounding.{cut-all}
+use Rattle.stability.proofs.Rounding.{cut-all}
 
 -- the labels under `all` are the root's set in the round that is counted, which passes no limit
 abbrev pub Cuts : D.Description → D.Order → (whole cutTo : Outcome) → Type 0

@@ -16,9 +16,8 @@ use Rattle.table.specs.declared.Order.{Order}
 use Rattle.table.specs.declared.Order.the-variants.{All, Only}
 use Rattle.table.specs.Decoded.{wordsAt}
 use Rattle.table.specs.Encoded.{storeOf, orderFor, tableOf}
-use Rattle.transfers.specs.Cutting.{put, cutInto}
-use Rattle.places.specs.Starts.{whole}
-use Rattle.keeping.specs.Settling.{alone}
+use Rattle.cutting.specs.Cutting.{put, cutInto}
+use Rattle.keeping.specs.Settling.{whole, alone}
 use Rattle.rounds.specs.declared.Answer.{Answer}
 use Rattle.rounds.specs.declared.Answer.the-variants as A
 

@@ -1,15 +1,15 @@
 // The alphabet of a table: the root's set, worked out round by round in a lent work area, cut to the order.
 use areas::clear;
+use cutting::cut;
+use stability::Found;
+use stability::until_stable;
 use table::Order;
 use table::Table;
 use table::lists::words_of;
-use transfers::cutting::cut;
-use turns::Found;
-use turns::until_stable;
 ghost use Rattle.rounds.specs.Alphabets.{Answered, Listing};
 
 // The words that are used of the work area, and the words that the answer may take.
-pub const WORK_WORDS: usize = turns::WORK_WORDS;
+pub const WORK_WORDS: usize = stability::WORK_WORDS;
 
 pub const ANSWER_WORDS: usize = 1024;
 

@@ -1,20 +1,17 @@
 // Runs the two sets whose costs docs/COSTS.md bounds, and writes how many labels they have: the product
 // of 164 by 164 labels (sixteen dies out of eight and eight), and a label of 31 actions under 8 rules that overlap.
-use labels::Label;
+use extents::at_start;
+use extents::labels_of;
+use images::Way;
+use images::imaging::add_image;
 use labels::bags::single;
 use libc::STDOUT_FILENO;
-use merging::joining::union;
+use merging::joining::union_of;
 use parts::MOST_LABELS;
 use parts::Part;
-use parts::Target;
-use products::multiplying::add_product;
 use sets::Built;
 use sets::inserting::insert;
-use ways::Way;
-use ways::imaging::add_image;
-
-// How many words there are for all sets.
-const WORDS: usize = 4096;
+use sums::add_sums;
 
 // How many labels a set holds; none if it would pass a limit.
 fn count(answer: Built) -> usize {
@@ -25,22 +22,11 @@ fn count(answer: Built) -> usize {
 }
 
 // Twice as many dies: the labels of both, and their sums.
-fn merged(words: &mut [u64], dies: Part, at: usize) -> usize {
-    let len = count(union(words, dies, dies, at, MOST_LABELS));
-    count(add_product(words, dies, dies, target(at, len)))
-}
-
-// A part and a target, by their numbers.
-fn part(from: usize, to: usize) -> Part {
-    Part { from, to }
-}
-
-fn target(at: usize, len: usize) -> Target {
-    Target {
-        at,
-        len,
-        most: MOST_LABELS,
-    }
+fn merged(dies: &[u64], len: usize, both: &mut [u64]) -> usize {
+    let all = Part { from: 0, to: len };
+    let count_of_one = count(union_of(dies, all, all, both));
+    let labels = labels_of(dies, all);
+    count(add_sums(labels, labels, both, count_of_one))
 }
 
 // A line: what is counted, and how many.
@@ -50,28 +36,28 @@ fn show(text: &[u8], n: usize) {
     io::write_all(STDOUT_FILENO, b"\n");
 }
 
+// The dies, from one that starts, is done or is busy up to sixteen.
+fn show_dies() {
+    let mut dies = [0u64; MOST_LABELS];
+    let mut twice = [0u64; MOST_LABELS];
+    insert(&mut dies, at_start(0), single(0));
+    insert(&mut dies, at_start(1), single(1));
+    insert(&mut dies, at_start(2), single(2));
+    let two = merged(&dies, 3, &mut twice);
+    show(b"two=", two);
+    let four = merged(&twice, two, &mut dies);
+    show(b"four=", four);
+    let eight = merged(&dies, four, &mut twice);
+    show(b"eight=", eight);
+    show(b"sixteen=", merged(&twice, eight, &mut dies));
+}
+
 fn main() {
-    let mut words = [0u64; WORDS];
-    // a die that starts, is done or is busy; two, four and eight of them stand behind one another
-    insert(&mut words, target(0, 0), single(0));
-    insert(&mut words, target(0, 1), single(1));
-    insert(&mut words, target(0, 2), single(2));
-    show(b"two=", merged(&mut words, part(0, 3), 3));
-    show(b"four=", merged(&mut words, part(3, 12), 12));
-    show(b"eight=", merged(&mut words, part(12, 46), 46));
-    show(b"sixteen=", merged(&mut words, part(46, 210), 210));
+    show_dies();
     // a:2>a a:2>b a:3>a a:3>b a:1.b:1>a a:1.b:1>b b:2>a b:2>b on a:31
     let rules = [2u64, 1, 2, 32, 3, 1, 3, 32, 33, 1, 33, 32, 64, 1, 64, 32];
-    insert(&mut words, target(2000, 0), Label { word: 31 });
-    show(
-        b"communicated=",
-        count(add_image(
-            &mut words,
-            part(2000, 2001),
-            part(2000, 2001),
-            Way::Comm,
-            &rules,
-            target(2001, 0),
-        )),
-    );
+    let operand = [31u64];
+    let mut set = [0u64; MOST_LABELS];
+    let made = add_image(Way::Comm, &rules, &operand, &operand, &mut set, 0);
+    show(b"communicated=", count(made));
 }

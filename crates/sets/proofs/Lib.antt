@@ -1,6 +1,6 @@
 -- The laws of sets in words, each file after those that it cites.
--- halving-start, halving-up, halving-down, halving-end: the loop of `place`; place-splits: what stands before the place of a
--- label and after it; rising-first: the first label of an ascending list
+-- halving-start, halving-up, halving-down, halving-end: the loop of `place`; placed-end: a place that is the end; place-splits: what
+-- stands before the place of a label and after it; rising-first: the first label of an ascending list
 pub mod Search
 -- set-moved, pushed-laid: a set opened for a label
 pub mod Openings

@@ -1,5 +1,4 @@
-// The shapes of terms: what the set of a term is built of, and whether that stayed since the round before.
-pub mod sameness;
+// The shapes of terms: what the set of a term is built of.
 pub mod shaping;
 
 use labels::Label;

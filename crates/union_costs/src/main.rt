@@ -4,7 +4,7 @@ use areas::rows::read_label;
 use areas::rows::write_label;
 use labels::Label;
 use libc::STDOUT_FILENO;
-use merging::joining::union;
+use merging::joining::union_of;
 use merging::walking::Drawn;
 use merging::walking::Rest;
 use merging::walking::draw;
@@ -17,12 +17,12 @@ use sets::inserting::insert;
 use sets::inserting::place;
 ghost use Prim.Native.Nat.{_≤_};
 
-// How many labels a set has, and how many words there are for both, their union and the same by insertions.
+// How many labels a set has, and how many words there are for both and for their union by insertions.
 const SIZE: usize = 512;
 
 const BOTH: usize = 1024;
 
-const WORDS: usize = 3072;
+const WORDS: usize = 2048;
 
 // The first numbers that are even, and behind them the first that are odd.
 fn interleaved(words: &mut [u64]) {
@@ -112,7 +112,8 @@ fn main() {
     let cost = walked(&area, evens, odds, BOTH);
     show(b"drawn=", cost.drawn);
     show(b"read=", cost.read);
-    let joined = union(&mut area, evens, odds, 2 * BOTH, MOST_LABELS);
+    let mut both = [0u64; BOTH];
+    let joined = union_of(&area, evens, odds, &mut both);
     if let Built::Holds(labels) = joined {
         show(b"union=", labels);
     }

@@ -10,20 +10,11 @@ use Rattle.keeping.proofs.Bringing.{Within, settled-outside, settled-no
 use Rattle.keeping.proofs.settle.Statement.{statement}
 use Rattle.keeping.proofs.settle.Tie as tie
 
-mul-if1 : tie.Need-mul-if1
-mul-if1 c = search needs
-
 returns : tie.Need-returns
 returns c = settled-outside (inl (c .if1 .taken))
 
-mul-if2 : tie.Need-mul-if2
-mul-if2 c = search needs
-
 returns-2 : tie.Need-returns-2
 returns-2 c = settled-outside (inr (c .if2 .taken))
-
-mul-clear : tie.Need-mul-clear
-mul-clear c = search needs
 
 clear-requires : tie.Need-clear-requires
 clear-requires c κs = search needs
@@ -43,8 +34,8 @@ sub-count c = search needs
 bring-requires : tie.Need-bring-requires
 bring-requires c κs = search needs
 
-mul-clear-2 : tie.Need-mul-clear-2
-mul-clear-2 c = search needs
+mul-clear : tie.Need-mul-clear
+mul-clear c = search needs
 
 sub-clear : tie.Need-sub-clear
 sub-clear c = search needs
@@ -54,9 +45,6 @@ part-clear-start c = search needs
 
 part-clear-end : tie.Need-part-clear-end
 part-clear-end c = search needs
-
-mul-clear-3 : tie.Need-mul-clear-3
-mul-clear-3 c = search needs
 
 sub-clear-2 : tie.Need-sub-clear-2
 sub-clear-2 c = search needs
@@ -79,5 +67,5 @@ returns-4 c =
 pub settle-spec : {M : Type 1} → statement M
 settle-spec =
     tie.close
-    (tie.spec mul-if1 returns mul-if2 returns-2 mul-clear clear-requires same-length returns-3 sub-count bring-requires mul-clear-2 sub-clear
-    part-clear-start part-clear-end mul-clear-3 sub-clear-2 clear-requires-2 same-length-2 returns-4)
+    (tie.spec returns returns-2 clear-requires same-length returns-3 sub-count bring-requires mul-clear sub-clear
+    part-clear-start part-clear-end sub-clear-2 clear-requires-2 same-length-2 returns-4)

@@ -1,0 +1,119 @@
+-- `courses::course` meets its contract. The loop's invariant: so many terms are done. Assumes nothing.
+use Prim.Native.Nat.{_-_}
+use native.Mathlib.Omega.{arith}
+use borrow.Author.Needs.{needs}
+use Rattle.courses.proofs.Coursing.{Coursing, coursing-start, coursing-step, coursing-large, coursing-end}
+use Rattle.courses.proofs.course.Statement.{statement}
+use Rattle.courses.proofs.course.Tie as tie
+
+abbrev Inv-loop : tie.InvT-loop
+Inv-loop slots store terms sets₀ news₀ work₀ log₀ end out₀ to₀ n₀ sets news work log out to n =
+    Coursing slots store terms end sets₀ news₀ work₀ log₀ out₀ sets news work log out to n
+
+abbrev μ-loop : tie.MeasureT-loop
+μ-loop slots store terms sets₀ news₀ work₀ log₀ end out₀ to₀ n₀ sets news work log out to n = terms - n
+
+loop-holds : tie.Need-loop-holds Inv-loop μ-loop
+loop-holds c =
+    let a = c .before .before .before .before .before .before .before .args in
+    coursing-start (a .slots .now) (a .store .now) (a .terms) (a .end) (a .sets .now) (a .news .now) (a .work .now) (a .log .now) (a .out .now)
+
+word-at-requires : tie.Need-word-at-requires Inv-loop μ-loop
+word-at-requires c κs = tt
+
+advance-requires : tie.Need-advance-requires Inv-loop μ-loop
+advance-requires c κs = tt
+
+enum-known-step : tie.Need-enum-known-step Inv-loop μ-loop
+enum-known-step c = search needs
+
+enum-told : tie.Need-enum-told Inv-loop μ-loop
+enum-told c = search needs
+
+returns : tie.Need-returns Inv-loop μ-loop
+returns c =
+    let advanced = c .before .before .before .before .before .before .before .before .before .before .before .before in
+    let read = advanced .before .before .before .before .before .before in
+    let looped = read .before in
+    coursing-large (looped .before .loop .inv) (looped .loop-test .taken) (read .word-at .ensures)
+    (rw (c .enum-told .given .1) at (advanced .advance .ensures))
+
+same-length : tie.Need-same-length Inv-loop μ-loop
+same-length c = returns c .kept .setsLong
+
+same-length-2 : tie.Need-same-length-2 Inv-loop μ-loop
+same-length-2 c = returns c .kept .newsLong
+
+same-length-3 : tie.Need-same-length-3 Inv-loop μ-loop
+same-length-3 c = returns c .kept .workLong
+
+same-length-4 : tie.Need-same-length-4 Inv-loop μ-loop
+same-length-4 c = returns c .kept .logLong
+
+same-length-5 : tie.Need-same-length-5 Inv-loop μ-loop
+same-length-5 c = returns c .kept .outLong
+
+add-n : tie.Need-add-n Inv-loop μ-loop
+add-n c =
+    let advanced = c .before .before .before .before .before .before .before .before .before .before .before .before .before in
+    let looped = advanced .before .before .before .before .before .before .before in
+    omega (arith, looped .loop-test .taken, looped .before .before .before .before .before .before .before .before .before .fits .terms)
+
+loop-less : tie.Need-loop-less Inv-loop μ-loop
+loop-less c =
+    let advanced = c .before .before .before .before .before .before .before .before .before .before .before .before .before in
+    let looped = advanced .before .before .before .before .before .before .before in
+    omega (arith, looped .loop-test .taken)
+
+loop-again : tie.Need-loop-again Inv-loop μ-loop
+loop-again c =
+    let advanced = c .before .before .before .before .before .before .before .before .before .before .before .before .before in
+    let read = advanced .before .before .before .before .before .before in
+    let looped = read .before in
+    coursing-step (looped .before .loop .inv) (looped .loop-test .taken) (read .word-at .ensures)
+    (rw (c .before .step .given .1) at (advanced .advance .ensures))
+
+same-length-6 : tie.Need-same-length-6 Inv-loop μ-loop
+same-length-6 c = c .before .loop .inv .kept .setsLong
+
+same-length-7 : tie.Need-same-length-7 Inv-loop μ-loop
+same-length-7 c = c .before .loop .inv .kept .newsLong
+
+same-length-8 : tie.Need-same-length-8 Inv-loop μ-loop
+same-length-8 c = c .before .loop .inv .kept .workLong
+
+same-length-9 : tie.Need-same-length-9 Inv-loop μ-loop
+same-length-9 c = c .before .loop .inv .kept .logLong
+
+same-length-10 : tie.Need-same-length-10 Inv-loop μ-loop
+same-length-10 c = c .before .loop .inv .kept .outLong
+
+returns-2 : tie.Need-returns-2 Inv-loop μ-loop
+returns-2 c = coursing-end (c .before .loop .inv) (c .loop-test .left)
+
+pub course-spec : {M : Type 1} → statement M
+course-spec =
+    tie.close
+    (tie.spec
+    Inv-loop
+    μ-loop
+    loop-holds
+    word-at-requires
+    advance-requires
+    enum-known-step
+    enum-told
+    same-length
+    same-length-2
+    same-length-3
+    same-length-4
+    same-length-5
+    returns
+    add-n
+    loop-less
+    loop-again
+    same-length-6
+    same-length-7
+    same-length-8
+    same-length-9
+    same-length-10
+    returns-2)

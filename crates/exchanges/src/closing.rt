@@ -1,0 +1,125 @@
+// The labels of a row with all that comes of them by rules.
+use crate::following::put;
+use areas::rows::labels_in;
+use areas::rows::read_label;
+use labels::bags::size;
+use memory::MEMORY_LABELS;
+use parts::placing::reach;
+use rules::State;
+use sets::Built;
+use sets::ascending::ascends;
+ghost use Prim.Native.Nat.{_≤_};
+ghost use lib.ListN.{length};
+ghost use Rattle.meaning.specs.Sets.{Rising};
+ghost use Rattle.areas.specs.Rows.{held};
+ghost use Rattle.parts.specs.Parts.{setAt};
+ghost use Rattle.exchanges.specs.Closing.{Closes};
+ghost use Rattle.exchanges.specs.Following.{Walking};
+
+// A label of fewer actions has so few choices of parts, and so has any under a single rule, that a memory would cost more than it
+// spares.
+const LONG: u64 = 8;
+
+// Whether a memory is worth its cost: there are several rules, and a label has many actions. It decides on the time that is taken
+// and on nothing else.
+fn many_choices(labels: &[u64], rules: &[u64]) -> bool {
+    if labels_in(rules) <= 2 {
+        return false;
+    }
+    let mut i = 0;
+    while i < labels_in(labels) {
+        if LONG <= size(read_label(labels, i)) {
+            return true;
+        }
+        i += 1;
+    }
+    false
+}
+
+// Each label in turn, with a memory that is kept from one to the next.
+fn put_each(
+    labels: &[u64],
+    operand: &[u64],
+    rules: &[u64],
+    states: &mut [u64],
+    out: &mut [u64],
+    len: usize,
+) -> Built
+    requires { ⌜ Walking len (held (now operand)) (held (now rules)) (held (now out)) (held (now states)) ⌝ }
+    ensures { λ r. ⌜ Closes len (held (now (labels .entry))) (held (now (operand .entry))) (held (now (rules .entry)))
+        (held (now (out .entry))) (held (now (out .exit))) r ⌝ }
+{
+    let mut count = len;
+    let end = labels_in(labels);
+    let last = labels_in(rules);
+    let mut i = 0;
+    while i < end {
+        let label = read_label(labels, i);
+        let state = State {
+            rest: label,
+            sum: label,
+        };
+        let grown = put(out, states, count, operand, rules, last, state);
+        let Built::Holds(n) = grown else {
+            return Built::TooLarge;
+        };
+        count = n;
+        i += 1;
+    }
+    Built::Holds(count)
+}
+
+// The same with no room to keep a state in.
+fn put_each_short(
+    labels: &[u64],
+    operand: &[u64],
+    rules: &[u64],
+    out: &mut [u64],
+    len: usize,
+) -> Built
+    requires { ⌜ len ≤ length (held (now out)) ⌝ }
+    ensures { λ r. ⌜ Closes len (held (now (labels .entry))) (held (now (operand .entry))) (held (now (rules .entry)))
+        (held (now (out .entry))) (held (now (out .exit))) r ⌝ }
+{
+    let mut none = [0u64; 1];
+    put_each(labels, operand, rules, &mut none, out, len)
+}
+
+// The same with a memory, for a set that ascends.
+fn put_each_long(
+    labels: &[u64],
+    operand: &[u64],
+    rules: &[u64],
+    out: &mut [u64],
+    len: usize,
+) -> Built
+    requires { ⌜ (len ≤ length (held (now out))) × Rising (setAt 0 len (held (now out))) ⌝ }
+    ensures { λ r. ⌜ Closes len (held (now (labels .entry))) (held (now (operand .entry))) (held (now (rules .entry)))
+        (held (now (out .entry))) (held (now (out .exit))) r ⌝ }
+{
+    let mut states = [0u64; MEMORY_LABELS];
+    put_each(labels, operand, rules, &mut states, out, len)
+}
+
+// The labels of a row, which are all labels of an operand or some of them, each with all that comes of it by rules but what comes
+// of another label of the operand.
+pub fn close_each(
+    labels: &[u64],
+    operand: &[u64],
+    rules: &[u64],
+    out: &mut [u64],
+    len: usize,
+) -> Built
+    ensures { λ r. ⌜ Closes len (held (now (labels .entry))) (held (now (operand .entry))) (held (now (rules .entry)))
+        (held (now (out .entry))) (held (now (out .exit))) r ⌝ }
+{
+    let count = reach(out, 0, len);
+    if !many_choices(labels, rules) {
+        return put_each_short(labels, operand, rules, out, count);
+    }
+    if ascends(out, 0, count) {
+        put_each_long(labels, operand, rules, out, count)
+    } else {
+        put_each_short(labels, operand, rules, out, count)
+    }
+}

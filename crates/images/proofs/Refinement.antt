@@ -1,0 +1,94 @@
+-- What each way without rules makes of the numbers of labels: the numbers of what the operators make of the labels.
+-- Assumes nothing.
+use mathlib.Core.Path.{_≡_, refl, sym, subst, _∙_}
+use mathlib.Core.Logic.{inl, inr, _↔_}
+use mathlib.Core.Bool.{Bool, true, false, _||_}
+use mathlib.Core.List.{List, [], _∷_, _++_, map}
+use Prim.Native.Nat.{ℕ, _≤_, _<_}
+use native.Mathlib.Omega.{arith}
+use native.Mathlib.Decide.{decLt}
+use borrow.Author.Tests.{eq-eqb, ne-eqb}
+use lib.Dec.{eqb}
+use Rattle.meaning.specs.Labels.{Label, size, number, isTau, clear, without, renamed}
+use Rattle.meaning.specs.Sets.{member, ascending, spread, kept, keep, turn}
+use Rattle.meaning.specs.Descriptions.{Pair}
+use Rattle.meaning.specs.Rounds.{target, allowed}
+use Rattle.meaning.specs.Legal.{Each, LegalLabel, LegalPair}
+use Rattle.meaning.proofs.Maps.{size-without, size-renamed, length-without, length-renamed}
+use Rattle.labels.specs.Packing.{packed}
+use Rattle.labels.proofs.Sizes.{number-zero}
+use Rattle.areas.proofs.Entries.{labelWords, pairWords, pairsIn-pairWords}
+use Rattle.labels.proofs.Refinement.{Packs}
+use Rattle.names.proofs.Refinement.{clear-number, without-number, renamed-number}
+use Rattle.sets.specs.declared.Offer.the-variants.{Next}
+use Rattle.sets.specs.Building.{each}
+use Rattle.sets.proofs.Outcomes.{Offered, none, one, Anything, Result, taken-outcome}
+use Rattle.sets.proofs.Refinement.{AllPack, compare-number, each-outcome}
+use Rattle.images.specs.declared.Way.{Way}
+use Rattle.images.specs.declared.Way.the-variants.{Copy, Block, Hide, Rename, Allow}
+use Rattle.images.specs.Allowing.{listedIn}
+use Rattle.images.specs.Imaging.{pickOffer, offerOf, followsRules, imaged}
+
+-- A way that follows no rules: the other labels of the operand count for nothing.
+pub way-outcome : (names room : ℕ) (way : Way) (list all : List ℕ) (gives : Label → List Label) → followsRules way ≡ false
+    → ((a : Label) → Packs names a → Offered names (offerOf way list (number a)) (gives a))
+    → (l M : List Label) → AllPack names l → AllPack names M
+    → Result names room (spread gives l ++ M) (each (imaged room way list all) (map number l) (map number (ascending M)))
+way-outcome names room way list all gives d good l M p q =
+    each-outcome names room Anything (λ K L w v i. tt) (imaged room way list all) gives
+    (λ a N r s i. rw d (taken-outcome names room (good a r) N s)) l M p q tt
+
+-- Each way.
+pub copy-offers : {names : ℕ} (list : List ℕ) (a : Label) → Packs names a → Offered names (offerOf Copy list (number a)) (a ∷ [])
+copy-offers list a p = one a p
+
+kept-offers : {names : ℕ} (t : Bool) (a : Label) → Packs names a → Offered names (pickOffer t (Next (packed (number a)))) (kept t a)
+kept-offers true a p = one a p
+kept-offers false a p = none
+
+pub block-offers : (names : ℕ) → names ≤ 12 → (ns : List ℕ) (a : Label) → Packs names a
+    → Offered names (offerOf Block ns (number a)) (keep (clear ns) a)
+block-offers names few ns a p = rw (clear-number names few ns a p) (kept-offers (clear ns a) a p)
+
+pub hide-offers : (names : ℕ) → names ≤ 12 → (ns : List ℕ) (a : Label) → Packs names a
+    → Offered names (offerOf Hide ns (number a)) (turn (without ns) a)
+hide-offers names few ns a p =
+    let h = size-without ns a in
+    let k = p .few in
+    rw (without-number names few ns a p) (one (without ns a) (record { wide = length-without ns a ∙ p .wide; few = omega arith }))
+
+pub rename-offers : (names : ℕ) → names ≤ 12 → (ps : List Pair) → Each (LegalPair names) ps → Each (λ p. p .left < 32) ps
+    → (a : Label) → Packs names a
+    → Offered names (offerOf Rename (pairWords ps) (number a)) (turn (renamed names (target ps)) a)
+rename-offers names few ps legal left a p =
+    let h = size-renamed names (target ps) a 0 in
+    let k = p .few in
+    rw (pairsIn-pairWords ps left, renamed-number names ps a few legal p)
+    (one (renamed names (target ps) a) (record { wide = length-renamed names (target ps) a 0; few = omega arith }))
+
+-- Allow: listed, or tau.
+pub eqb-zero : (m n : ℕ) → (m ≡ 0) ↔ (n ≡ 0) → eqb m 0 ≡ eqb n 0
+eqb-zero m n h = elim (decLt 0 m) [
+  | yes l ↦
+      let z : n ≡ 0 → ⊥ = λ e. let k = h .1 e in omega arith in
+      ne-eqb m 0 (λ e. omega arith) ∙ sym (ne-eqb n 0 z)
+  | no l ↦ let e : m ≡ 0 = omega arith in eq-eqb m 0 e ∙ sym (eq-eqb n 0 (h .0 e))
+]
+
+-- the labels of a legal list pack
+pub listed-packs : (names : ℕ) (ls : List Label) → Each (LegalLabel names) ls → AllPack names ls
+listed-packs names (b ∷ ls) h a (inl e) = subst (Packs names) (sym e) (record { wide = h .0 .0; few = h .0 .2 })
+listed-packs names (b ∷ ls) h a (inr m) = listed-packs names ls (h .1) a m
+
+pub member-number : (names : ℕ) (a : Label) (ls : List Label) → Packs names a → AllPack names ls
+    → listedIn (number a) (map number ls) ≡ member a ls
+unfolding listedIn member
+member-number names a [] p q = refl
+member-number names a (b ∷ ls) p q =
+    rw (compare-number names a b p (q b (inl refl)), member-number names a ls p (λ c m. q c (inr m)))
+
+pub allow-offers : (names : ℕ) (ls : List Label) → AllPack names ls → (a : Label) → Packs names a
+    → Offered names (offerOf Allow (labelWords ls) (number a)) (keep (allowed ls) a)
+unfolding allowed isTau
+allow-offers names ls q a p =
+    rw (member-number names a ls p q, sym (eqb-zero (size a) (number a) (number-zero a))) (kept-offers (eqb (size a) 0 || member a ls) a p)

@@ -1,0 +1,68 @@
+-- The lists of a legal description's terms, as the ways take them from the list store.
+-- Assumes nothing.
+use mathlib.Core.Path.{_≡_, refl, sym, ap, ap₂, _∙_}
+use mathlib.Core.List.{List, [], _∷_, _++_}
+use Prim.Native.Nat.{ℕ, _*_, _-_, _≤_, _<_}
+use native.Mathlib.Omega.{arith}
+use lib.ListN.{length, take, replicate}
+use lib.Seq.{take-all, take-at}
+use Rattle.meaning.specs.Labels.{number}
+use Rattle.meaning.specs.Descriptions.{Description, Order, Rule, Operator, block, hide, rename, comm, allow, wrap, names, termCount, termAt}
+use Rattle.meaning.specs.Legal.{Each, LegalRule, LegalOperator}
+use Rattle.table.specs.Encoded as T
+use Rattle.table.proofs.TableTerms.{length-ruleWords, list-stored}
+use Rattle.areas.proofs.Entries.{pairWords, labelWords, ruleLabels}
+use Rattle.labels.proofs.Refinement.{single-number}
+use Rattle.images.specs.declared.Way.{Way}
+use Rattle.images.specs.declared.Way.the-variants.{Block, Hide, Rename, Comm, Allow}
+use Rattle.operators.specs.Exchanging.{exchangeWords, exchangeList}
+use Rattle.operators.specs.Operators.{ruleList, wayFor, wordsFor}
+
+-- The way of each operator, and the words of its list as a way takes them.
+abbrev pub wayOf : Operator → Way
+wayOf (block ns) = Block
+wayOf (hide ns) = Hide
+wayOf (rename ps) = Rename
+wayOf (comm rs) = Comm
+wayOf (allow ls) = Allow
+
+abbrev pub wayWords : ℕ → Operator → List ℕ
+wayWords names (block ns) = ns
+wayWords names (hide ns) = ns
+wayWords names (rename ps) = pairWords ps
+wayWords names (comm rs) = ruleLabels names rs
+wayWords names (allow ls) = labelWords ls
+
+-- The words of rules, as they are stored and as they are taken.
+rules-exchanged : (n : ℕ) → n ≤ 12 → (rs : List Rule) → Each (LegalRule n) rs → exchangeWords (T.ruleWords rs) ≡ ruleLabels n rs
+unfolding T.ruleWords exchangeWords ruleLabels
+rules-exchanged n few [] h = refl
+rules-exchanged n few (r ∷ rs) h =
+    ap₂ {C = List ℕ} (λ (x : ℕ) (l : List ℕ). number (r .left) ∷ x ∷ l) (single-number n few (r .right) (h .0 .2)) (rules-exchanged n few rs (h .1))
+
+length-taken : (n : ℕ) (rs : List Rule) → length (ruleLabels n rs) ≡ length rs * 2
+unfolding ruleLabels
+length-taken n [] = refl
+length-taken n (r ∷ rs) = omega (arith, length-taken n rs)
+
+rule-list : (n : ℕ) → n ≤ 12 → (rs : List Rule) → length rs ≤ 8 → Each (LegalRule n) rs → ruleList (T.ruleWords rs) ≡ ruleLabels n rs
+rule-list n few rs short h =
+    let all : take 16 (T.ruleWords rs) ≡ T.ruleWords rs = take-all 16 (T.ruleWords rs) (omega (arith, length-ruleWords rs)) in
+    ap (λ (ws : List ℕ). take (length ws) (exchangeList ws)) all
+    ∙ ap (λ (ws : List ℕ). take (length (T.ruleWords rs)) (ws ++ replicate (16 - length ws) 0)) (rules-exchanged n few rs h)
+    ∙ take-at (ruleLabels n rs) (replicate (16 - length (ruleLabels n rs)) 0) (length (T.ruleWords rs)) (length-taken n rs ∙ sym (length-ruleWords rs))
+
+module _ (d : Description) (o : Order) (n t : ℕ) (h : n < termCount d) (few : termCount d ≤ 96) (narrow : names d ≤ 12) where
+  pub way-same : (op : Operator) → wayFor (T.operatorFor n op) ≡ wayOf op
+  way-same (block ns) = refl
+  way-same (hide ns) = refl
+  way-same (rename ps) = refl
+  way-same (comm rs) = refl
+  way-same (allow ls) = refl
+
+  pub words-same : (op : Operator) → termAt d n ≡ wrap op t → LegalOperator (names d) op → wordsFor (T.storeOf d o) (T.operatorFor n op) ≡ wayWords (names d) op
+  words-same (block ns) e l = list-stored d o few narrow n h (block ns) e l
+  words-same (hide ns) e l = list-stored d o few narrow n h (hide ns) e l
+  words-same (rename ps) e l = list-stored d o few narrow n h (rename ps) e l
+  words-same (comm rs) e l = ap ruleList (list-stored d o few narrow n h (comm rs) e l) ∙ rule-list (names d) narrow rs (l .1) (l .2)
+  words-same (allow ls) e l = list-stored d o few narrow n h (allow ls) e l

@@ -1,0 +1,77 @@
+-- `operators::through` meets its contract: each operator goes its way, with its list; that of comm holds rules.
+-- Assumes nothing.
+use mathlib.Core.Path.{_≡_, refl}
+use mathlib.Core.List.{List, [], _∷_}
+use Prim.Native.Nat.{ℕ}
+use borrow.Author.Needs.{needs}
+use types.Run.{OneOf, miss}
+use denote.Enum.Declared.{tagOf}
+use Rattle.slots.specs.declared.Operator.{Operator}
+use Rattle.slots.specs.declared.Operator.the-variants.{Block, Hide, Rename, Comm, Allow}
+use Rattle.slots.proofs.Operator.{the-type}
+use Rattle.table.specs.Decoded.{wordsAt}
+use Rattle.operators.specs.Operators.{placeFor, wordsFor}
+use Rattle.operators.proofs.through.Statement.{statement}
+use Rattle.operators.proofs.through.Tie as tie
+
+-- the list of every operator but comm has a word an entry
+plain : (store : List ℕ) (o : Operator) → OneOf (0 ∷ 1 ∷ 2 ∷ 4 ∷ []) (tagOf the-type o) → wordsAt store (placeFor o) 1 ≡ wordsFor store o
+plain store (Block p) h = refl
+plain store (Hide p) h = refl
+plain store (Rename p) h = refl
+plain store (Comm p) h = absurd (miss (0 ∷ 1 ∷ 2 ∷ 4 ∷ []) 3 tt h)
+plain store (Allow p) h = refl
+
+list-place-requires : tie.Need-list-place-requires
+list-place-requires c κs = tt
+
+enum-told : tie.Need-enum-told
+enum-told c = c .match .keys1
+
+rule-words-of-requires : tie.Need-rule-words-of-requires
+rule-words-of-requires c κs = tt
+
+communicate-requires : tie.Need-communicate-requires
+communicate-requires c κs = tt
+
+way-of-requires : tie.Need-way-of-requires
+way-of-requires c κs = tt
+
+words-of-requires : tie.Need-words-of-requires
+words-of-requires c κs = tt
+
+add-image-requires : tie.Need-add-image-requires
+add-image-requires c κs = tt
+
+same-length : tie.Need-same-length
+same-length c = search needs
+
+returns : tie.Need-returns
+returns c =
+    let added = c .before .before in
+    let listed = added .before .before in
+    let told = listed .before in
+    let is-comm = told .enum-told .given .1 in
+    rw is-comm (rw (listed .rule-words-of .ensures, told .before .before .list-place .ensures, is-comm) at (added .communicate .ensures))
+
+same-length-2 : tie.Need-same-length-2
+same-length-2 c = search needs
+
+returns-2 : tie.Need-returns-2
+returns-2 c =
+    let added = c .before .before in
+    let listed = added .before .before in
+    let other = listed .before .before in
+    let a = other .before .before .before .before .before .before .args in
+    rw (
+      listed .before .way-of .ensures,
+      listed .words-of .ensures,
+      other .before .list-place .ensures,
+      plain (a .store .now) (a .operator) (other .match .keys2),
+    ) at (added .add-image .ensures)
+
+pub through-spec : {M : Type 1} → statement M
+through-spec =
+    tie.close
+    (tie.spec list-place-requires enum-told rule-words-of-requires communicate-requires way-of-requires words-of-requires add-image-requires
+    same-length returns same-length-2 returns-2)

@@ -1,0 +1,48 @@
+-- The ways of operators, with their lists from the list store.
+-- Assumes nothing.
+use mathlib.Core.List.{List}
+use Prim.Native.Nat.{ℕ}
+use lib.ListN.{length, take}
+use Rattle.slots.specs.declared.Operator.{Operator}
+use Rattle.slots.specs.declared.Place.{Place}
+use Rattle.slots.specs.declared.Operator.the-variants as O
+use Rattle.table.specs.Decoded.{wordsAt}
+use Rattle.images.specs.declared.Way.{Way}
+use Rattle.images.specs.declared.Way.the-variants.{Block, Hide, Rename, Comm, Allow}
+use Rattle.sets.specs.declared.Built.{Built}
+use Rattle.sets.specs.Building.{Building, each, GrownAt}
+use Rattle.extents.specs.Extents.{atStart}
+use Rattle.images.specs.Imaging.{imaged}
+use Rattle.operators.specs.Exchanging.{exchangeList}
+
+-- The way of an operator, where its list stands, and its list as the way takes it: of rules, the first eight.
+abbrev pub ruleList : List ℕ → List ℕ
+ruleList ws = take (length (take 16 ws)) (exchangeList (take 16 ws))
+
+abbrev pub wayFor : Operator → Way
+wayFor (O.Block p) = Block
+wayFor (O.Hide p) = Hide
+wayFor (O.Rename p) = Rename
+wayFor (O.Comm p) = Comm
+wayFor (O.Allow p) = Allow
+
+abbrev pub placeFor : Operator → Place
+placeFor (O.Block p) = p
+placeFor (O.Hide p) = p
+placeFor (O.Rename p) = p
+placeFor (O.Comm p) = p
+placeFor (O.Allow p) = p
+
+abbrev pub wordsFor : List ℕ → Operator → List ℕ
+wordsFor store (O.Block p) = wordsAt store p 1
+wordsFor store (O.Hide p) = wordsAt store p 1
+wordsFor store (O.Rename p) = wordsAt store p 1
+wordsFor store (O.Comm p) = ruleList (wordsAt store p 2)
+wordsFor store (O.Allow p) = wordsAt store p 1
+
+-- what a way makes of labels of an operand goes into a set at the start of words of its own
+abbrev pub passed : ℕ → Way → (list labels operand : List ℕ) → List ℕ → Building
+passed room way list labels operand s = each (imaged room way list operand) labels s
+
+abbrev pub Passes : Way → (list labels operand before after : List ℕ) → Built → Type 0
+Passes way list labels operand before after r = GrownAt (atStart 0) (λ room. passed room way list labels operand) before after r

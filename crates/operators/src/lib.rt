@@ -1,0 +1,79 @@
+// Labels through an operator of a description, with its list from the list store, into a set at the start of words of its own.
+mod exchanging;
+
+use crate::exchanging::exchanges;
+use crate::exchanging::first_rules;
+use exchanges::closing::close_each;
+use images::Way;
+use images::imaging::add_image;
+use sets::Built;
+use slots::Operator;
+use slots::Place;
+use table::lists::rule_words_of;
+use table::lists::words_of;
+ghost use mathlib.Core.Path.{_≡_};
+ghost use Rattle.areas.specs.Rows.{held};
+ghost use Rattle.images.specs.declared.Way.the-variants.{Comm};
+ghost use Rattle.operators.specs.Operators.{Passes, ruleList, wayFor, placeFor, wordsFor};
+
+// No more words of the rules are lent than they have.
+fn communicate(rules: &[u64], labels: &[u64], operand: &[u64], out: &mut [u64]) -> Built
+    ensures { λ r. ⌜ Passes Comm (ruleList (now (rules .entry))) (held (now (labels .entry))) (held (now (operand .entry)))
+        (held (now (out .entry))) (held (now (out .exit))) r ⌝ }
+{
+    let first = first_rules(rules);
+    let end = first.len();
+    let list = exchanges(first);
+    close_each(labels, operand, &list[..end], out, 0)
+}
+
+// The way of an operator.
+fn way_of(operator: Operator) -> Way
+    ensures { λ r. ⌜ r ≡ wayFor operator ⌝ }
+{
+    match operator {
+        Operator::Block(_) => Way::Block,
+        Operator::Hide(_) => Way::Hide,
+        Operator::Rename(_) => Way::Rename,
+        Operator::Comm(_) => Way::Comm,
+        Operator::Allow(_) => Way::Allow,
+    }
+}
+
+// Where an operator's list stands in the store.
+fn list_place(operator: Operator) -> Place
+    ensures { λ r. ⌜ r ≡ placeFor operator ⌝ }
+{
+    match operator {
+        Operator::Block(p) => p,
+        Operator::Hide(p) => p,
+        Operator::Rename(p) => p,
+        Operator::Comm(p) => p,
+        Operator::Allow(p) => p,
+    }
+}
+
+// What an operator makes of labels that are all labels of its operand or some of them.
+pub fn through(
+    store: &[u64],
+    operator: Operator,
+    labels: &[u64],
+    operand: &[u64],
+    out: &mut [u64],
+) -> Built
+    ensures { λ r. ⌜ Passes (wayFor operator) (wordsFor (now (store .entry)) operator) (held (now (labels .entry))) (held (now (operand .entry)))
+        (held (now (out .entry))) (held (now (out .exit))) r ⌝ }
+{
+    let place = list_place(operator);
+    match operator {
+        Operator::Comm(_) => communicate(rule_words_of(store, place), labels, operand, out),
+        _ => add_image(
+            way_of(operator),
+            words_of(store, place),
+            labels,
+            operand,
+            out,
+            0,
+        ),
+    }
+}

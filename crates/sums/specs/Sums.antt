@@ -1,0 +1,16 @@
+-- The sums of two lists of labels, put into a set.
+-- Assumes nothing.
+use mathlib.Core.List.{List}
+use Prim.Native.Nat.{ℕ}
+use Rattle.labels.specs.Bags.{sumOf}
+use Rattle.sets.specs.Building.{Building, each, enter, taken, summed}
+
+-- Each label of the first added to each of the second.
+abbrev pub sumIn : ℕ → ℕ → ℕ → List ℕ → Building
+sumIn room a w = taken (enter room) (summed (sumOf a w))
+
+abbrev pub rowOf : ℕ → List ℕ → ℕ → List ℕ → Building
+rowOf room bs a = each (sumIn room a) bs
+
+abbrev pub sumsOf : ℕ → List ℕ → List ℕ → List ℕ → Building
+sumsOf room ls bs = each (rowOf room bs) ls

@@ -1,7 +1,0 @@
--- What round after round says of its areas.
--- the last round
-pub mod Stages
--- what is left of the last round
-pub mod Settling
--- what the rounds of a description come to
-pub mod Endings
