@@ -37,7 +37,7 @@ use Rattle.sets.proofs.Steps.{built-holds, laid-set}
 use Rattle.sets.proofs.Outcomes.{Result}
 use Rattle.extents.specs.Extents.{partAt, isEmpty, wordsIn, atStart}
 use Rattle.extents.proofs.Rows.{words-length, words-empty}
-use Rattle.choices.proofs.Communication.{gives, comm-there, comm-back, comm-listed}
+use Rattle.ordering.proofs.FollowedRules.{gives-for, there-for, back-for, listed-for}
 use Rattle.shapes.specs.declared.Shape.{Shape}
 use Rattle.shapes.specs.declared.Shape.the-variants.{Leaf, Body, One, Two, Joint}
 use Rattle.shapes.specs.Shaping.{shapeFor}
@@ -216,7 +216,7 @@ module _ (d : Description) (k n : ℕ) (sets news : ℕ → List ℕ) (known : K
     module _ (t : ℕ) (h : t < n) where
       abbrev Passed : Operator → Type 0
       Passed o = shape d (termAt d n) ≡ through (image (names d) o) t
-          → Given d k n room (passed room (wayOf o) (wayWords (names d) o) (map number (new t)) (map number (now t)) [])
+          → Given d k n room (passed room (wayOf o) (wayWords (map number (new t)) (names d) o) (map number (new t)) (map number (now t)) [])
 
       plain-kind : (o : Operator) → Through (names d) room narrow (new t) (now t) (packs t h) o → Passed o
       plain-kind o x e = record { labels = spread (image (names d) o) (new t); adds = through-new d first k n (image (names d) o) t e; result = x }
@@ -229,12 +229,15 @@ module _ (d : Description) (k n : ℕ) (sets news : ℕ → List ℕ) (known : K
       through-kind (comm rs) l = λ e.
           let old = at (roundSets d k) t in
           let all-pack = known .small t h in
+          let w = map number (new t) in
           record {
-            labels = spread (gives (names d) narrow rs (l .2) (now t) all-pack) (new t);
+            labels = spread (gives-for w (names d) narrow rs (l .1) (l .2) (now t) all-pack) (new t);
             adds = through-adds d first k n (image (names d) (comm rs)) t _ e
-                (comm-there (names d) narrow rs (l .2) (now t) all-pack (new t) old (arrived-within d k t) (round-grows d k t) (arrived-or-before d k t))
-                (comm-back (names d) narrow rs (l .2) (now t) all-pack (new t) old (arrived-within d k t) (round-grows d k t) (arrived-or-before d k t));
-            result = comm-listed (names d) narrow rs (l .2) (now t) all-pack (new t) old (arrived-within d k t) (round-grows d k t)
+                (there-for w (names d) narrow rs (l .1) (l .2) (now t) all-pack (new t) old (arrived-within d k t) (round-grows d k t)
+                (arrived-or-before d k t))
+                (back-for w (names d) narrow rs (l .1) (l .2) (now t) all-pack (new t) old (arrived-within d k t) (round-grows d k t)
+                (arrived-or-before d k t));
+            result = listed-for w (names d) narrow rs (l .1) (l .2) (now t) all-pack (new t) old (arrived-within d k t) (round-grows d k t)
                 (arrived-or-before d k t) room;
           }
 
@@ -260,7 +263,7 @@ module _ (d : Description) (k n : ℕ) (sets news : ℕ → List ℕ) (known : K
     kind (wrap op t) e l =
         rw (
           way-same d o n t more (known .legal .termsCount .1) narrow op,
-          words-same d o n t more (known .legal .termsCount .1) narrow op e (l .1),
+          words-same d o n t more (known .legal .termsCount .1) narrow (news t) op e (l .1),
           known .fresh t (l .0),
           known .stands t (l .0),
         )

@@ -109,14 +109,14 @@ module _ (names room : ℕ) where
   -- An operator that makes of each label by itself what the set is to have of it.
   module _ (few : names ≤ 12) (l N : List Label) (p : AllPack names l) where
     abbrev pub Through : Operator → Type 0
-    Through o = Result names room (spread (image names o) l) (passed room (wayOf o) (wayWords names o) (map number l) (map number N) [])
+    Through o = Result names room (spread (image names o) l) (passed room (wayOf o) (wayWords (map number l) names o) (map number l) (map number N) [])
 
     by-labels : (o : Operator) → followsRules (wayOf o) ≡ false
-        → ((a : Label) → Packs names a → Offered names (offerOf (wayOf o) (wayWords names o) (number a)) (image names o a)) → Through o
+        → ((a : Label) → Packs names a → Offered names (offerOf (wayOf o) (wayWords (map number l) names o) (number a)) (image names o a)) → Through o
     unfolding ascending
     by-labels o plain offers =
         alone (spread (image names o) l)
-        (way-outcome names room (wayOf o) (wayWords names o) (map number N) (image names o) plain offers l [] p nothing-packs)
+        (way-outcome names room (wayOf o) (wayWords (map number l) names o) (map number N) (image names o) plain offers l [] p nothing-packs)
 
     small-left : (ps : List Pair) → Each (LegalPair names) ps → Each (λ x. x .left < 32) ps
     small-left [] h = tt
@@ -132,4 +132,4 @@ module _ (names room : ℕ) where
     rename-given ps h = by-labels (rename ps) refl (λ a r. rename-offers names few ps (h .1) (small-left ps (h .1)) a r)
 
     pub allow-given : (ls : List Label) → LegalOperator names (allow ls) → Through (allow ls)
-    allow-given ls h = by-labels (allow ls) refl (λ a r. allow-offers names ls (listed-packs names ls (h .1)) a r)
+    allow-given ls h = by-labels (allow ls) refl (λ a r. allow-offers names ls (listed-packs names ls (h .1)) (h .2) a r)

@@ -48,7 +48,7 @@ arriving room store sets news (Body e) s = unionNew room (news (newsOf e)) [] s
 arriving room store sets news (One t) s = unionNew room (news t) [] s
 arriving room store sets news (Two t u sums) s = twoNew sums room (news t) (sets t) (news u) (sets u) s
 arriving room store sets news (Joint t u) s = sumsNew room (news t) (sets t) (news u) (sets u) s
-arriving room store sets news (Through o t) s = passed room (wayFor o) (wordsFor store o) (news t) (sets t) s
+arriving room store sets news (Through o t) s = passed room (wayFor o) (wordsFor store (news t) o) (news t) (sets t) s
 
 abbrev pub Arrives : Shape → (store work sets log news before after : List ℕ) → Built → Type 0
 Arrives shape store work sets log news before after r =

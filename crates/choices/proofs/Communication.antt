@@ -30,48 +30,10 @@ use Rattle.sets.specs.Building.{each}
 use Rattle.sets.specs.Inserting.{placeOf, present}
 use Rattle.sets.proofs.Refinement.{AllPack, each-outcome, outcome-same}
 use Rattle.sets.proofs.Outcomes.{Anything, Result, entered-outcome}
-use Rattle.rules.specs.Rules.{Exchange, exchangeAt, exchangesBefore, exchangesIn, replacedBy, pickStep, stepOf}
+use Rattle.rules.specs.Rules.{Exchange, exchangesIn, replacedBy, pickStep, stepOf}
 use Rattle.choices.specs.Following.{after, eachRule, followed, entered, closed}
+use Rattle.choices.proofs.Reading.{backwards, backwards-in, in-backwards, exchange, rules-read}
 use Rattle.choices.proofs.InOrder.{taken, given, unless, leads, eachOf, whole, OfRules, Packed, next-packed, Comes, whole-sound, complete}
-
--- A rule as it is stored.
-abbrev exchange : ℕ → Rule → Exchange
-exchange names r = record { left = number (r .left); right = number (single names (r .right)) }
-
--- Rules are read from the last to the first; what they give does not depend on that.
-backwards : List Rule → List Rule
-backwards [] = []
-backwards (r ∷ rs) = backwards rs ++ (r ∷ [])
-
-backwards-in : (rs : List Rule) (r : Rule) → r ∈ backwards rs → r ∈ rs
-unfolding backwards
-backwards-in (q ∷ rs) r m = elim (in-append r (backwards rs) (q ∷ []) .0 m) [
-  | inl k ↦ inr (backwards-in rs r k)
-  | inr k ↦ elim k [ inl e ↦ inl e | inr j ↦ absurd j ]
-]
-
-in-backwards : (rs : List Rule) (r : Rule) → r ∈ rs → r ∈ backwards rs
-unfolding backwards
-in-backwards (q ∷ rs) r (inl e) = in-append r (backwards rs) (q ∷ []) .1 (inr (inl e))
-in-backwards (q ∷ rs) r (inr m) = in-append r (backwards rs) (q ∷ []) .1 (inl (in-backwards rs r m))
-
--- the first rule of the list is read last
-first-last : (names : ℕ) (r : Rule) (ls : List ℕ) (rs : List Rule)
-    → exchangesBefore (number (r .left) ∷ number (single names (r .right)) ∷ ls) (suc (suc (length (ruleLabels names rs))))
-    ≡ exchangesBefore ls (length (ruleLabels names rs)) ++ (exchange names r ∷ [])
-unfolding exchangesBefore ruleLabels
-first-last names r ls [] = refl
-first-last names r ls (q ∷ rs) =
-    let n = length (ruleLabels names rs) in
-    let e : suc (suc n) + 1 ≡ suc (suc (n + 1)) = omega arith in
-    rw e (ap (λ (l : List Exchange). exchangeAt ls n ∷ l) (first-last names r ls rs))
-
-rules-read : (names : ℕ) (rs : List Rule) → exchangesIn (ruleLabels names rs) ≡ map (exchange names) (backwards rs)
-unfolding exchangesBefore ruleLabels backwards
-rules-read names [] = refl
-rules-read names (r ∷ rs) =
-    first-last names r (ruleLabels names rs) rs ∙ ap (λ (l : List Exchange). l ++ (exchange names r ∷ [])) (rules-read names rs)
-    ∙ sym (map-append (exchange names) (backwards rs) (r ∷ []))
 
 -- A label has no more actions than its number, so the number bounds the applications, and that of a left side is not 0.
 size-below : (a : Label) → size a ≤ number a
@@ -178,10 +140,6 @@ module _ (names : ℕ) (few : names ≤ 12) (rs : List Rule) (legal : Each (Lega
   abbrev known : Label → Bool
   known = listed names few rs legal numbers
 
-  -- what is listed of a label
-  pub gives : Label → List Label
-  gives a = whole names known (number a) (backwards rs) a []
-
   itself : (a : Label) → Packs names a → Packed names known rs legal a []
   itself a p = record { left = p; label = subst (Packs names) (sym (plus-none a)) p }
 
@@ -191,102 +149,128 @@ module _ (names : ℕ) (few : names ≤ 12) (rs : List Rule) (legal : Each (Lega
       let q = packs (x .source) (x .there) in
       subst (λ (b : Label). b ∈ N) (sym (number-injective a (x .source) (packs-small p) (packs-small q) (p .wide ∙ sym (q .wide)) (x .becomes))) (x .there)
 
-  gives-sound : (a : Label) → Packs names a → (b : Label) → b ∈ gives a → Comes names known rs legal a [] b
-  unfolding gives
-  gives-sound a p b m = whole-sound names known rs legal (number a) (backwards rs) (backwards-in rs) a [] (itself a p) b m
-
-  given-numbers : (a : Label) → Packs names a → followed (number a) numbers (map (exchange names) (backwards rs)) (number a) (number a) ≡ map number (gives a)
-  unfolding gives
-  given-numbers a p =
-      ap (λ (x : Label). followed (number a) numbers (map (exchange names) (backwards rs)) (number a) (number x)) (sym (plus-none a))
-      ∙ followed-agrees names few rs legal numbers (number a) (backwards rs) (backwards-in rs) a [] (itself a p)
-
-  module _ (room : ℕ) where
-    each-given : (a : Label) (M : List Label) → Packs names a → AllPack names M
-        → Result names room (gives a ++ M) (closed room numbers (map (exchange names) (backwards rs)) (number a) (map number (ascending M)))
-    each-given a M p q =
-        subst (λ (l : List ℕ). Result names room (gives a ++ M) (entered room l (map number (ascending M)))) (sym (given-numbers a p))
-        (entered-outcome names room (gives a) M (λ c m. gives-sound a p c m .packs) q)
-
-  -- Nothing is missing: by the size of the labels, since what comes of another label of the operand comes of a smaller one.
-  module _ (In : Label → Type 0)
-      (either : (a : Label) → a ∈ N → ((b : Label) → b ∈ gives a → In b) ⊎ ((b : Label) → Communicates names rs a [] b → In b)) where
-    none-missing : (most : ℕ) (a : Label) → size a < most → a ∈ N → (b : Label) → Communicates names rs a [] b → In b
-    unfolding gives
-    none-missing (suc most) a h m b c = elim (either a m) [
-      | inr old ↦ old b c
-      | inl new ↦
-          elim (complete names known rs legal (number a) (backwards rs) (backwards-in rs) (in-backwards rs) a [] (itself a (packs a m)) (size-below a) b c) [
-            | inl k ↦ new b k
-            | inr x ↦ none-missing most (x .label) (omega (arith, x .less, ap size (plus-none a))) (listed-there (x .label) (x .packs) (x .itself)) b (x .by)
-          ]
-    ]
-
-  -- Where the set has what comes of some labels of the operand, and the others are gone through, it becomes what comes of all.
   abbrev image′ : Label → List Label
   image′ = image names (comm rs)
 
   image-is : (a b : Label) → (b ∈ image′ a) ↔ Communicates names rs a [] b
   image-is a b = bound-loses-nothing names rs legal (size a) a [] b (le-refl (size a))
 
+  moves : (K L : List Label) → Within K L → Within L K → Anything K → Anything L
+  moves K L w v i = tt
+
+  -- The rules are followed in some order, which may have one twice; what is listed of a label depends on it.
+  module _ (qs : List Rule) (of : (r : Rule) → r ∈ qs → r ∈ rs) (all : (r : Rule) → r ∈ rs → r ∈ qs) where
+    abbrev followedRules : List Exchange
+    followedRules = map (exchange names) qs
+
+    pub gives-by : Label → List Label
+    gives-by a = whole names known (number a) qs a []
+
+    gives-sound : (a : Label) → Packs names a → (b : Label) → b ∈ gives-by a → Comes names known rs legal a [] b
+    unfolding gives-by
+    gives-sound a p b m = whole-sound names known rs legal (number a) qs of a [] (itself a p) b m
+
+    given-numbers : (a : Label) → Packs names a → followed (number a) numbers followedRules (number a) (number a) ≡ map number (gives-by a)
+    unfolding gives-by
+    given-numbers a p =
+        ap (λ (x : Label). followed (number a) numbers followedRules (number a) (number x)) (sym (plus-none a))
+        ∙ followed-agrees names few rs legal numbers (number a) qs of a [] (itself a p)
+
+    module _ (room : ℕ) where
+      each-given : (a : Label) (M : List Label) → Packs names a → AllPack names M
+          → Result names room (gives-by a ++ M) (closed room numbers followedRules (number a) (map number (ascending M)))
+      each-given a M p q =
+          subst (λ (l : List ℕ). Result names room (gives-by a ++ M) (entered room l (map number (ascending M)))) (sym (given-numbers a p))
+          (entered-outcome names room (gives-by a) M (λ c m. gives-sound a p c m .packs) q)
+
+      rows-given : (l M : List Label) → AllPack names l → AllPack names M
+          → Result names room (spread gives-by l ++ M) (each (closed room numbers followedRules) (map number l) (map number (ascending M)))
+      rows-given l M p q = each-outcome names room Anything moves (closed room numbers followedRules) gives-by (λ a K r s i. each-given a K r s) l M p q tt
+
+    -- Nothing is missing: by the size of the labels, since what comes of another label of the operand comes of a smaller one.
+    module _ (In : Label → Type 0)
+        (either : (a : Label) → a ∈ N → ((b : Label) → b ∈ gives-by a → In b) ⊎ ((b : Label) → Communicates names rs a [] b → In b)) where
+      none-missing : (most : ℕ) (a : Label) → size a < most → a ∈ N → (b : Label) → Communicates names rs a [] b → In b
+      unfolding gives-by
+      none-missing (suc most) a h m b c = elim (either a m) [
+        | inr old ↦ old b c
+        | inl new ↦ elim (complete names known rs legal (number a) qs of all a [] (itself a (packs a m)) (size-below a) b c) [
+          | inl k ↦ new b k
+          | inr x ↦ none-missing most (x .label) (omega (arith, x .less, ap size (plus-none a))) (listed-there (x .label) (x .packs) (x .itself)) b (x .by)
+        ]
+      ]
+
+    -- Where the set has what comes of some labels of the operand, and the others are gone through, it becomes what comes of all.
+    module _ (l L M : List Label) (new : Within l N) (split : (a : Label) → a ∈ N → (a ∈ l) ⊎ (a ∈ L)) (old : Within (spread image′ L) M)
+        (there : Within M (spread image′ N)) where
+      outer : Within (spread gives-by l ++ M) (spread image′ N)
+      outer b m = elim (in-append b (spread gives-by l) M .0 m) [
+        | inl k ↦
+            let x = in-spread→ gives-by l b k in
+            let n = new (x .source) (x .there) in
+            in-spread image′ N (x .source) b n (image-is (x .source) b .1 (gives-sound (x .source) (packs (x .source) n) b (x .gives) .by))
+        | inr k ↦ there b k
+      ]
+
+      abbrev In : Label → Type 0
+      In b = b ∈ (spread gives-by l ++ M)
+
+      either′ : (a : Label) → a ∈ N → ((b : Label) → b ∈ gives-by a → In b) ⊎ ((b : Label) → Communicates names rs a [] b → In b)
+      either′ a m = elim (split a m) [
+        | inl k ↦ inl (λ b j. in-append b (spread gives-by l) M .1 (inl (in-spread gives-by l a b k j)))
+        | inr k ↦ inr (λ b c. in-append b (spread gives-by l) M .1 (inr (old b (in-spread image′ L a b k (image-is a b .1 c)))))
+      ]
+
+      inner : Within (spread image′ N) (spread gives-by l ++ M)
+      inner b m =
+          let x = in-spread→ image′ N b m in
+          none-missing In either′ (suc (size (x .source))) (x .source) (omega arith) (x .there) b (image-is (x .source) b .0 (x .gives))
+
+      pub outcome-by : (room : ℕ) → AllPack names M
+          → Result names room (spread image′ N) (each (closed room numbers followedRules) (map number l) (map number (ascending M)))
+      outcome-by room q =
+          outcome-same names room Anything moves (spread gives-by l ++ M) (spread image′ N) _ outer inner
+          (rows-given room l M (λ a m. packs a (new a m)) q)
+
+    -- The same apart from the set: what is listed of the new labels is of what comes of all, and all of that but for what comes of the
+    -- others.
+    module _ (l L : List Label) (new : Within l N) (old : Within L N) (split : (a : Label) → a ∈ N → (a ∈ l) ⊎ (a ∈ L)) where
+      of-others : Within (spread image′ L) (spread image′ N)
+      of-others b m = let x = in-spread→ image′ L b m in in-spread image′ N (x .source) b (old (x .source) (x .there)) (x .gives)
+
+      pub there-by : Within (spread gives-by l) (spread image′ N)
+      there-by b m =
+          outer l L (spread image′ L) new split (λ a k. k) of-others b (in-append b (spread gives-by l) (spread image′ L) .1 (inl m))
+
+      pub back-by : (b : Label) → b ∈ spread image′ N → (b ∈ spread gives-by l) ⊎ (b ∈ spread image′ L)
+      back-by b m =
+          in-append b (spread gives-by l) (spread image′ L) .0 (inner l L (spread image′ L) new split (λ a k. k) of-others b m)
+
+      pub listed-by : (room : ℕ) → Result names room (spread gives-by l) (each (closed room numbers followedRules) (map number l) [])
+      unfolding ascending
+      listed-by room =
+          outcome-same names room Anything moves (spread gives-by l ++ []) (spread gives-by l) _
+          (λ b m. elim (in-append b (spread gives-by l) [] .0 m) [ inl k ↦ k | inr k ↦ absurd k ])
+          (λ b m. in-append b (spread gives-by l) [] .1 (inl m))
+          (rows-given room l [] (λ a m. packs a (new a m)) (λ a m. absurd m))
+
+  -- The rules as they stand in a list of labels.
+  abbrev pub gives : Label → List Label
+  gives = gives-by (backwards rs) (backwards-in rs) (in-backwards rs)
+
   module _ (l L M : List Label) (new : Within l N) (split : (a : Label) → a ∈ N → (a ∈ l) ⊎ (a ∈ L)) (old : Within (spread image′ L) M)
       (there : Within M (spread image′ N)) where
-    outer : Within (spread gives l ++ M) (spread image′ N)
-    outer b m = elim (in-append b (spread gives l) M .0 m) [
-      | inl k ↦
-          let x = in-spread→ gives l b k in
-          let n = new (x .source) (x .there) in
-          in-spread image′ N (x .source) b n (image-is (x .source) b .1 (gives-sound (x .source) (packs (x .source) n) b (x .gives) .by))
-      | inr k ↦ there b k
-    ]
-
-    abbrev In : Label → Type 0
-    In b = b ∈ (spread gives l ++ M)
-
-    either′ : (a : Label) → a ∈ N → ((b : Label) → b ∈ gives a → In b) ⊎ ((b : Label) → Communicates names rs a [] b → In b)
-    either′ a m = elim (split a m) [
-      | inl k ↦ inl (λ b j. in-append b (spread gives l) M .1 (inl (in-spread gives l a b k j)))
-      | inr k ↦ inr (λ b c. in-append b (spread gives l) M .1 (inr (old b (in-spread image′ L a b k (image-is a b .1 c)))))
-    ]
-
-    inner : Within (spread image′ N) (spread gives l ++ M)
-    inner b m =
-        let x = in-spread→ image′ N b m in
-        none-missing In either′ (suc (size (x .source))) (x .source) (omega arith) (x .there) b (image-is (x .source) b .0 (x .gives))
-
     pub comm-outcome : (room : ℕ) → AllPack names M
         → Result names room (spread image′ N) (each (closed room numbers (exchangesIn (ruleLabels names rs))) (map number l) (map number (ascending M)))
-    comm-outcome room q =
-        let moves : (K L′ : List Label) → Within K L′ → Within L′ K → Anything K → Anything L′ = λ K L′ w v i. tt in
-        outcome-same names room Anything moves (spread gives l ++ M) (spread image′ N) _ outer inner
-        (subst (λ (xs : List Exchange). Result names room (spread gives l ++ M) (each (closed room numbers xs) (map number l) (map number (ascending M))))
-        (sym (rules-read names rs))
-        (each-outcome names room Anything moves (closed room numbers (map (exchange names) (backwards rs))) gives (λ a K r s i. each-given room a K r s) l M
-        (λ a m. packs a (new a m)) q tt))
+    comm-outcome room q = rw (rules-read names rs) (outcome-by (backwards rs) (backwards-in rs) (in-backwards rs) l L M new split old there room q)
 
-  -- The same apart from the set: what is listed of the new labels is of what comes of all, and all of that but for what comes of the
-  -- others.
   module _ (l L : List Label) (new : Within l N) (old : Within L N) (split : (a : Label) → a ∈ N → (a ∈ l) ⊎ (a ∈ L)) where
-    of-others : Within (spread image′ L) (spread image′ N)
-    of-others b m = let x = in-spread→ image′ L b m in in-spread image′ N (x .source) b (old (x .source) (x .there)) (x .gives)
-
     pub comm-there : Within (spread gives l) (spread image′ N)
-    comm-there b m =
-        outer l L (spread image′ L) new split (λ a k. k) of-others b (in-append b (spread gives l) (spread image′ L) .1 (inl m))
+    comm-there = there-by (backwards rs) (backwards-in rs) (in-backwards rs) l L new old split
 
     pub comm-back : (b : Label) → b ∈ spread image′ N → (b ∈ spread gives l) ⊎ (b ∈ spread image′ L)
-    comm-back b m =
-        in-append b (spread gives l) (spread image′ L) .0 (inner l L (spread image′ L) new split (λ a k. k) of-others b m)
+    comm-back = back-by (backwards rs) (backwards-in rs) (in-backwards rs) l L new old split
 
     pub comm-listed : (room : ℕ)
         → Result names room (spread gives l) (each (closed room numbers (exchangesIn (ruleLabels names rs))) (map number l) [])
-    unfolding ascending
-    comm-listed room =
-        let moves : (K L′ : List Label) → Within K L′ → Within L′ K → Anything K → Anything L′ = λ K L′ w v i. tt in
-        outcome-same names room Anything moves (spread gives l ++ []) (spread gives l) _
-        (λ b m. elim (in-append b (spread gives l) [] .0 m) [ inl k ↦ k | inr k ↦ absurd k ])
-        (λ b m. in-append b (spread gives l) [] .1 (inl m))
-        (subst (λ (xs : List Exchange). Result names room (spread gives l ++ []) (each (closed room numbers xs) (map number l) []))
-        (sym (rules-read names rs))
-        (each-outcome names room Anything moves (closed room numbers (map (exchange names) (backwards rs))) gives (λ a K r s i. each-given room a K r s) l []
-        (λ a m. packs a (new a m)) (λ a m. absurd m) tt))
+    comm-listed room = rw (rules-read names rs) (listed-by (backwards rs) (backwards-in rs) (in-backwards rs) l L new old split room)

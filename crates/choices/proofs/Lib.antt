@@ -7,6 +7,10 @@ pub mod InOrder
 pub mod Unfolding
 -- covered: of two states with the same label, the one with no less left of what rules take gives what the other gives
 pub mod Covering
--- comm-outcome: on the numbers of the labels of an operand the walk gives the comm of the labels, or passes a limit; comm-there,
--- comm-back, comm-listed: what is listed of some of its labels, apart from a set
+-- exchanges-read, rules-read: rules are read from the last to the first; backwards-in, in-backwards: that leaves none out; exchange,
+-- rules-stored: a rule of a description as it is stored
+pub mod Reading
+-- outcome-by: on the numbers of the labels of an operand the walk gives the comm of the labels, or passes a limit, with the rules in any
+-- order; gives-by, there-by, back-by, listed-by: what is listed of some of its labels, apart from a set; comm-outcome, gives, comm-there,
+-- comm-back, comm-listed: the same with the rules as they are read from a list
 pub mod Communication

@@ -8,6 +8,10 @@ use Rattle.rules.specs.declared.Step.{Step}
 use Rattle.rules.specs.declared.Step.the-variants.{Nothing, To}
 use Rattle.rules.specs.Rules.{Exchange, stepOf}
 
+-- A rule as it stands in a list of labels.
+abbrev pub sides : Exchange → List ℕ
+sides r = r .left ∷ r .right ∷ []
+
 -- what goes on from where a rule leads
 abbrev pub after : (ℕ → ℕ → List ℕ) → Step → List ℕ
 after more Nothing = []

@@ -2,8 +2,8 @@
 use crate::following::put;
 use areas::rows::labels_in;
 use areas::rows::read_label;
-use labels::bags::size;
 use memory::MEMORY_LABELS;
+use ordering::many_choices;
 use parts::placing::reach;
 use rules::State;
 use sets::Built;
@@ -15,26 +15,6 @@ ghost use Rattle.areas.specs.Rows.{held};
 ghost use Rattle.parts.specs.Parts.{setAt};
 ghost use Rattle.exchanges.specs.Closing.{Closes};
 ghost use Rattle.exchanges.specs.Following.{Walking};
-
-// A label of fewer actions has so few choices of parts, and so has any under a single rule, that a memory would cost more than it
-// spares.
-const LONG: u64 = 8;
-
-// Whether a memory is worth its cost: there are several rules, and a label has many actions. It decides on the time that is taken
-// and on nothing else.
-fn many_choices(labels: &[u64], rules: &[u64]) -> bool {
-    if labels_in(rules) <= 2 {
-        return false;
-    }
-    let mut i = 0;
-    while i < labels_in(labels) {
-        if LONG <= size(read_label(labels, i)) {
-            return true;
-        }
-        i += 1;
-    }
-    false
-}
 
 // Each label in turn, with a memory that is kept from one to the next.
 fn put_each(
@@ -102,7 +82,7 @@ fn put_each_long(
 }
 
 // The labels of a row, which are all labels of an operand or some of them, each with all that comes of it by rules but what comes
-// of another label of the operand.
+// of another label of the operand. A memory costs more than it spares where there is little to choose from.
 pub fn close_each(
     labels: &[u64],
     operand: &[u64],

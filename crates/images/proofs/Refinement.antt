@@ -1,6 +1,6 @@
 -- What each way without rules makes of the numbers of labels: the numbers of what the operators make of the labels.
 -- Assumes nothing.
-use mathlib.Core.Path.{_≡_, refl, sym, subst, _∙_}
+use mathlib.Core.Path.{_≡_, refl, sym, ap₂, subst, _∙_}
 use mathlib.Core.Logic.{inl, inr, _↔_}
 use mathlib.Core.Bool.{Bool, true, false, _||_}
 use mathlib.Core.List.{List, [], _∷_, _++_, map}
@@ -8,25 +8,30 @@ use Prim.Native.Nat.{ℕ, _≤_, _<_}
 use native.Mathlib.Omega.{arith}
 use native.Mathlib.Decide.{decLt}
 use borrow.Author.Tests.{eq-eqb, ne-eqb}
-use lib.Dec.{eqb}
+use lib.Dec.{T, eqb}
 use Rattle.meaning.specs.Labels.{Label, size, number, isTau, clear, without, renamed}
-use Rattle.meaning.specs.Sets.{member, ascending, spread, kept, keep, turn}
+use Rattle.meaning.specs.Sets.{_∈_, member, Rising, ascending, spread, kept, keep, turn}
 use Rattle.meaning.specs.Descriptions.{Pair}
 use Rattle.meaning.specs.Rounds.{target, allowed}
 use Rattle.meaning.specs.Legal.{Each, LegalLabel, LegalPair}
+use Rattle.meaning.proofs.Digits.{number-injective}
+use Rattle.meaning.proofs.Members.{in-map, in-map→, member→in, in→member}
 use Rattle.meaning.proofs.Maps.{size-without, size-renamed, length-without, length-renamed}
 use Rattle.labels.specs.Packing.{packed}
 use Rattle.labels.proofs.Sizes.{number-zero}
 use Rattle.areas.proofs.Entries.{labelWords, pairWords, pairsIn-pairWords}
-use Rattle.labels.proofs.Refinement.{Packs}
+use Rattle.labels.proofs.Refinement.{Packs, packs-small}
 use Rattle.names.proofs.Refinement.{clear-number, without-number, renamed-number}
 use Rattle.sets.specs.declared.Offer.the-variants.{Next}
+use Rattle.sets.specs.Inserting.{present}
 use Rattle.sets.specs.Building.{each}
+use Rattle.sets.proofs.Ascent.{insert-present}
+use Rattle.sets.proofs.Presence.{in-insert, in-present}
 use Rattle.sets.proofs.Outcomes.{Offered, none, one, Anything, Result, taken-outcome}
-use Rattle.sets.proofs.Refinement.{AllPack, compare-number, each-outcome}
+use Rattle.sets.proofs.Refinement.{AllPack, each-outcome}
 use Rattle.images.specs.declared.Way.{Way}
 use Rattle.images.specs.declared.Way.the-variants.{Copy, Block, Hide, Rename, Allow}
-use Rattle.images.specs.Allowing.{listedIn}
+use Rattle.images.specs.Allowing.{allowedIn}
 use Rattle.images.specs.Imaging.{pickOffer, offerOf, followsRules, imaged}
 
 -- A way that follows no rules: the other labels of the operand count for nothing.
@@ -66,8 +71,8 @@ rename-offers names few ps legal left a p =
     rw (pairsIn-pairWords ps left, renamed-number names ps a few legal p)
     (one (renamed names (target ps) a) (record { wide = length-renamed names (target ps) a 0; few = omega arith }))
 
--- Allow: listed, or tau.
-pub eqb-zero : (m n : ℕ) → (m ≡ 0) ↔ (n ≡ 0) → eqb m 0 ≡ eqb n 0
+-- Allow: found in the list, or tau. Of an ascending list that is what the list has, and tau.
+eqb-zero : (m n : ℕ) → (m ≡ 0) ↔ (n ≡ 0) → eqb m 0 ≡ eqb n 0
 eqb-zero m n h = elim (decLt 0 m) [
   | yes l ↦
       let z : n ≡ 0 → ⊥ = λ e. let k = h .1 e in omega arith in
@@ -80,15 +85,27 @@ pub listed-packs : (names : ℕ) (ls : List Label) → Each (LegalLabel names) l
 listed-packs names (b ∷ ls) h a (inl e) = subst (Packs names) (sym e) (record { wide = h .0 .0; few = h .0 .2 })
 listed-packs names (b ∷ ls) h a (inr m) = listed-packs names ls (h .1) a m
 
-pub member-number : (names : ℕ) (a : Label) (ls : List Label) → Packs names a → AllPack names ls
-    → listedIn (number a) (map number ls) ≡ member a ls
-unfolding listedIn member
-member-number names a [] p q = refl
-member-number names a (b ∷ ls) p q =
-    rw (compare-number names a b p (q b (inl refl)), member-number names a ls p (λ c m. q c (inr m)))
+-- a number that is found is put in where it stands already, so the list has it
+found-in : (s : List ℕ) (w : ℕ) → Rising s → present s w ≡ true → w ∈ s
+found-in s w r e = subst (λ (t : List ℕ). w ∈ t) (insert-present s w r e) (in-insert w s w .1 (inl refl))
 
-pub allow-offers : (names : ℕ) (ls : List Label) → AllPack names ls → (a : Label) → Packs names a
-    → Offered names (offerOf Allow (labelWords ls) (number a)) (keep (allowed ls) a)
-unfolding allowed isTau
-allow-offers names ls q a p =
-    rw (member-number names a ls p q, sym (eqb-zero (size a) (number a) (number-zero a))) (kept-offers (eqb (size a) 0 || member a ls) a p)
+module _ (names : ℕ) (ls : List Label) (q : AllPack names ls) (r : Rising (map number ls)) (a : Label) (p : Packs names a) where
+  member-number : present (map number ls) (number a) ≡ member a ls
+  member-number = go (present (map number ls) (number a)) (member a ls) refl refl
+    where
+      go : (found there : Bool) → present (map number ls) (number a) ≡ found → member a ls ≡ there → found ≡ there
+      go true true e f = refl
+      go false false e f = refl
+      go true false e f =
+          let x = in-map→ number ls (number a) (found-in (map number ls) (number a) r e) in
+          let b = q (x .source) (x .there) in
+          let same = number-injective a (x .source) (packs-small p) (packs-small b) (p .wide ∙ sym (b .wide)) (x .becomes) in
+          absurd (subst T f (in→member a ls (subst (λ (c : Label). c ∈ ls) (sym same) (x .there))))
+      go false true e f = sym e ∙ in-present (map number ls) (number a) r (in-map number ls a (member→in a ls (subst T (sym f) tt)))
+
+  pub allowed-number : allowedIn (number a) (map number ls) ≡ allowed ls a
+  unfolding allowed isTau
+  allowed-number = ap₂ _||_ (sym (eqb-zero (size a) (number a) (number-zero a))) member-number
+
+  pub allow-offers : Offered names (offerOf Allow (labelWords ls) (number a)) (keep (allowed ls) a)
+  allow-offers = rw allowed-number (kept-offers (allowed ls a) a p)

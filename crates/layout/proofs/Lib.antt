@@ -8,6 +8,8 @@ pub mod Carries
 -- are; standing-as: the same of equal sets; standing-start: empty sets; sizes-mono, length-joined, sizes-joined: how many labels there
 -- are together; joined-here, joined-other: the sets with new labels in one of them
 pub mod Stands
+-- woven-single: the promise of `put_between` where there is one new label
+pub mod Singles
 -- planned, plan-within, pick-small, anew-start, anew-within, anew-step, anew-end: the loop of `lay_anew`
 pub mod Layings
 -- denies, affirms: the promise of `movable`; copied, unmoved, moved-set: that of `move_set`; unwoven, woven-set: that of `weave_into`;

@@ -5,7 +5,7 @@ mod laying;
 mod weaving;
 
 use crate::laying::lay_anew;
-use crate::weaving::weave;
+use crate::weaving::put_between;
 use areas::rows::labels_in;
 use extents::part_at;
 use extents::set_part;
@@ -40,7 +40,7 @@ fn weave_into(work: &mut [u64], sets: &mut [usize], n: usize, news: &[u64])
     if set.to < set.from || end < set.to || end - set.to < count {
         return;
     }
-    weave(work, set.from, set.to, news);
+    put_between(work, set.from, set.to, news);
     set_part(
         sets,
         n,

@@ -9,7 +9,10 @@ use native.Mathlib.Omega.{arith}
 use lib.ListN.{length, getD, take, drop, set, replicate, length-append, length-take, length-drop, length-replicate}
 use lib.Seq.{drop-cons, take-all, paste, paste-zero, paste-suc}
 use Rattle.meaning.specs.Labels.{number, single}
+use Rattle.ordering.specs.Ordering.{rulesFor, listFor}
+use Rattle.ordering.proofs.SameRules.{taken-for}
 use Rattle.operators.specs.Exchanging.{exchangeWords, exchangeList}
+use Rattle.operators.specs.Operators.{ruleList}
 
 pub exchange-shorter : (ws : List ℕ) → length (exchangeWords ws) ≤ length ws
 unfolding exchangeWords
@@ -98,10 +101,14 @@ over-end ws list i o h =
 pub first-few : (ws rs : List ℕ) → rs ≡ take 16 ws → length rs ≤ 16
 first-few ws rs e = omega (arith, ap length e, length-take 16 ws)
 
-pub lent-within : (rs list : List ℕ) → length rs ≤ 16 → list ≡ exchangeList rs → length rs ≤ length list
-lent-within rs list h e =
+lent-within : (rs : List ℕ) → length rs ≤ 16 → length rs ≤ length (exchangeList rs)
+lent-within rs h =
     let n = length (exchangeWords rs) in
-    omega (arith, ap length e, length-append (exchangeWords rs) (zeros (16 - n)), length-zeros (16 - n), exchange-shorter rs)
+    omega (arith, length-append (exchangeWords rs) (zeros (16 - n)), length-zeros (16 - n), exchange-shorter rs)
 
-pub lent-length : (rs list : List ℕ) → length rs ≤ 16 → list ≡ exchangeList rs → length rs ≡ length (take (length rs) list)
-lent-length rs list h e = omega (arith, length-take (length rs) list, lent-within rs list h e)
+pub lent-rules : (labels ws : List ℕ) {rs list chosen : List ℕ} → rs ≡ take 16 ws → list ≡ exchangeList rs → chosen ≡ listFor labels (length rs) list
+    → take (length rs) chosen ≡ rulesFor labels (ruleList ws)
+lent-rules labels ws {rs} e f g =
+    ap (take (length rs)) (g ∙ ap (listFor labels (length rs)) f)
+    ∙ taken-for labels (length rs) (exchangeList rs) (lent-within rs (first-few ws rs e))
+    ∙ ap (λ (l : List ℕ). rulesFor labels (take (length l) (exchangeList l))) e

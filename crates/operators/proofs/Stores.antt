@@ -13,6 +13,7 @@ use Rattle.table.specs.Encoded as T
 use Rattle.table.proofs.TableTerms.{length-ruleWords, list-stored}
 use Rattle.areas.proofs.Entries.{pairWords, labelWords, ruleLabels}
 use Rattle.labels.proofs.Refinement.{single-number}
+use Rattle.ordering.specs.Ordering.{rulesFor}
 use Rattle.images.specs.declared.Way.{Way}
 use Rattle.images.specs.declared.Way.the-variants.{Block, Hide, Rename, Comm, Allow}
 use Rattle.operators.specs.Exchanging.{exchangeWords, exchangeList}
@@ -26,12 +27,12 @@ wayOf (rename ps) = Rename
 wayOf (comm rs) = Comm
 wayOf (allow ls) = Allow
 
-abbrev pub wayWords : ℕ → Operator → List ℕ
-wayWords names (block ns) = ns
-wayWords names (hide ns) = ns
-wayWords names (rename ps) = pairWords ps
-wayWords names (comm rs) = ruleLabels names rs
-wayWords names (allow ls) = labelWords ls
+abbrev pub wayWords : (labels : List ℕ) (names : ℕ) → Operator → List ℕ
+wayWords labels names (block ns) = ns
+wayWords labels names (hide ns) = ns
+wayWords labels names (rename ps) = pairWords ps
+wayWords labels names (comm rs) = rulesFor labels (ruleLabels names rs)
+wayWords labels names (allow ls) = labelWords ls
 
 -- The words of rules, as they are stored and as they are taken.
 rules-exchanged : (n : ℕ) → n ≤ 12 → (rs : List Rule) → Each (LegalRule n) rs → exchangeWords (T.ruleWords rs) ≡ ruleLabels n rs
@@ -60,9 +61,11 @@ module _ (d : Description) (o : Order) (n t : ℕ) (h : n < termCount d) (few : 
   way-same (comm rs) = refl
   way-same (allow ls) = refl
 
-  pub words-same : (op : Operator) → termAt d n ≡ wrap op t → LegalOperator (names d) op → wordsFor (T.storeOf d o) (T.operatorFor n op) ≡ wayWords (names d) op
-  words-same (block ns) e l = list-stored d o few narrow n h (block ns) e l
-  words-same (hide ns) e l = list-stored d o few narrow n h (hide ns) e l
-  words-same (rename ps) e l = list-stored d o few narrow n h (rename ps) e l
-  words-same (comm rs) e l = ap ruleList (list-stored d o few narrow n h (comm rs) e l) ∙ rule-list (names d) narrow rs (l .1) (l .2)
-  words-same (allow ls) e l = list-stored d o few narrow n h (allow ls) e l
+  pub words-same : (labels : List ℕ) (op : Operator) → termAt d n ≡ wrap op t → LegalOperator (names d) op
+      → wordsFor (T.storeOf d o) labels (T.operatorFor n op) ≡ wayWords labels (names d) op
+  words-same labels (block ns) e l = list-stored d o few narrow n h (block ns) e l
+  words-same labels (hide ns) e l = list-stored d o few narrow n h (hide ns) e l
+  words-same labels (rename ps) e l = list-stored d o few narrow n h (rename ps) e l
+  words-same labels (comm rs) e l =
+      ap (rulesFor labels) (ap ruleList (list-stored d o few narrow n h (comm rs) e l) ∙ rule-list (names d) narrow rs (l .1) (l .2))
+  words-same labels (allow ls) e l = list-stored d o few narrow n h (allow ls) e l

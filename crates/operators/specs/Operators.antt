@@ -12,6 +12,7 @@ use Rattle.images.specs.declared.Way.the-variants.{Block, Hide, Rename, Comm, A
 use Rattle.sets.specs.declared.Built.{Built}
 use Rattle.sets.specs.Building.{Building, each, GrownAt}
 use Rattle.extents.specs.Extents.{atStart}
+use Rattle.ordering.specs.Ordering.{rulesFor}
 use Rattle.images.specs.Imaging.{imaged}
 use Rattle.operators.specs.Exchanging.{exchangeList}
 
@@ -33,12 +34,13 @@ placeFor (O.Rename p) = p
 placeFor (O.Comm p) = p
 placeFor (O.Allow p) = p
 
-abbrev pub wordsFor : List ℕ → Operator → List ℕ
-wordsFor store (O.Block p) = wordsAt store p 1
-wordsFor store (O.Hide p) = wordsAt store p 1
-wordsFor store (O.Rename p) = wordsAt store p 1
-wordsFor store (O.Comm p) = ruleList (wordsAt store p 2)
-wordsFor store (O.Allow p) = wordsAt store p 1
+-- rules in the order in which they are followed from some labels
+abbrev pub wordsFor : (store labels : List ℕ) → Operator → List ℕ
+wordsFor store labels (O.Block p) = wordsAt store p 1
+wordsFor store labels (O.Hide p) = wordsAt store p 1
+wordsFor store labels (O.Rename p) = wordsAt store p 1
+wordsFor store labels (O.Comm p) = rulesFor labels (ruleList (wordsAt store p 2))
+wordsFor store labels (O.Allow p) = wordsAt store p 1
 
 -- what a way makes of labels of an operand goes into a set at the start of words of its own
 abbrev pub passed : ℕ → Way → (list labels operand : List ℕ) → List ℕ → Building

@@ -6,6 +6,8 @@ use crate::exchanging::first_rules;
 use exchanges::closing::close_each;
 use images::Way;
 use images::imaging::add_image;
+use ordering::in_order;
+use ordering::many_choices;
 use sets::Built;
 use slots::Operator;
 use slots::Place;
@@ -13,17 +15,31 @@ use table::lists::rule_words_of;
 use table::lists::words_of;
 ghost use mathlib.Core.Path.{_≡_};
 ghost use Rattle.areas.specs.Rows.{held};
+ghost use Prim.Native.Nat.{_≤_};
+ghost use Rattle.ordering.specs.Ordering.{rulesFor, listFor};
 ghost use Rattle.images.specs.declared.Way.the-variants.{Comm};
 ghost use Rattle.operators.specs.Operators.{Passes, ruleList, wayFor, placeFor, wordsFor};
 
-// No more words of the rules are lent than they have.
+// The rules as they are followed from some labels, in the first words of sixteen: in order where there is much to choose from, and
+// else as they stand.
+fn rules_for(labels: &[u64], list: [u64; 16], end: usize) -> [u64; 16]
+    requires { ⌜ end ≤ 16 ⌝ }
+    ensures { λ r. ⌜ held r ≡ listFor (held (now (labels .entry))) end (held list) ⌝ }
+{
+    if many_choices(labels, &list[..end]) {
+        return in_order(&list[..end]);
+    }
+    list
+}
+
+// The rules in the order in which they are followed. No more words of them are lent than they have.
 fn communicate(rules: &[u64], labels: &[u64], operand: &[u64], out: &mut [u64]) -> Built
-    ensures { λ r. ⌜ Passes Comm (ruleList (now (rules .entry))) (held (now (labels .entry))) (held (now (operand .entry)))
-        (held (now (out .entry))) (held (now (out .exit))) r ⌝ }
+    ensures { λ r. ⌜ Passes Comm (rulesFor (held (now (labels .entry))) (ruleList (now (rules .entry)))) (held (now (labels .entry)))
+        (held (now (operand .entry))) (held (now (out .entry))) (held (now (out .exit))) r ⌝ }
 {
     let first = first_rules(rules);
     let end = first.len();
-    let list = exchanges(first);
+    let list = rules_for(labels, exchanges(first), end);
     close_each(labels, operand, &list[..end], out, 0)
 }
 
@@ -61,8 +77,8 @@ pub fn through(
     operand: &[u64],
     out: &mut [u64],
 ) -> Built
-    ensures { λ r. ⌜ Passes (wayFor operator) (wordsFor (now (store .entry)) operator) (held (now (labels .entry))) (held (now (operand .entry)))
-        (held (now (out .entry))) (held (now (out .exit))) r ⌝ }
+    ensures { λ r. ⌜ Passes (wayFor operator) (wordsFor (now (store .entry)) (held (now (labels .entry))) operator) (held (now (labels .entry)))
+        (held (now (operand .entry))) (held (now (out .entry))) (held (now (out .exit))) r ⌝ }
 {
     let place = list_place(operator);
     match operator {

@@ -1,20 +1,18 @@
 -- The root's set cut to the order: in words as in labels.
 -- Assumes nothing.
-use mathlib.Core.Path.{_≡_, refl, sym, ap, ap₂}
+use mathlib.Core.Path.{_≡_, refl, ap}
 use mathlib.Core.Logic.{inl, inr}
-use mathlib.Core.Bool.{Bool, true, false, _||_}
+use mathlib.Core.Bool.{Bool, true, false}
 use mathlib.Core.List.{List, [], _∷_, _++_, map}
 use Prim.Native.Nat.{ℕ}
-use Rattle.meaning.specs.Labels.{Label, size, number, isTau}
+use Rattle.meaning.specs.Labels.{Label, number}
 use Rattle.meaning.specs.Sets.{spread, kept}
 use Rattle.meaning.specs.Descriptions.{Order, all, only}
 use Rattle.meaning.specs.Legal.{LegalOrder}
-use Rattle.meaning.specs.Rounds.{allowed}
 use Rattle.meaning.specs.Answers.{admits, cut}
 use Rattle.labels.proofs.Refinement.{Packs}
 use Rattle.sets.proofs.Refinement.{AllPack}
-use Rattle.labels.proofs.Sizes.{number-zero}
-use Rattle.images.proofs.Refinement.{eqb-zero, listed-packs, member-number}
+use Rattle.images.proofs.Refinement.{listed-packs, allowed-number}
 use Rattle.cutting.specs.Cutting.{allows, cutWords}
 
 -- whether an order is `all`, and the words of its list
@@ -27,10 +25,9 @@ listOf all = []
 listOf (only ls) = map number ls
 
 allows-number : (n : ℕ) (o : Order) (a : Label) → LegalOrder n o → Packs n a → allows (isAll o) (listOf o) (number a) ≡ admits o a
-unfolding allows allowed isTau
+unfolding allows
 allows-number n all a h p = refl
-allows-number n (only ls) a h p =
-    ap₂ _||_ (sym (eqb-zero (size a) (number a) (number-zero a))) (member-number n a ls p (listed-packs n ls (h .1)))
+allows-number n (only ls) a h p = allowed-number n ls (listed-packs n ls (h .1)) (h .2) a p
 
 pub cut-number : (n : ℕ) (o : Order) (s : List Label) → LegalOrder n o → AllPack n s → cutWords (isAll o) (listOf o) (map number s) ≡ map number (cut o s)
 unfolding cutWords cut spread

@@ -6,7 +6,9 @@ pub mod Turning
 pub mod Rounding
 -- midway-start: what the first round begins with
 pub mod Starting
--- ran: what is left of the last round
+-- answered-behind, -stable: what is left of the last round; ran: of all rounds in areas that are always enough
 pub mod Remains
+-- tried, tried-stable, tried-full: the rounds tried in small areas first
+pub mod Trying
 -- reached-unfit, reached-run: the promise of `until_stable`; reached-unique: it settles all
 pub mod Reaches

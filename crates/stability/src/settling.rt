@@ -6,27 +6,66 @@ use crate::stages::turn_on;
 use areas::clear;
 use extents::part_at;
 use keeping::settle;
-use parts::Part;
 ghost use Prim.Native.Nat.{_≤_};
 ghost use lib.ListN.{length};
+ghost use Rattle.extents.specs.Extents.{partAt};
 ghost use Rattle.keeping.specs.Settling.{whole};
-ghost use Rattle.stability.specs.Settling.{Concluded, RoundsRun};
+ghost use Rattle.stability.specs.Settling.{Concluded, RoundsRun, SmallTried};
+
+// An area is filled with zeros when it is made, and a small description needs little of it: filling areas that are always enough took
+// a fifth of its time. So the rounds are first tried with room for so many labels of all sets together. They are to be few, since what
+// a try in vain has worked out is lost.
+const FEW_LABELS: usize = 192;
+
+// The words of the work area that a try uses: two halves, each with room for that many labels.
+const FEW_WORDS: usize = 384;
 
 // What the last round came to: the root's set left alone, or nothing where a limit is passed.
-fn conclude(last: Last, root: Part, work: &mut [u64]) -> Found
+fn conclude(last: Last, sets: &[usize], root: usize, work: &mut [u64]) -> Found
     requires { ⌜ whole ≤ length (now work) ⌝ }
-    ensures { λ r. ⌜ Concluded last root (now (work .entry)) (now (work .exit)) r ⌝ }
+    ensures { λ r. ⌜ Concluded last (partAt (now (sets .entry)) root) (now (work .entry)) (now (work .exit)) r ⌝ }
 {
     let Last::Stable(rounds) = last else {
         clear(work, WORK_WORDS);
         return Found::TooLarge;
     };
-    Found::At(rounds, settle(work, root))
+    Found::At(rounds, settle(work, part_at(sets, root)))
 }
 
-// All rounds. The parts of 96 terms and the end of their half stand in one row, those of what is new in the terms and in 16 equations
-// in another; the log has room for as many labels as all sets may have together, and what a term is given for as many as one set may.
-pub fn run_rounds(
+// The rounds in small areas, from parts that are all 0. Where the room runs out nothing is known but that the words behind those that
+// are used are as before.
+fn try_small(
+    slots: &[u64],
+    store: &[u64],
+    bodies: &[usize],
+    terms: usize,
+    sets: &mut [usize],
+    work: &mut [u64],
+) -> Last
+    requires { ⌜ whole ≤ length (now work) ⌝ }
+    ensures { λ r. ⌜ SmallTried (now (slots .entry)) (now (store .entry)) (now (bodies .entry)) terms
+        (now (sets .entry)) (now (work .entry)) (now (sets .exit)) (now (work .exit)) r ⌝ }
+{
+    let mut news = [0usize; 224];
+    let mut log = [0u64; FEW_LABELS];
+    let mut out = [0u64; FEW_LABELS];
+    turn_on(
+        slots,
+        store,
+        bodies,
+        terms,
+        sets,
+        &mut news,
+        &mut work[..FEW_WORDS],
+        &mut log,
+        &mut out,
+    )
+}
+
+// All rounds, in areas that are always enough. The parts of 96 terms and the end of their half stand in one row, those of what is new
+// in the terms and in 16 equations in another; the log has room for as many labels as all sets may have together, and what a term is
+// given for as many as one set may.
+fn run_full(
     slots: &[u64],
     store: &[u64],
     bodies: &[usize],
@@ -52,5 +91,25 @@ pub fn run_rounds(
         &mut log,
         &mut out,
     );
-    conclude(last, part_at(&sets, root), work)
+    conclude(last, &sets, root, work)
+}
+
+// All rounds: in small areas if those are enough, and else once more from the first in full ones.
+pub fn run_rounds(
+    slots: &[u64],
+    store: &[u64],
+    bodies: &[usize],
+    terms: usize,
+    root: usize,
+    work: &mut [u64],
+) -> Found
+    requires { ⌜ whole ≤ length (now work) ⌝ }
+    ensures { λ r. ⌜ RoundsRun (now (slots .entry)) (now (store .entry)) (now (bodies .entry)) terms root (now (work .entry)) (now (work .exit)) r ⌝ }
+{
+    let mut sets = [0usize; 194];
+    let tried = try_small(slots, store, bodies, terms, &mut sets, work);
+    let Last::TooLarge = tried else {
+        return conclude(tried, &sets, root, work);
+    };
+    run_full(slots, store, bodies, terms, root, work)
 }

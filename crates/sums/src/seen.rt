@@ -17,8 +17,8 @@ ghost use Rattle.parts.specs.Parts.{setAt};
 ghost use Rattle.sets.specs.Building.{enter};
 ghost use Rattle.sums.specs.Seen.{isKept, Kept, GrownKept};
 
-// How many slots a table has: a prime number, so that labels that differ little have slots of their own.
-pub const SLOTS: usize = 2039;
+// How many slots a table has: a prime number by which nearly all labels over a few names have slots of their own.
+pub const SLOTS: usize = 3709;
 
 // The slot of a label. It decides on the time that is taken and on nothing else.
 fn slot(label: Label) -> usize {

@@ -53,8 +53,8 @@ fits c =
       omega (arith, ltb-false (end - set .to) count (c .if3 .left), ltb-false end (set .to) (c .before .before .if2 .left)),
     )
 
-weave-requires : tie.Need-weave-requires
-weave-requires c κs =
+put-between-requires : tie.Need-put-between-requires
+put-between-requires c κs =
     let f = fits (c .before) in
     let read = c .before .before .before .before .before .before .before in
     (f .0, omega (arith, f .1, read .labels-in2 .ensures, read .before .labels-in .ensures))
@@ -72,7 +72,7 @@ returns-2 : tie.Need-returns-2
 returns-2 c =
     let first = c .before .before .before .before .before .before .before in
     let at = first .before .before .before .before .before .before .before .before in
-    woven-set (at .before .before .before .part-at .ensures) (first .weave .ensures) (at .labels-in2 .ensures) (c .before .before .set-part .ensures)
+    woven-set (at .before .before .before .part-at .ensures) (first .put-between .ensures) (at .labels-in2 .ensures) (c .before .before .set-part .ensures)
 
 same-length-3 : tie.Need-same-length-3
 same-length-3 c = returns-2 c .longWork
@@ -91,7 +91,7 @@ weave-into-spec =
     same-length
     same-length-2
     returns
-    weave-requires
+    put-between-requires
     add-t21
     set-part-requires
     same-length-3

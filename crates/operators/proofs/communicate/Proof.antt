@@ -1,31 +1,33 @@
--- `operators::communicate` meets its contract: the rules are taken over, and no more words than they have are lent.
+-- `operators::communicate` meets its contract: the rules are taken over and put in order, and no more words than they have are lent.
 -- Assumes nothing.
+use Prim.Native.Nat.{_≤_}
+use native.Mathlib.Omega.{arith}
 use borrow.Author.Needs.{needs}
-use Rattle.operators.proofs.Exchanged.{first-few, lent-within, lent-length}
+use lib.ListN.{length, length-take}
+use Rattle.operators.proofs.Exchanged.{first-few, lent-rules}
 use Rattle.operators.proofs.communicate.Statement.{statement}
 use Rattle.operators.proofs.communicate.Tie as tie
 
 first-rules-requires : tie.Need-first-rules-requires
 first-rules-requires c κs = tt
 
+few : (c : tie.After-first-rules) → length (c .first-rules .result .now) ≤ 16
+few c = first-few (c .before .before .before .before .before .args .rules .now) (c .first-rules .result .now) (c .first-rules .ensures)
+
 exchanges-requires : tie.Need-exchanges-requires
-exchanges-requires c κs =
-    first-few (c .before .before .before .before .before .args .rules .now) (c .first-rules .result .now) (c .first-rules .ensures)
+exchanges-requires c κs = few c
+
+rules-for-requires : tie.Need-rules-for-requires
+rules-for-requires c κs = few (c .before)
 
 array-share-prefix-list : tie.Need-array-share-prefix-list
-array-share-prefix-list c =
-    let taken = c .before in
-    let first = taken .first-rules in
-    let few = first-few (taken .before .before .before .before .before .args .rules .now) (first .result .now) (first .ensures) in
-    lent-within (first .result .now) (c .exchanges .result) few (c .exchanges .ensures)
+array-share-prefix-list c = omega (arith, few (c .before .before))
 
 slice-aggregate-close-each : tie.Need-slice-aggregate-close-each
 slice-aggregate-close-each c =
-    let exchanged = c .before in
-    let taken = exchanged .before in
-    let first = taken .first-rules in
-    let few = first-few (taken .before .before .before .before .before .args .rules .now) (first .result .now) (first .ensures) in
-    lent-length (first .result .now) (exchanged .exchanges .result) few (exchanged .exchanges .ensures)
+    let chosen = c .before in
+    let first = chosen .before .before in
+    omega (arith, few first, length-take (length (first .first-rules .result .now)) (chosen .rules-for .result))
 
 close-each-requires : tie.Need-close-each-requires
 close-each-requires c κs = tt
@@ -36,10 +38,15 @@ same-length c = search needs
 returns : tie.Need-returns
 returns c =
     let added = c .before .before in
-    let exchanged = added .before .before .before in
-    rw (exchanged .exchanges .ensures, exchanged .before .first-rules .ensures) at (added .close-each .ensures)
+    let chosen = added .before .before .before in
+    let exchanged = chosen .before in
+    let first = exchanged .before in
+    let a = first .before .before .before .before .before .args in
+    rw (lent-rules (a .labels .now) (a .rules .now) (first .first-rules .ensures) (exchanged .exchanges .ensures) (chosen .rules-for .ensures))
+    at (added .close-each .ensures)
 
 pub communicate-spec : {M : Type 1} → statement M
 communicate-spec =
     tie.close
-    (tie.spec first-rules-requires exchanges-requires array-share-prefix-list slice-aggregate-close-each close-each-requires same-length returns)
+    (tie.spec first-rules-requires exchanges-requires rules-for-requires array-share-prefix-list slice-aggregate-close-each close-each-requires
+    same-length returns)

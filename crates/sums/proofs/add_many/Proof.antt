@@ -11,7 +11,7 @@ slice-aggregate-add-each c = search needs
 add-each-requires : tie.Need-add-each-requires
 add-each-requires c κs =
     let f = c .before .before .before .before .before in
-    kept-none 2039 (setAt 0 (f .args .len) (f .args .out .now)) (f .pre)
+    kept-none 3709 (setAt 0 (f .args .len) (f .args .out .now)) (f .pre)
 
 same-length : tie.Need-same-length
 same-length c = search needs

@@ -1,9 +1,16 @@
--- `images::allowing::allowed` meets its contract: tau passes, any other label if it is listed. Assumes nothing.
-use mathlib.Core.Path.{sym, ap, _∙_}
-use mathlib.Core.Bool.{_||_}
+-- `images::allowing::allowed` meets its contract: tau passes, any other label if it is found; the part that is searched is the whole
+-- list. Assumes nothing.
+use mathlib.Core.Path.{_≡_, sym, ap, _∙_}
+use mathlib.Core.Bool.{Bool, _||_}
+use mathlib.Core.List.{List}
+use Prim.Native.Nat.{ℕ, _≤_}
+use native.Mathlib.Omega.{arith}
 use borrow.Author.Needs.{needs}
 use lib.Dec.{eqb}
-use Rattle.images.specs.Allowing.{listedIn}
+use lib.ListN.{length, take}
+use lib.Seq.{take-all}
+use Rattle.labels.specs.declared.Label.{Label}
+use Rattle.sets.specs.Inserting.{present}
 use Rattle.images.proofs.allowing.allowed.Statement.{statement}
 use Rattle.images.proofs.allowing.allowed.Tie as tie
 
@@ -13,21 +20,31 @@ tau-requires c κs = search needs
 same-requires : tie.Need-same-requires
 same-requires c κs = search needs
 
-listed-requires : tie.Need-listed-requires
-listed-requires c κs = search needs
-
 returns : tie.Need-returns
 returns c =
     let a = c .before .before .before .before .args in
-    ap (λ t. t || listedIn (a .label .word) (a .list .now))
-    (sym (c .if1 .taken) ∙ c .before .same .ensures ∙ ap (λ x. eqb (a .label .word) (x .word)) (c .before .before .tau .ensures))
+    ap (λ (t : Bool). t || present (a .list .now) (a .label .word))
+    (sym (c .if1 .taken) ∙ c .before .same .ensures ∙ ap (λ (x : Label). eqb (a .label .word) (x .word)) (c .before .before .tau .ensures))
+
+labels-in-requires : tie.Need-labels-in-requires
+labels-in-requires c κs = search needs
+
+contains-requires : tie.Need-contains-requires
+contains-requires c κs = search needs
 
 returns-2 : tie.Need-returns-2
 returns-2 c =
-    let tested = c .before in
+    let counted = c .before in
+    let tested = counted .before in
     let a = tested .before .before .before .before .args in
-    let other = sym (tested .if1 .left) ∙ tested .before .same .ensures ∙ ap (λ x. eqb (a .label .word) (x .word)) (tested .before .before .tau .ensures) in
-    c .listed .ensures ∙ ap (λ t. t || listedIn (a .label .word) (a .list .now)) other
+    let end = counted .labels-in .result in
+    let most : length (a .list .now) ≤ end = omega (arith, counted .labels-in .ensures) in
+    let searched = ap (take end) (take-all end (a .list .now) most) ∙ take-all end (a .list .now) most in
+    let other = sym (tested .if1 .left) ∙ tested .before .same .ensures
+    ∙ ap (λ (x : Label). eqb (a .label .word) (x .word)) (tested .before .before .tau .ensures) in
+    c .contains .ensures
+    ∙ ap (λ (l : List ℕ). present l (a .label .word)) searched
+    ∙ ap (λ (t : Bool). t || present (a .list .now) (a .label .word)) other
 
 pub allowed-spec : {M : Type 1} → statement M
-allowed-spec = tie.close (tie.spec tau-requires same-requires listed-requires returns returns-2)
+allowed-spec = tie.close (tie.spec tau-requires same-requires returns labels-in-requires contains-requires returns-2)

@@ -1,41 +1,25 @@
--- `stability::settling::run_rounds` meets its contract: all rounds, and what is left of the last.
+-- `stability::settling::run_rounds` meets its contract: the rounds in small areas, or else in full ones.
 -- Assumes nothing.
-use mathlib.Core.Path.{sym, _∙_}
-use native.Mathlib.Nat.{min-eq-left}
+use mathlib.Core.Path.{refl}
 use borrow.Author.Needs.{needs}
-use lib.ListN.{length-take}
-use Rattle.stability.proofs.Remains.{ran}
+use Rattle.stability.proofs.Trying.{tried-stable, tried-full}
 use Rattle.stability.proofs.settling.run_rounds.Statement.{statement}
 use Rattle.stability.proofs.settling.run_rounds.Tie as tie
 
-slice-aggregate-turn-on : tie.Need-slice-aggregate-turn-on
-slice-aggregate-turn-on c = search needs
+slice-aggregate-try-small : tie.Need-slice-aggregate-try-small
+slice-aggregate-try-small c = refl
 
-slice-aggregate-turn-on-2 : tie.Need-slice-aggregate-turn-on-2
-slice-aggregate-turn-on-2 c = search needs
+try-small-requires : tie.Need-try-small-requires
+try-small-requires c κs = search needs
 
-slice-relend-prefix-turn-on : tie.Need-slice-relend-prefix-turn-on
-slice-relend-prefix-turn-on c = c .before .before .before .before .before .before .pre
+enum-told : tie.Need-enum-told
+enum-told c = c .match .keys1
 
-slice-aggregate-turn-on-3 : tie.Need-slice-aggregate-turn-on-3
-slice-aggregate-turn-on-3 c =
-    let start = c .before .before .before .before .before .before .before in
-    sym (length-take 4096 (start .args .work .now) ∙ min-eq-left (start .pre))
+enum-told-2 : tie.Need-enum-told-2
+enum-told-2 c = c .match .keys2
 
-slice-aggregate-turn-on-4 : tie.Need-slice-aggregate-turn-on-4
-slice-aggregate-turn-on-4 c = search needs
-
-slice-aggregate-turn-on-5 : tie.Need-slice-aggregate-turn-on-5
-slice-aggregate-turn-on-5 c = search needs
-
-turn-on-requires : tie.Need-turn-on-requires
-turn-on-requires c κs = search needs
-
-slice-aggregate-part-at : tie.Need-slice-aggregate-part-at
-slice-aggregate-part-at c = search needs
-
-part-at-requires : tie.Need-part-at-requires
-part-at-requires c κs = tt
+slice-aggregate-conclude : tie.Need-slice-aggregate-conclude
+slice-aggregate-conclude c = search needs
 
 conclude-requires : tie.Need-conclude-requires
 conclude-requires c κs = search needs
@@ -45,14 +29,25 @@ same-length c = search needs
 
 returns : tie.Need-returns
 returns c =
-    let placed = c .before .before .before .before in
-    let turned = placed .before .before .before .before .before .before .before .before in
-    let start = turned .before .before .before .before .before .before .before .before .before .before in
-    ran (start .args .root) (start .args .work .now) (start .pre) (turned .turn-on .result) (turned .turn-on .ensures)
-    (rw (placed .part-at .ensures) at (c .before .before .conclude .ensures))
+    let told = c .before .before .before .before .before in
+    let try = told .before .before .before .before .before in
+    let stable = told .enum-told2 .given .1 in
+    tried-stable (rw stable at (try .try-small .ensures)) (rw stable at (c .before .before .conclude .ensures))
+
+run-full-requires : tie.Need-run-full-requires
+run-full-requires c κs = search needs
+
+same-length-2 : tie.Need-same-length-2
+same-length-2 c = search needs
+
+returns-2 : tie.Need-returns-2
+returns-2 c =
+    let run = c .before .before in
+    let try = run .before .before .before .before .before .before .before in
+    tried-full (try .try-small .ensures) (run .run-full .ensures)
 
 pub run-rounds-spec : {M : Type 1} → statement M
 run-rounds-spec =
     tie.close
-    (tie.spec slice-aggregate-turn-on slice-aggregate-turn-on-2 slice-relend-prefix-turn-on slice-aggregate-turn-on-3 slice-aggregate-turn-on-4
-    slice-aggregate-turn-on-5 turn-on-requires slice-aggregate-part-at part-at-requires conclude-requires same-length returns)
+    (tie.spec slice-aggregate-try-small try-small-requires enum-told enum-told-2 slice-aggregate-conclude conclude-requires
+    same-length returns run-full-requires same-length-2 returns-2)
