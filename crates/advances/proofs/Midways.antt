@@ -22,7 +22,7 @@ use Rattle.layout.specs.Layout.{Standing, Grows, sizes, joinedAt}
 use Rattle.layout.proofs.Stands.{standing-as, joined-here, joined-other}
 use Rattle.deltas.specs.Deltas.{arrived, mixed, labelsIn}
 use Rattle.deltas.proofs.News.{before-rising, arrived-rising, arrived-apart, arrived-joined}
-use Rattle.deltas.proofs.Counting.{mixed-new, mixed-old, labels-advanced}
+use Rattle.deltas.proofs.Counting.{mixed-new, mixed-old, mixed-other, labels-advanced}
 use Rattle.arrivals.specs.Arriving.{newsOf}
 use Rattle.advances.specs.Advances.{Logged, Small, Midway}
 
@@ -71,19 +71,13 @@ module _ {d : D.Description} {k n : ℕ} {sets news work log out : List ℕ} {en
   count : length new ≡ length (arrived d (suc k) n)
   count = ap length e ∙ length-map (arrived d (suc k) n) number
 
-  other-stays : (t : ℕ) → (t ≡ n → ⊥) → mixed d k n t ≡ mixed d k (suc n) t
-  other-stays t o = elim (decLt t n) [
-    | yes l ↦ mixed-new d k n t l ∙ sym (mixed-new d k (suc n) t (omega arith))
-    | no l ↦ mixed-old d k n t (omega arith) ∙ sym (mixed-old d k (suc n) t (omega arith))
-  ]
-
   -- the sets with what is new in one more of them
   mixed-next : (t : ℕ) → joinedAt n new before t ≡ map number (mixed d k (suc n) t)
   mixed-next t = elim (ℕ-discrete t n) [
     | yes o ↦
         rw o (joined-here n new before ∙ ap₂ joined here e ∙ arrived-joined d k n (D.names d) p
         ∙ ap (map number) (sym (mixed-new d k (suc n) n (le-refl (suc n)))))
-    | no o ↦ joined-other n new before t o ∙ ap (map number) (other-stays t o)
+    | no o ↦ joined-other n new before t o ∙ ap (map number) (mixed-other d k n t o)
   ]
 
   module _ {end′ : ℕ} (to : end′ ≡ end + length new) (fits : end′ ≤ length log) where

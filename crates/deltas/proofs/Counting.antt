@@ -87,7 +87,7 @@ module _ (d : Description) (k : ℕ) where
   ]
 
   -- one term more
-  mixed-other : (n t : ℕ) → (t ≡ n → ⊥) → mixed d k n t ≡ mixed d k (suc n) t
+  pub mixed-other : (n t : ℕ) → (t ≡ n → ⊥) → mixed d k n t ≡ mixed d k (suc n) t
   mixed-other n t h = elim (decLt t n) [
     | yes l ↦ mixed-new n t l ∙ sym (mixed-new (suc n) t (omega arith))
     | no l ↦ mixed-old n t (omega arith) ∙ sym (mixed-old (suc n) t (omega arith))

@@ -8,7 +8,7 @@ pub mod Numbers
 -- in-arrived, arrived-or-before, arrived-ascends, arrived-length, all-new, adds-arrived: what is new in a round; arrived-joined,
 -- arrived-rising, before-rising, arrived-apart: on the numbers of labels
 pub mod News
--- labels-total, round-labels: the labels of all sets; mixed-new, mixed-old, mixed-none, mixed-all, mixed-next, labels-advanced,
+-- labels-total, round-labels: the labels of all sets; mixed-new, mixed-old, mixed-none, mixed-all, mixed-other, mixed-next, labels-advanced,
 -- labels-start, labels-end, labels-bound: the same while a round is worked out
 pub mod Counting
 -- none-arrived, stays-none: a set in which nothing is new stays; quiet-stable, stable-quiet: so does a round

@@ -6,9 +6,7 @@ pub mod Turning
 pub mod Rounding
 -- midway-start: what the first round begins with
 pub mod Starting
--- answered-behind, -stable: what is left of the last round; ran: of all rounds in areas that are always enough
+-- rounds-in: rounds in areas of any size; ran-stable, ran, ran-again: what is left of the last
 pub mod Remains
--- tried, tried-stable, tried-full: the rounds tried in small areas first
-pub mod Trying
 -- reached-unfit, reached-run: the promise of `until_stable`; reached-unique: it settles all
 pub mod Reaches

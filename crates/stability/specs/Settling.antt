@@ -20,7 +20,7 @@ use Rattle.stability.specs.declared.Found.{Found}
 use Rattle.stability.specs.declared.Found.the-variants as F
 use Rattle.stability.specs.declared.stages.Last.{Last}
 use Rattle.stability.specs.declared.stages.Last.the-variants as L
-use Rattle.stability.specs.Stages.{Stable}
+use Rattle.stability.specs.Stages.{LastEnds}
 use Rattle.stability.specs.Endings.{foundOf, labelsOf}
 
 -- Nothing but 0 where a limit is passed, else the root's set alone, if it stands in the words that are used.
@@ -33,16 +33,9 @@ pub record RoundsRun (slots store bodies : List ℕ) (terms root : ℕ) (work wo
       → slots ≡ tableOf d .slots → store ≡ storeOf d o → bodies ≡ d .bodies → terms ≡ D.termCount d → root ≡ d .root
       → (r ≡ foundOf (answer d D.all)) × (work′ ≡ alone (map number (labelsOf (answer d D.all))) work)
 
--- How many words a small try uses of the work area. Its sets stand there if it comes to a stable round; else nothing is said.
-abbrev pub fewWords : ℕ
-fewWords = 384
-
-abbrev pub TryEnds : D.Description → (sets work : List ℕ) → Last → Type 0
-TryEnds d sets work L.TooLarge = Unit {0}
-TryEnds d sets work (L.Stable k) = Stable d k sets (take fewWords work)
-
-pub record SmallTried (slots store bodies : List ℕ) (terms : ℕ) (sets work sets′ work′ : List ℕ) (r : Last) : Type 0 where
-  pub behind : drop whole work′ ≡ drop whole work
+-- The rounds in the first so many words of the work area, with a log for so many labels, from parts that are all 0.
+pub record RoundsIn (words most : ℕ) (slots store bodies : List ℕ) (terms : ℕ) (sets work sets′ work′ : List ℕ) (r : Last) : Type 0 where
+  pub behind : drop words work′ ≡ drop words work
   pub right : (d : D.Description) (o : D.Order) → Legal d D.all → SyncsJoin d
       → slots ≡ tableOf d .slots → store ≡ storeOf d o → bodies ≡ d .bodies → terms ≡ D.termCount d → sets ≡ replicate 194 0
-      → TryEnds d sets′ work′ r
+      → LastEnds d sets′ (take words work′) most r

@@ -28,11 +28,11 @@ pub record Stable (d : D.Description) (k : ℕ) (sets work : List ℕ) : Type 0 
   pub outcome : answer d D.all ≡ listed k (at (roundSets d k) (d .root))
   pub stands : Standing (D.termCount d) (λ t. map number (at (roundSets d k) t)) sets work
 
-abbrev pub LastEnds : D.Description → (sets work log : List ℕ) → Last → Type 0
-LastEnds d sets work log L.TooLarge = (answer d D.all ≡ tooLarge) ⊎ Passing d (length log)
-LastEnds d sets work log (L.Stable k) = Stable d k sets work
+abbrev pub LastEnds : D.Description → (sets work : List ℕ) (most : ℕ) → Last → Type 0
+LastEnds d sets work most L.TooLarge = (answer d D.all ≡ tooLarge) ⊎ Passing d most
+LastEnds d sets work most (L.Stable k) = Stable d k sets work
 
 pub record LastMade (slots store bodies : List ℕ) (terms : ℕ) (sets news work log out sets′ news′ work′ log′ out′ : List ℕ) (r : Last) : Type 0 where
   pub kept : Kept sets news work log out sets′ news′ work′ log′ out′
   pub right : (d : D.Description) (o : D.Order) → slots ≡ tableOf d .slots → store ≡ storeOf d o → bodies ≡ d .bodies → terms ≡ D.termCount d
-      → Midway d 0 0 sets news work log out 0 → LastEnds d sets′ work′ log′ r
+      → Midway d 0 0 sets news work log out 0 → LastEnds d sets′ work′ (length log′) r

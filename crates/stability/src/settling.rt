@@ -10,7 +10,7 @@ ghost use Prim.Native.Nat.{_≤_};
 ghost use lib.ListN.{length};
 ghost use Rattle.extents.specs.Extents.{partAt};
 ghost use Rattle.keeping.specs.Settling.{whole};
-ghost use Rattle.stability.specs.Settling.{Concluded, RoundsRun, SmallTried};
+ghost use Rattle.stability.specs.Settling.{Concluded, RoundsRun, RoundsIn};
 
 // An area is filled with zeros when it is made, and a small description needs little of it: filling areas that are always enough took
 // a fifth of its time. So the rounds are first tried with room for so many labels of all sets together. They are to be few, since what
@@ -19,6 +19,9 @@ const FEW_LABELS: usize = 192;
 
 // The words of the work area that a try uses: two halves, each with room for that many labels.
 const FEW_WORDS: usize = 384;
+
+// Descriptions of more terms mostly have more labels than a try has room for.
+const FEW_TERMS: usize = 20;
 
 // What the last round came to: the root's set left alone, or nothing where a limit is passed.
 fn conclude(last: Last, sets: &[usize], root: usize, work: &mut [u64]) -> Found
@@ -32,8 +35,7 @@ fn conclude(last: Last, sets: &[usize], root: usize, work: &mut [u64]) -> Found
     Found::At(rounds, settle(work, part_at(sets, root)))
 }
 
-// The rounds in small areas, from parts that are all 0. Where the room runs out nothing is known but that the words behind those that
-// are used are as before.
+// The rounds in small areas, from parts that are all 0. A limit that is passed may be that of these areas alone.
 fn try_small(
     slots: &[u64],
     store: &[u64],
@@ -43,7 +45,7 @@ fn try_small(
     work: &mut [u64],
 ) -> Last
     requires { ⌜ whole ≤ length (now work) ⌝ }
-    ensures { λ r. ⌜ SmallTried (now (slots .entry)) (now (store .entry)) (now (bodies .entry)) terms
+    ensures { λ r. ⌜ RoundsIn 384 192 (now (slots .entry)) (now (store .entry)) (now (bodies .entry)) terms
         (now (sets .entry)) (now (work .entry)) (now (sets .exit)) (now (work .exit)) r ⌝ }
 {
     let mut news = [0usize; 224];
@@ -94,7 +96,7 @@ fn run_full(
     conclude(last, &sets, root, work)
 }
 
-// All rounds: in small areas if those are enough, and else once more from the first in full ones.
+// All rounds: where there are few terms in small areas if those are enough, and else from the first in full ones.
 pub fn run_rounds(
     slots: &[u64],
     store: &[u64],
@@ -106,6 +108,9 @@ pub fn run_rounds(
     requires { ⌜ whole ≤ length (now work) ⌝ }
     ensures { λ r. ⌜ RoundsRun (now (slots .entry)) (now (store .entry)) (now (bodies .entry)) terms root (now (work .entry)) (now (work .exit)) r ⌝ }
 {
+    if FEW_TERMS < terms {
+        return run_full(slots, store, bodies, terms, root, work);
+    }
     let mut sets = [0usize; 194];
     let tried = try_small(slots, store, bodies, terms, &mut sets, work);
     let Last::TooLarge = tried else {

@@ -1,10 +1,10 @@
 -- `stability::settling::run_full` meets its contract: all rounds in areas that are always enough, and what is left of the last.
 -- Assumes nothing.
 use mathlib.Core.Path.{refl, sym, _∙_}
-use native.Mathlib.Nat.{le-refl, min-eq-left}
+use native.Mathlib.Nat.{min-eq-left}
 use borrow.Author.Needs.{needs}
 use lib.ListN.{length-take}
-use Rattle.stability.proofs.Remains.{lent-long, ran}
+use Rattle.stability.proofs.Remains.{full-sizes, rounds-in, ran}
 use Rattle.stability.proofs.settling.run_full.Statement.{statement}
 use Rattle.stability.proofs.settling.run_full.Tie as tie
 
@@ -29,26 +29,24 @@ slice-aggregate-turn-on-5 : tie.Need-slice-aggregate-turn-on-5
 slice-aggregate-turn-on-5 c = refl
 
 turn-on-requires : tie.Need-turn-on-requires
-turn-on-requires c κs = le-refl 2048
+turn-on-requires c κs = full-sizes .logs
 
 slice-aggregate-conclude : tie.Need-slice-aggregate-conclude
 slice-aggregate-conclude c = search needs
 
 conclude-requires : tie.Need-conclude-requires
-conclude-requires c κs =
-    let turned = c .before .before .before .before .before .before .before .before in
-    let start = turned .before .before .before .before .before .before .before .before .before .before in
-    lent-long (start .args .work .now) (start .pre) (turned .turn-on .last .1 .1 .1 .1 .1 .1 .0) (turned .turn-on .ensures .kept .workLong)
+conclude-requires c κs = search needs
 
 same-length : tie.Need-same-length
 same-length c = search needs
 
 returns : tie.Need-returns
 returns c =
-    let turned = c .before .before .before .before .before .before .before .before .before .before .before in
+    let left = c .before .before in
+    let turned = left .before .before .before .before .before .before .before .before .before in
     let start = turned .before .before .before .before .before .before .before .before .before .before in
-    ran (start .args .root) (start .args .work .now) (start .pre) (turned .turn-on .result) (turned .turn-on .ensures)
-    (c .before .before .conclude .ensures)
+    let room = conclude-requires (left .before) (left .conclude .lifetimes) in
+    ran (turned .turn-on .result) room (rounds-in full-sizes (start .pre) (turned .turn-on .ensures)) (left .conclude .ensures)
 
 pub run-full-spec : {M : Type 1} → statement M
 run-full-spec =

@@ -1,11 +1,10 @@
 -- `stability::settling::try_small` meets its contract: the rounds in small areas.
 -- Assumes nothing.
 use mathlib.Core.Path.{refl, sym, _∙_}
-use native.Mathlib.Nat.{min-eq-left}
-use native.Mathlib.Omega.{arith}
+use native.Mathlib.Nat.{le-trans, min-eq-left}
 use borrow.Author.Needs.{needs}
 use lib.ListN.{length-take}
-use Rattle.stability.proofs.Trying.{tried}
+use Rattle.stability.proofs.Remains.{few-sizes, rounds-in}
 use Rattle.stability.proofs.settling.try_small.Statement.{statement}
 use Rattle.stability.proofs.settling.try_small.Tie as tie
 
@@ -13,12 +12,12 @@ slice-aggregate-turn-on : tie.Need-slice-aggregate-turn-on
 slice-aggregate-turn-on c = refl
 
 slice-relend-prefix-turn-on : tie.Need-slice-relend-prefix-turn-on
-slice-relend-prefix-turn-on c = search needs
+slice-relend-prefix-turn-on c = le-trans (few-sizes .within) (c .before .before .before .before .before .before .before .pre)
 
 slice-aggregate-turn-on-2 : tie.Need-slice-aggregate-turn-on-2
 slice-aggregate-turn-on-2 c =
     let start = c .before .before .before .before .before .before .before .before in
-    sym (length-take 384 (start .args .work .now) ∙ min-eq-left (omega (arith, start .pre)))
+    sym (length-take 384 (start .args .work .now) ∙ min-eq-left (le-trans (few-sizes .within) (start .pre)))
 
 slice-aggregate-turn-on-3 : tie.Need-slice-aggregate-turn-on-3
 slice-aggregate-turn-on-3 c = refl
@@ -27,7 +26,7 @@ slice-aggregate-turn-on-4 : tie.Need-slice-aggregate-turn-on-4
 slice-aggregate-turn-on-4 c = refl
 
 turn-on-requires : tie.Need-turn-on-requires
-turn-on-requires c κs = omega arith
+turn-on-requires c κs = few-sizes .logs
 
 same-length : tie.Need-same-length
 same-length c = search needs
@@ -39,7 +38,7 @@ returns : tie.Need-returns
 returns c =
     let turned = c .before .before .before .before .before .before .before in
     let start = turned .before .before .before .before .before .before .before .before .before .before .before in
-    tried (start .pre) (turned .turn-on .ensures)
+    rounds-in few-sizes (start .pre) (turned .turn-on .ensures)
 
 pub try-small-spec : {M : Type 1} → statement M
 try-small-spec =
