@@ -58,5 +58,5 @@ returns-3 c =
 pub run-rounds-spec : {M : Type 1} → statement M
 run-rounds-spec =
     tie.close
-    (tie.spec run-full-requires same-length returns slice-aggregate-try-small try-small-requires enum-told enum-told-2 slice-aggregate-conclude conclude-requires same-length-2 returns-2
-    run-full-requires-2 same-length-3 returns-3)
+    (tie.spec run-full-requires same-length returns slice-aggregate-try-small try-small-requires enum-told enum-told-2
+    slice-aggregate-conclude conclude-requires same-length-2 returns-2 run-full-requires-2 same-length-3 returns-3)
