@@ -70,7 +70,8 @@ enum rimecutter_reason {
  *
  * The call always ends. It keeps no state, allocates nothing, calls nothing of
  * the C library that could fail, and may be made from several threads at
- * once. It needs about 128 KiB of stack.
+ * once. It needs at most 210 KiB of stack, and some 17 KiB for a small
+ * description.
  */
 size_t rimecutter_alphabet(const uint8_t *description,
                            size_t description_length,

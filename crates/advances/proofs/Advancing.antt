@@ -14,7 +14,8 @@ use Rattle.meaning.specs.Sets.{at, ascending}
 use Rattle.meaning.specs.Descriptions as D
 use Rattle.meaning.specs.Rounds.{roundSets}
 use Rattle.slots.specs.declared.Term.{Term}
-use Rattle.table.specs.Encoded.{termFor, storeOf}
+use Rattle.table.specs.Encoded.{termFor}
+use Rattle.table.specs.Holding.{HoldsLists}
 use Rattle.shapes.specs.declared.Shape.{Shape}
 use Rattle.shapes.specs.Shaping.{shapeFor}
 use Rattle.parts.specs.Parts.{laid, mostLabels, roomAt}
@@ -74,15 +75,15 @@ module _ {d : D.Description} {k n : ℕ} {sets news work log out : List ℕ} {en
   }
 
   -- What is given, by the room that there is.
-  module _ (o : D.Order) where
+  module _ (lists : List ℕ) (held : HoldsLists d lists) where
     abbrev room : ℕ
     room = roomAt 0 mostLabels (length out)
 
     abbrev built : Building
-    built = arriving room (storeOf d o) (labelsOf sets work) (labelsOf news log) (shapeFor (termFor n (D.termAt d n))) []
+    built = arriving room lists (labelsOf sets work) (labelsOf news log) (shapeFor (termFor n (D.termAt d n))) []
 
     given : Given d k n room built
-    given = arriving-adds d k n (labelsOf sets work) (labelsOf news log) known o room h
+    given = arriving-adds d k n (labelsOf sets work) (labelsOf news log) known lists held room h
 
     given-large : built .whole ≡ false → T (overIn (length log) (roundSets d (suc k)))
     given-large e = elim (given .result) [
@@ -121,9 +122,9 @@ whole-set b {count} out e f long =
     let fits = laid-fits (b .set) out (sym (ap length f) ∙ long) in
     (p .0, ap (wordsIn (record { from = 0; to = count })) f ∙ words-laid 0 count (b .set) out (omega (arith, p .1)) (omega (arith, p .1)))
 
-module _ {term : Term} {store : List ℕ} {terms n end : ℕ} {sets news work log out : List ℕ} where
+module _ {term : Term} {lists : List ℕ} {terms n end : ℕ} {sets news work log out : List ℕ} where
   pub advanced-quiet : {shape : Shape} {asked : Bool} → shape ≡ shapeFor term → asked ≡ quiet sets news n shape → asked ≡ true → {news′ : List ℕ}
-      → news′ ≡ withPart news n (record { from = end; to = end }) → Advanced term store terms n end sets news work log out sets news′ work log out (Holds end)
+      → news′ ≡ withPart news n (record { from = end; to = end }) → Advanced term lists terms n end sets news work log out sets news′ work log out (Holds end)
   advanced-quiet f g q row = record {
     kept = record {
       setsLong = refl;
@@ -132,21 +133,21 @@ module _ {term : Term} {store : List ℕ} {terms n end : ℕ} {sets news work lo
       logLong = refl;
       outLong = refl;
     };
-    right = λ d o k t s e h x. quiet-next x h (ap (λ (u : Term). quiet sets news n (shapeFor u)) (sym t) ∙ ap (quiet sets news n) (sym f) ∙ sym g ∙ q) row;
+    right = λ d k t s e h x. quiet-next x h (ap (λ (u : Term). quiet sets news n (shapeFor u)) (sym t) ∙ ap (quiet sets news n) (sym f) ∙ sym g ∙ q) row;
   }
 
   module _ {out′ : List ℕ} (long : length out′ ≡ length out) where
-    pub advanced-large : Arrives (shapeFor term) store work sets log news out out′ TooLarge
-        → Advanced term store terms n end sets news work log out sets news work log out′ TooLarge
+    pub advanced-large : Arrives (shapeFor term) lists work sets log news out out′ TooLarge
+        → Advanced term lists terms n end sets news work log out sets news work log out′ TooLarge
     advanced-large a = record {
       kept = record { setsLong = refl; newsLong = refl; workLong = refl; logLong = refl; outLong = long };
-      right = λ d o k t s e h x. given-large x h o (let b = rw (t, s) at a in built-large _ _ (b .answer));
+      right = λ d k t s e h x. given-large x h lists s (let b = rw t at a in built-large _ _ (b .answer));
     }
 
-    pub advanced-kept : {count : ℕ} → Arrives (shapeFor term) store work sets log news out out′ (Holds count) → {made : List ℕ}
+    pub advanced-kept : {count : ℕ} → Arrives (shapeFor term) lists work sets log news out out′ (Holds count) → {made : List ℕ}
         → made ≡ wordsIn (record { from = 0; to = count }) out′ → {sets′ news′ work′ log′ : List ℕ} {r : Built}
         → KeptNew terms n end made sets news work log sets′ news′ work′ log′ r
-        → Advanced term store terms n end sets news work log out sets′ news′ work′ log′ out′ r
+        → Advanced term lists terms n end sets news work log out sets′ news′ work′ log′ out′ r
     advanced-kept {count} a {made} read {sets′} {news′} {work′} {log′} {r} new = record {
       kept =
           let kept = new .kept out′ in
@@ -157,9 +158,9 @@ module _ {term : Term} {store : List ℕ} {terms n end : ℕ} {sets news work lo
             logLong = kept .logLong;
             outLong = long;
           };
-      right = λ d o k t s e h x.
-          let b = rw (t, s) at a in
+      right = λ d k t s e h x.
+          let b = rw t at a in
           let w = whole-set _ out (b .answer) (b .words) long in
-          let g = given-new x h o (w .0) (read ∙ w .1) in
+          let g = given-new x h lists s (w .0) (read ∙ w .1) in
           new .right d k out′ e h (midway-out x h long) (g .0) (g .1);
     }

@@ -14,7 +14,8 @@ use Rattle.meaning.specs.Rounds.{roundSets}
 use Rattle.labels.proofs.Refinement.{Packs}
 use Rattle.slots.specs.declared.Term.{Term}
 use Rattle.syncs.specs.Merges.{SyncsJoin}
-use Rattle.table.specs.Encoded.{termFor, storeOf}
+use Rattle.table.specs.Encoded.{termFor}
+use Rattle.table.specs.Holding.{HoldsLists}
 use Rattle.parts.specs.declared.Part.{Part}
 use Rattle.sets.specs.declared.Built.{Built}
 use Rattle.sets.specs.declared.Built.the-variants.{TooLarge, Holds}
@@ -63,7 +64,7 @@ abbrev pub Onward : D.Description → (k n : ℕ) (sets news work log out : List
 Onward d k n sets news work log out TooLarge = T (overIn (length log) (roundSets d (suc k)))
 Onward d k n sets news work log out (Holds end) = Midway d k n sets news work log out end
 
-pub record Advanced (term : Term) (store : List ℕ) (terms n end : ℕ) (sets news work log out sets′ news′ work′ log′ out′ : List ℕ) (r : Built) : Type 0 where
+pub record Advanced (term : Term) (lists : List ℕ) (terms n end : ℕ) (sets news work log out sets′ news′ work′ log′ out′ : List ℕ) (r : Built) : Type 0 where
   pub kept : Kept sets news work log out sets′ news′ work′ log′ out′
-  pub right : (d : D.Description) (o : D.Order) (k : ℕ) → term ≡ termFor n (D.termAt d n) → store ≡ storeOf d o → terms ≡ D.termCount d
+  pub right : (d : D.Description) (k : ℕ) → term ≡ termFor n (D.termAt d n) → HoldsLists d lists → terms ≡ D.termCount d
       → n < D.termCount d → Midway d k n sets news work log out end → Onward d k (suc n) sets′ news′ work′ log′ out′ r

@@ -17,17 +17,17 @@ ghost use Rattle.slots.specs.Packing.{wordTerm};
 ghost use Rattle.shapes.specs.Shaping.{shapeFor};
 ghost use Rattle.advances.specs.Advances.{Advanced};
 
-// The shape of the term that a slot of the table holds.
-fn shape_in(slot: u64) -> Shape
-    ensures { λ r. ⌜ r ≡ shapeFor (wordTerm slot) ⌝ }
+// The shape of the n-th term, by its slot of the table.
+fn shape_in(slot: u64, n: usize) -> Shape
+    ensures { λ r. ⌜ r ≡ shapeFor (wordTerm n slot) ⌝ }
 {
-    shape_of(unpack(slot))
+    shape_of(unpack(slot, n))
 }
 
 // The n-th of so many terms, whose slot of the table is given. Where the log then ends is returned, or that a limit is passed.
 pub fn advance(
     slot: u64,
-    store: &[u64],
+    lists: &[u64],
     terms: usize,
     n: usize,
     sets: &mut [usize],
@@ -37,16 +37,16 @@ pub fn advance(
     end: usize,
     out: &mut [u64],
 ) -> Built
-    ensures { λ r. ⌜ Advanced (wordTerm slot) (now (store .entry)) terms n end
+    ensures { λ r. ⌜ Advanced (wordTerm n slot) (now (lists .entry)) terms n end
         (now (sets .entry)) (now (news .entry)) (held (now (work .entry))) (held (now (log .entry))) (held (now (out .entry)))
         (now (sets .exit)) (now (news .exit)) (held (now (work .exit))) (held (now (log .exit))) (held (now (out .exit))) r ⌝ }
 {
-    let shape = shape_in(slot);
+    let shape = shape_in(slot, n);
     if is_quiet(shape, sets, news, n) {
         set_part(news, n, Part { from: end, to: end });
         return Built::Holds(end);
     }
-    let given = arrive(shape, store, work, sets, log, news, out);
+    let given = arrive(shape, lists, work, sets, log, news, out);
     let Built::Holds(count) = given else {
         return Built::TooLarge;
     };

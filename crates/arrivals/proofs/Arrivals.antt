@@ -13,7 +13,7 @@ use lib.ListN.{length, take, drop, length-map, length-replicate}
 use lib.Seq.{take-at}
 use Rattle.meaning.specs.Labels.{Label, number, empty, single}
 use Rattle.meaning.specs.Sets.{at, ascending, spread, product}
-use Rattle.meaning.specs.Descriptions.{Description, Order, all, Operator, block, hide, rename, comm, allow, names, termCount, equations, termAt, bodyAt}
+use Rattle.meaning.specs.Descriptions.{Description, all, Operator, block, hide, rename, comm, allow, names, termCount, equations, termAt, bodyAt}
 use Rattle.meaning.specs.Descriptions.{Term, act, tau, delta, ref, sum, cond, choice, ifelse, seq, merge, lmerge, sync, wrap}
 use Rattle.meaning.specs.Legal.{Legal, LegalTwo, LegalTerm, LegalOperator}
 use Rattle.meaning.specs.Rounds.{leaf, reference, one, either, both, joint, through, areMultiActions, syncShape, shape, image, roundSets}
@@ -26,7 +26,8 @@ use Rattle.meaning.proofs.Least.{term-legal, legal-operands}
 use Rattle.labels.specs.Packing.{packed}
 use Rattle.labels.proofs.Words.{number-empty}
 use Rattle.labels.proofs.Refinement.{Packs, single-number}
-use Rattle.table.specs.Encoded.{termFor, storeOf}
+use Rattle.table.specs.Encoded.{termFor}
+use Rattle.table.specs.Holding.{HoldsLists}
 use Rattle.syncs.specs.Merges.{syncOr, asMerge, SyncsJoin}
 use Rattle.parts.specs.Parts.{laid, mostLabels, roomAt}
 use Rattle.sets.specs.declared.Built.the-variants.{TooLarge, Holds}
@@ -42,7 +43,7 @@ use Rattle.shapes.specs.declared.Shape.{Shape}
 use Rattle.shapes.specs.declared.Shape.the-variants.{Leaf, Body, One, Two, Joint}
 use Rattle.shapes.specs.Shaping.{shapeFor}
 use Rattle.operators.specs.Operators.{passed}
-use Rattle.operators.proofs.Stores.{wayOf, wayWords, way-same, words-same}
+use Rattle.operators.proofs.OperatorLists.{wayOf, wayWords, way-same, words-same}
 use Rattle.deltas.specs.Deltas.{arrived}
 use Rattle.deltas.proofs.Differences.{ascending-itself}
 use Rattle.deltas.proofs.News.{arrived-or-before, arrived-within, arrived-ascends}
@@ -149,10 +150,10 @@ module _ (d : Description) (k n : ℕ) (sets news : ℕ → List ℕ) (known : K
   joins : (t u : ℕ) → termAt d n ≡ sync t u → shape d (termAt d n) ≡ joint t u
   joins t u e = ap (shape d) e ∙ sync-joint t u (areMultiActions d t u) (subst (λ (x : Term). asMerge d x ≡ x) e (known .joins n))
 
-  -- Each shape, of whatever list store.
-  module _ (room : ℕ) (store : List ℕ) where
+  -- Each shape, of whatever lists.
+  module _ (room : ℕ) (lists : List ℕ) where
     abbrev Arrives : Shape → Type 0
-    Arrives s = Given d k n room (arriving room store sets news s [])
+    Arrives s = Given d k n room (arriving room lists sets news s [])
 
     leaf-kind : (a : Label) (w : ℕ) → number a ≡ w → Packs (names d) a → shape d (termAt d n) ≡ leaf (a ∷ []) → Arrives (Leaf (packed w))
     leaf-kind a w same p e = record {
@@ -242,34 +243,31 @@ module _ (d : Description) (k n : ℕ) (sets news : ℕ → List ℕ) (known : K
           }
 
   -- Each kind of term.
-  module _ (o : Order) (room : ℕ) (more : n < termCount d) where
-    abbrev store : List ℕ
-    store = storeOf d o
-
-    kind : (t : Term) → termAt d n ≡ t → LegalTerm d n t → Given d k n room (arriving room store sets news (shapeFor (termFor n t)) [])
+  module _ (lists : List ℕ) (held : HoldsLists d lists) (room : ℕ) (more : n < termCount d) where
+    kind : (t : Term) → termAt d n ≡ t → LegalTerm d n t → Given d k n room (arriving room lists sets news (shapeFor (termFor n t)) [])
     kind (act a) e l =
-        leaf-kind room store (single (names d) a) (number (single 12 a)) (sym (single-number (names d) narrow a l)) (single-packs (names d) a) (ap (shape d) e)
-    kind tau e l = leaf-kind room store (empty (names d)) 0 (number-empty (names d)) (empty-packs (names d)) (ap (shape d) e)
+        leaf-kind room lists (single (names d) a) (number (single 12 a)) (sym (single-number (names d) narrow a l)) (single-packs (names d) a) (ap (shape d) e)
+    kind tau e l = leaf-kind room lists (empty (names d)) 0 (number-empty (names d)) (empty-packs (names d)) (ap (shape d) e)
     kind delta e l = record { labels = []; adds = leaf-adds d first k n [] (ap (shape d) e); result = none-given (names d) room }
-    kind (ref x) e l = body-kind room store x l (ap (shape d) e)
-    kind (sum t) e l = one-kind room store t l (ap (shape d) e)
-    kind (cond t) e l = one-kind room store t l (ap (shape d) e)
-    kind (choice t u) e l = either-kind room store t u l (ap (shape d) e)
-    kind (ifelse t u) e l = either-kind room store t u l (ap (shape d) e)
-    kind (seq t u) e l = either-kind room store t u l (ap (shape d) e)
-    kind (merge t u) e l = both-kind room store t u l (ap (shape d) e)
-    kind (lmerge t u) e l = both-kind room store t u l (ap (shape d) e)
-    kind (sync t u) e l = joint-kind room store t u l (joins t u e)
+    kind (ref x) e l = body-kind room lists x l (ap (shape d) e)
+    kind (sum t) e l = one-kind room lists t l (ap (shape d) e)
+    kind (cond t) e l = one-kind room lists t l (ap (shape d) e)
+    kind (choice t u) e l = either-kind room lists t u l (ap (shape d) e)
+    kind (ifelse t u) e l = either-kind room lists t u l (ap (shape d) e)
+    kind (seq t u) e l = either-kind room lists t u l (ap (shape d) e)
+    kind (merge t u) e l = both-kind room lists t u l (ap (shape d) e)
+    kind (lmerge t u) e l = both-kind room lists t u l (ap (shape d) e)
+    kind (sync t u) e l = joint-kind room lists t u l (joins t u e)
     kind (wrap op t) e l =
         rw (
-          way-same d o n t more (known .legal .termsCount .1) narrow op,
-          words-same d o n t more (known .legal .termsCount .1) narrow (news t) op e (l .1),
+          way-same n op,
+          words-same d lists held n t more narrow (news t) op e (l .1),
           known .fresh t (l .0),
           known .stands t (l .0),
         )
-        (through-kind room store t (l .0) op (l .1) (ap (shape d) e))
+        (through-kind room lists t (l .0) op (l .1) (ap (shape d) e))
 
-    pub arriving-adds : Given d k n room (arriving room (storeOf d o) sets news (shapeFor (termFor n (termAt d n))) [])
+    pub arriving-adds : Given d k n room (arriving room lists sets news (shapeFor (termFor n (termAt d n))) [])
     arriving-adds = kind (termAt d n) refl (term-legal d all (known .legal) n)
 
 -- A part with no label holds none.

@@ -22,7 +22,7 @@ use Rattle.sets.proofs.Outcomes.{Offered, Anything, Result}
 use Rattle.images.specs.Imaging.{followsRules, offerOf}
 use Rattle.images.proofs.Refinement.{listed-packs, way-outcome, block-offers, hide-offers, rename-offers, allow-offers}
 use Rattle.operators.specs.Operators.{passed}
-use Rattle.operators.proofs.Stores.{wayOf, wayWords}
+use Rattle.operators.proofs.OperatorLists.{wayOf, wayWords}
 use Rattle.sums.specs.Sums.{sumsOf}
 use Rattle.sums.proofs.SumLaws.{sums-outcome}
 use Rattle.merging.proofs.UnionLaws.{union-result}

@@ -41,15 +41,15 @@ twoNew false room newA a newB b s = unionNew room newA newB s
 twoNew true room newA a newB b s = andThen (unionNew room newA newB s) (sumsNew room newA a newB b)
 
 -- What is given for each shape of term, where `sets` are the sets and `news` what is new in them.
-abbrev pub arriving : (room : ℕ) (store : List ℕ) (sets news : ℕ → List ℕ) → Shape → List ℕ → Building
-arriving room store sets news Empty s = done s
-arriving room store sets news (Leaf label) s = enter room (code label) s
-arriving room store sets news (Body e) s = unionNew room (news (newsOf e)) [] s
-arriving room store sets news (One t) s = unionNew room (news t) [] s
-arriving room store sets news (Two t u sums) s = twoNew sums room (news t) (sets t) (news u) (sets u) s
-arriving room store sets news (Joint t u) s = sumsNew room (news t) (sets t) (news u) (sets u) s
-arriving room store sets news (Through o t) s = passed room (wayFor o) (wordsFor store (news t) o) (news t) (sets t) s
+abbrev pub arriving : (room : ℕ) (lists : List ℕ) (sets news : ℕ → List ℕ) → Shape → List ℕ → Building
+arriving room lists sets news Empty s = done s
+arriving room lists sets news (Leaf label) s = enter room (code label) s
+arriving room lists sets news (Body e) s = unionNew room (news (newsOf e)) [] s
+arriving room lists sets news (One t) s = unionNew room (news t) [] s
+arriving room lists sets news (Two t u sums) s = twoNew sums room (news t) (sets t) (news u) (sets u) s
+arriving room lists sets news (Joint t u) s = sumsNew room (news t) (sets t) (news u) (sets u) s
+arriving room lists sets news (Through o t) s = passed room (wayFor o) (wordsFor lists (news t) o) (news t) (sets t) s
 
-abbrev pub Arrives : Shape → (store work sets log news before after : List ℕ) → Built → Type 0
-Arrives shape store work sets log news before after r =
-    GrownAt (atStart 0) (λ room. arriving room store (labelsOf sets work) (labelsOf news log) shape) before after r
+abbrev pub Arrives : Shape → (lists work sets log news before after : List ℕ) → Built → Type 0
+Arrives shape lists work sets log news before after r =
+    GrownAt (atStart 0) (λ room. arriving room lists (labelsOf sets work) (labelsOf news log) shape) before after r

@@ -83,14 +83,14 @@ fn of_two(
 // What is given for a term, by its shape.
 pub fn arrive(
     shape: Shape,
-    store: &[u64],
+    lists: &[u64],
     work: &[u64],
     sets: &[usize],
     log: &[u64],
     news: &[usize],
     out: &mut [u64],
 ) -> Built
-    ensures { λ r. ⌜ Arrives shape (now (store .entry)) (held (now (work .entry))) (now (sets .entry)) (held (now (log .entry))) (now (news .entry))
+    ensures { λ r. ⌜ Arrives shape (now (lists .entry)) (held (now (work .entry))) (now (sets .entry)) (held (now (log .entry))) (now (news .entry))
         (held (now (out .entry))) (held (now (out .exit))) r ⌝ }
 {
     match shape {
@@ -101,7 +101,7 @@ pub fn arrive(
         Shape::Two(t, u, sums) => of_two(work, sets, log, news, t, u, sums, out),
         Shape::Joint(t, u) => add_new_sums(work, sets, log, news, t, u, out, 0),
         Shape::Through(o, t) => through(
-            store,
+            lists,
             o,
             labels_of(log, part_at(news, t)),
             labels_of(work, part_at(sets, t)),

@@ -63,6 +63,15 @@ rank-and true false = refl
 rank-and false true = refl
 rank-and false false = refl
 
+-- one of two tests that fails is enough
+pub first-fails : (b : Bool) → fault amount ≡ worse (unless false amount) (unless b amount)
+first-fails true = refl
+first-fails false = refl
+
+pub second-fails : (b : Bool) → fault amount ≡ worse (unless b amount) (unless false amount)
+second-fails true = refl
+second-fails false = refl
+
 -- what is over a limit stays over it
 pub rank-within : (m n k : ℕ) → m ≤ n → rank (unless (leb n k) amount) ≤ rank (unless (leb m k) amount)
 rank-within m n k h = cases (leb n k) refl

@@ -1,4 +1,4 @@
--- A tally with one entry more.
+-- The tally of nothing, and one with one entry more.
 -- Assumes nothing.
 use mathlib.Core.Path.{_≡_}
 use Prim.Native.Nat.{ℕ, _+_, min}
@@ -6,7 +6,11 @@ use lib.Dec.{leb}
 use Rattle.meaning.specs.Answers.{amount}
 use Rattle.grammar.specs.Faults.{Found, worse, unless}
 use Rattle.faults.specs.CodedFaults.{foundOf}
+use Rattle.faults.specs.declared.Found.the-variants.{Fine}
 use Rattle.faults.specs.declared.Tally.{Tally}
+
+abbrev pub emptyTally : Tally
+emptyTally = record { fault = Fine; floor = 0; total = 0 }
 
 -- a sum that stays in a word
 abbrev pub plusWord : ℕ → ℕ → ℕ

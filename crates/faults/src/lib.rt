@@ -5,7 +5,7 @@ ghost use lib.Dec.{ltb};
 ghost use Rattle.meaning.specs.Answers.{faultNumber, name, amount};
 ghost use Rattle.grammar.specs.Faults.{unless, worse};
 ghost use Rattle.faults.specs.CodedFaults.{faultOf, foundOf};
-ghost use Rattle.faults.specs.Tallies.{plusWord, Counted};
+ghost use Rattle.faults.specs.Tallies.{plusWord, emptyTally, Counted};
 
 // What is wrong with a line: its form, a name in it, a number that leads nowhere, or how many there are of something or in which order
 // they stand.
@@ -84,6 +84,17 @@ pub struct Tally {
     pub total: u64,
 }
 
+// That of nothing.
+pub fn empty_tally() -> Tally
+    ensures { λ r. ⌜ r ≡ emptyTally ⌝ }
+{
+    Tally {
+        fault: Found::Fine,
+        floor: 0,
+        total: 0,
+    }
+}
+
 const LARGEST: u64 = 0xffffffffffffffff;
 
 // The sum, or the largest word where it is none.
@@ -99,6 +110,17 @@ fn least(a: u64, b: u64) -> u64
     if a <= b { a } else { b }
 }
 
+// The faults so far and an entry's own, and that of the order or the amount where one of the two tests fails.
+fn joined(before: Found, fault: Found, ordered: bool, within: bool) -> Found
+    ensures { λ r. ⌜ foundOf r ≡ worse (worse (foundOf before) (foundOf fault)) (worse (unless ordered amount) (unless within amount)) ⌝ }
+{
+    let entries = worse_of(before, fault);
+    if ordered && within {
+        return entries;
+    }
+    worse_of(entries, Found::Faulty(Fault::Amount))
+}
+
 // One entry more, by its own fault, the number by which it is ordered and its weight. The total stays at one more than the limit,
 // and no sum leaves a word, so that any entry can be counted.
 pub fn counted(t: Tally, fault: Found, key: u64, weight: u64, limit: u64) -> Tally
@@ -107,11 +129,8 @@ pub fn counted(t: Tally, fault: Found, key: u64, weight: u64, limit: u64) -> Tal
     let before = t.fault;
     let floor = t.floor;
     let total = plus(t.total, weight);
-    let entries = worse_of(before, fault);
-    let order = amount_unless(floor <= key);
-    let amounts = worse_of(order, amount_unless(total <= limit));
     Tally {
-        fault: worse_of(entries, amounts),
+        fault: joined(before, fault, floor <= key, total <= limit),
         floor: plus(key, 1),
         total: least(plus(limit, 1), total),
     }

@@ -18,7 +18,7 @@ use Rattle.forms.specs.Terms.{TermTaken, TermRead}
 use Rattle.faults.specs.declared.Found as G
 use Rattle.tails.specs.declared.TermStep.{TermStep}
 use Rattle.tails.specs.declared.TermStep.the-variants as T
-use Rattle.entries.proofs.Parts.{worse-none}
+use Rattle.lists.proofs.Parts.{worse-none}
 
 module _ (equations n : ℕ) where
   -- A term of the code has the operands of the term that it stands for.
@@ -54,21 +54,22 @@ module _ (equations n : ℕ) where
     unfolding termFault
     words-fine line e = worse-none (wordsOfFault words line) _ e .0
 
-    module _ (line : Text) (before after : List ℕ) (long : length after ≡ length before) where
+    module _ (text : Text) (before after : List ℕ) (long : length after ≡ length before) where
       pub term-stays : (said : TermStep) {p : ℕ} → said ≡ T.Stuck p
-          → LineRead words n line (termLine line) before after said
-          → TermRead words equations n line before after said
+          → LineRead words n text (termLine text) before after said
+          → TermRead words equations n text (termLine text) before after said
       term-stays said e h = let s = rw e at h in rw e (s .says, long)
 
-      pub term-taken : {said : TermStep} {x : Term} {f g : G.Found} → said ≡ T.To x f
-          → LineRead words n line (termLine line) before after said
+      pub term-taken : {said : TermStep} {x : Term} {f g : G.Found} {took : ℕ} → said ≡ T.To x f took
+          → LineRead words n text (termLine text) before after said
           → foundOf g ≡ worse (foundOf f) (placed x)
-          → TermTaken words equations n (termLine line) before after x g
-      term-taken {x = x} {f} {g} e h k =
-          let l : LineTerm words n (termLine line) before after x f = rw e at h in
+          → TermTaken words equations n text (termLine text) before after x g took
+      term-taken {x = x} {f} {g} {took} e h k =
+          let l : LineTerm words n text (termLine text) before after x f took = rw e at h in
           record {
             line = l .line;
             says = l .says;
+            within = l .within;
             term = l .term;
             faults = faults-joined (l .line) x (foundOf f) (foundOf g) (l .term) (l .faults) k;
             stored = λ z. l .stored (words-fine (l .line) z);

@@ -1,161 +1,166 @@
--- The kinds by their places and their packed words, one after the other.
+-- The kinds one after the other, and the tail behind the word of the one that was found.
 -- Assumes nothing.
 use mathlib.Core.Path.{_≡_, refl, sym, ap, subst, _∙_}
 use mathlib.Core.Bool.{Bool, true, false}
-use mathlib.Core.List.{List, [], _∷_, map}
-use Prim.Native.Nat.{ℕ, zero, suc, _+_, _≤_, _<_, max}
-use native.Mathlib.Nat.{not-suc-le-zero}
+use mathlib.Core.List.{List, map, _++_}
+use Prim.Native.Nat.{ℕ, _+_, _≤_, _<_, max}
 use native.Mathlib.Omega.{arith}
 use native.Mathlib.Numerals.{add-one}
-use lib.Dec.{eqb}
+use lib.Dec.{ltb}
 use lib.Seq.{drop-cons}
-use lib.ListN.{length, getD, drop, drop-of-length-le}
-use borrow.Author.Tests.{eqb-true, eqb-false}
+use lib.ListN.{length, getD, drop, length-drop, drop-of-length-le}
+use borrow.Author.Tests.{lt-ltb, le-ltb, ltb-true, ltb-false}
 use Rattle.meaning.specs.Bytes.{Text}
 use Rattle.table.specs.Decoded.{nameOf}
-use Rattle.grammar.specs.Text.{Past, past, stuck, literal}
+use Rattle.grammar.specs.Text.{Past, past, stuck, literal, word}
 use Rattle.grammar.specs.Forms.{Line, Kind, kinds, farther, ofKind}
+use Rattle.grammar.proofs.Onwards.{literal→}
+use Rattle.grammar.proofs.Atoms.{writes-word}
 use Rattle.words.specs.Steps.{Stands}
-use Rattle.words.proofs.Steps.{restAt, rest-drop}
+use Rattle.words.proofs.Steps.{restAt, rest-drop, shifted, become, textIn}
 use Rattle.tails.specs.Lines.{LineRead}
 use Rattle.tails.specs.Tails.{tailOf, TailRead}
 use Rattle.tails.specs.declared.TermStep.{TermStep}
+use Rattle.tails.specs.declared.TermStep.the-variants as T
 use Rattle.tails.proofs.Operands.{line-become}
 use Rattle.tails.proofs.Room.{room}
-use Rattle.forms.specs.Kinds.{restOf, noKind, fartherFrom, kindPlace, KindFound, KindRead}
+use Rattle.forms.specs.Kinds.{kindWord, restOf, noKind, kindPlace, KindFound, KindRead}
+use Rattle.forms.specs.Terms.{termPlace, shiftedStep}
 use Rattle.forms.specs.declared.kinds.KindStep.{KindStep}
 use Rattle.forms.specs.declared.kinds.KindStep.the-variants as K
-use Rattle.forms.proofs.Farthest.{join-stuck, join-more}
+use Rattle.forms.proofs.KindWords.{packedKinds, kind-word, kind-rest, kind-decides}
 
--- One kind after the other.
+kind-count : length kinds ≡ 17
+unfolding kinds
+kind-count = refl
+
+-- One kind more, whose word is stuck, and no kind.
 module _ (ks : List Kind) (k : ℕ) (s : Text) where
-  pub kind-stuck : {r : Text} → k < length ks → stuck r ≡ literal (getD ks k noKind .word) s
+  kind-stuck : {r : Text} → k < length ks → stuck r ≡ literal (getD ks k noKind .word) s
       → farther r (ofKind (drop (k + 1) ks) s) ≡ ofKind (drop k ks) s
   unfolding ofKind
   kind-stuck h e = rw (add-one k, drop-cons ks k noKind h, ← e, ofKind)
 
-  pub kind-past : {r : Text} → k < length ks → past tt r ≡ literal (getD ks k noKind .word) s
-      → getD ks k noKind .rest r ≡ ofKind (drop k ks) s
-  unfolding ofKind
-  kind-past h e = rw (drop-cons ks k noKind h, ← e, ofKind)
-
-  pub kind-none : length ks ≤ k → stuck s ≡ ofKind (drop k ks) s
+  kind-none : length ks ≤ k → stuck s ≡ ofKind (drop k ks) s
   unfolding ofKind
   kind-none h = rw (drop-of-length-le ks h)
 
--- What holds at each number below another.
-unfoldable pub Below : (ℕ → Type 0) → ℕ → Type 0
-Below P zero = Unit {0}
-Below P (suc n) = P n × Below P n
-
-pub below : (P : ℕ → Type 0) (n k : ℕ) → k < n → Below P n → P k
-unfolding Below
-below P zero k h b = absurd (not-suc-le-zero h)
-below P (suc n) k h b = cases (eqb k n) refl (λ j. below P n k j (b .1))
+-- Places joined: the farther one stays.
+join : (text : Text) (p far : ℕ) → p ≤ length text → stuck (drop (max p far) text) ≡ farther (drop p text) (stuck (drop far text))
+join text p far h = cases (ltb far p) refl
   where
-    cases : (t : Bool) → eqb k n ≡ t → (k < n → P k) → P k
-    cases true e f = rw (eqb-true k n e) (b .0)
-    cases false e f = let d = eqb-false k n e in f (omega arith)
+    cases : (t : Bool) → ltb far p ≡ t → stuck (drop (max p far) text) ≡ farther (drop p text) (stuck (drop far text))
+    cases true e =
+        let k = ltb-true far p e in
+        let m : max p far ≡ p = omega arith in
+        rw (m, lt-ltb (length (drop p text)) (length (drop far text)) (omega (arith, length-drop p text, length-drop far text)))
+    cases false e =
+        let k = ltb-false far p e in
+        let m : max p far ≡ far = omega arith in
+        rw (m, le-ltb (length (drop p text)) (length (drop far text)) (omega (arith, length-drop p text, length-drop far text)))
 
--- The kinds by their places: the word in the code's table, and what follows it.
-abbrev pub packedKinds : List ℕ
-packedKinds =
-    418565088612 ∷ 7692660 ∷ 7627617 ∷ 6710642 ∷ 7173491 ∷ 1684959075 ∷ 111477645076579 ∷ 111546414229097 ∷ 7431539 ∷ 435527247213 ∷ 111494975286636
-    ∷ 1668184435 ∷ 461229747298 ∷ 1701079400 ∷ 111520460465522 ∷ 1835888483 ∷ 512970484833 ∷ []
-
-abbrev AtKind : ℕ → Type 0
-AtKind k = (nameOf 8 (getD packedKinds k 0) ≡ getD kinds k noKind .word) × ((s : Text) → tailOf k s ≡ restOf k s)
-
-same : {w : Text} {f : Text → Past Line} {B : Type 0} → B → ((w ≡ w) × ((s : Text) → f s ≡ f s)) × B
-same b = ((refl, λ s. refl), b)
-
-at-kinds : Below AtKind 17
-unfolding Below kinds nameOf
-at-kinds = same (same (same (same (same (same (same (same (same (same (same (same (same (same (same (same (same tt))))))))))))))))
-
-kind-word : (k : ℕ) → k < 17 → nameOf 8 (getD packedKinds k 0) ≡ getD kinds k noKind .word
-kind-word k h = below AtKind 17 k h at-kinds .0
-
-kind-rest : (k : ℕ) → k < 17 → (s : Text) → tailOf k s ≡ restOf k s
-kind-rest k h = below AtKind 17 k h at-kinds .1
-
--- What follows a kind's word, at its place of the line.
-module _ (names : List ℕ) (n k : ℕ) (line : Text) (at : ℕ) (before after : List ℕ) (r : TermStep) where
-  pub tail-at : at ≤ length line → TailRead names n k (restAt line at) before after r → TailRead names n k (drop at line) before after r
-  tail-at i t = subst (λ l. TailRead names n k l before after r) (rest-drop line at i) t
-
-  pub tail-there : length names ≤ 12 → n < 96 → k < 17
-      → TailRead names n k (drop at line) before after r
-      → LineRead (map (nameOf 8) names) n (drop at line) (restOf k (drop at line)) before after r
-  tail-there few fits h t =
-      let s = drop at line in
-      line-become (map (nameOf 8) names) n s before after r (sym (room names n few fits (tailOf k s) s) ∙ kind-rest k h s) t
-
-pub kind-count : length kinds ≡ 17
-unfolding kinds
-kind-count = refl
-
--- Some kinds were looked at, and no word of theirs stands there.
-pub record Sought (line : Text) (at far k : ℕ) : Type 0 where
+-- The kinds from the k-th on were looked at, and no word of theirs stands there.
+pub record Sought (text : Text) (at far k : ℕ) : Type 0 where
   pub few : k ≤ 17
-  pub inside : far ≤ length line
-  pub reached : 1 ≤ k → at ≤ far
-  pub so-far : fartherFrom far line (ofKind (drop k kinds) (drop at line)) ≡ ofKind kinds (drop at line)
+  pub stays : Stands text far (stuck (drop far text)) (ofKind (drop k kinds) (drop at text))
 
-pub sought-none : (line : Text) (at : ℕ) → Sought line at 0 0
-sought-none line at = record { few = omega arith; inside = omega arith; reached = λ h. absurd (not-suc-le-zero h); so-far = refl }
+module _ (text : Text) (at : ℕ) where
+  pub sought-none : at ≤ length text → Sought text at at 17
+  sought-none h = record { few = omega arith; stays = record { says = kind-none kinds 17 (drop at text) (rw kind-count (omega arith)); within = h } }
 
-module _ {line : Text} {at far k : ℕ} (s : Sought line at far k) where
-  abbrev wordDue : Past (Unit {0})
-  wordDue = literal (nameOf 8 (getD packedKinds k 0)) (drop at line)
+  pub sought-all : {far k : ℕ} → Sought text at far k → k ≡ 0 → Stands text far (stuck (drop far text)) (ofKind kinds (drop at text))
+  sought-all s e = rw e at (s .stays)
 
-  module _ (h : k < 17) where
-    in-kinds : wordDue ≡ literal (getD kinds k noKind .word) (drop at line)
-    in-kinds = ap (λ t. literal t (drop at line)) (kind-word k h)
+  module _ (k : ℕ) (h : k < 17) where
+    abbrev wordDue : Past (Unit {0})
+    wordDue = literal (nameOf 8 (getD packedKinds k 0)) (drop at text)
 
-    pub sought-found : {next : ℕ} → Stands line next (past tt (drop next line)) wordDue
-        → KindFound line (ofKind kinds (drop at line)) k next far
-    sought-found g =
-        record {
-          says = ap (fartherFrom far line) (kind-past kinds k (drop at line) (rw kind-count h) (g .says ∙ in-kinds)) ∙ s .so-far;
-          known = h;
-          within = g .within;
-          reached = s .inside;
-        }
-
-    pub sought-more : {p q : ℕ} → 1 ≤ at → at ≤ p → Stands line p (stuck (drop p line)) wordDue → q ≡ max far p → Sought line at q (k + 1)
-    sought-more {p} i j g f =
+    pub sought-more : {p q far next : ℕ} → Sought text at far next → next ≡ k + 1 → Stands text p (stuck (drop p text)) wordDue → q ≡ max p far
+        → Sought text at q k
+    sought-more {p} {q} {far} s e g f =
         rw f
         (record {
           few = omega arith;
-          inside = omega (arith, s .inside, g .within);
-          reached = λ _. omega arith;
-          so-far =
-              join-more line far p (s .inside) (g .within) (omega arith) (ofKind (drop (k + 1) kinds) (drop at line))
-              ∙ ap (fartherFrom far line) (kind-stuck kinds k (drop at line) (rw kind-count h) (g .says ∙ in-kinds))
-              ∙ s .so-far;
+          stays = record {
+            says =
+                join text p far (g .within)
+                ∙ ap (farther (drop p text)) (rw e at (s .stays .says))
+                ∙ kind-stuck kinds k (drop at text) (rw kind-count h) (g .says ∙ ap (λ t. literal t (drop at text)) (kind-word k h));
+            within = omega (arith, s .stays .within, g .within);
+          };
         })
 
-  pub sought-all : 17 ≤ k → Stands line far (stuck (drop far line)) (ofKind kinds (drop at line))
-  sought-all h =
-      let m : max far at ≡ far = omega (arith, s .reached (omega arith)) in
-      record {
-        says =
-            ap (λ p. stuck (drop p line)) (sym m)
-            ∙ join-stuck line far at (s .inside)
-            ∙ ap (fartherFrom far line) (kind-none kinds k (drop at line) (rw kind-count h))
-            ∙ s .so-far;
-        within = s .inside;
-      }
+    pub sought-found : {next : ℕ} → Stands text next (past tt (drop next text)) wordDue → KindFound text at k next
+    sought-found {next} g =
+        record {
+          known = h;
+          begins =
+              literal→ (nameOf 8 (getD packedKinds k 0)) (drop at text) .holds tt (drop next text) (sym (g .says))
+              ∙ ap (λ t. t ++ drop next text) (kind-word k h);
+          within = g .within;
+        }
+
+    -- by all the letters that stand there
+    pub letters-found : {next : ℕ} (w : ℕ) → Stands text next (past (nameOf 8 w) (drop next text)) (word (drop at text)) → nameOf 8 w ≡ kindWord k
+        → KindFound text at k next
+    letters-found {next} w g e =
+        record {
+          known = h;
+          begins =
+              writes-word .sound (drop at text) .holds (nameOf 8 w) (drop next text) (sym (g .says)) tt .0 ∙ ap (λ t. t ++ drop next text) e;
+          within = g .within;
+        }
+
+-- a word of the code's table is that of its kind
+pub numbered : {w : ℕ} (k : ℕ) → w ≡ getD packedKinds k 0 → k < 17 → nameOf 8 w ≡ kindWord k
+numbered k e h = ap (nameOf 8) e ∙ kind-word k h
 
 -- What is read off a kind's step that was stuck is where it was.
 pub kind-stuck-there : {r : KindStep} {p q : ℕ} → r ≡ K.Stuck p → q ≡ kindPlace r → r ≡ K.Stuck q
 kind-stuck-there e f = e ∙ ap K.Stuck (sym (f ∙ ap kindPlace e))
 
 -- The answer of a search for the kind, taken apart.
-module _ {line : Text} {due : Past Line} (r : KindStep) (h : KindRead line due r) where
-  pub kind-to : {k next far : ℕ} → r ≡ K.To k next far → KindFound line due k next far
+module _ {text : Text} (at : ℕ) (r : KindStep) (h : KindRead text at r) where
+  pub kind-to : {k next : ℕ} → r ≡ K.To k next → KindFound text at k next
   kind-to e = rw e at h
 
-  pub kind-stays : {p : ℕ} → r ≡ K.Stuck p → Stands line p (stuck (drop p line)) due
+  pub kind-stays : {p : ℕ} → r ≡ K.Stuck p → Stands text p (stuck (drop p text)) (ofKind kinds (drop at text))
   kind-stays e = rw e at h
+
+-- the place where a line is read or stuck lies in the text
+place-within : (words : List Text) (n : ℕ) (text : Text) (due : Past Line) (before after : List ℕ) (r : TermStep)
+    → LineRead words n text due before after r → termPlace r ≤ length text
+place-within words n text due before after (T.To x f took) l = l .within
+place-within words n text due before after (T.Stuck p) s = s .within
+
+-- What follows the word of the kind that was found, with few enough names, is what the line says.
+module _ {text : Text} {at k next : ℕ} (found : KindFound text at k next) where
+  abbrev tail : Text
+  tail = drop next text
+
+  decided : (answer : Text → Past Line) → ((t : Text) → textIn (answer t) ≡ t) → {p : ℕ} → Stands tail p (answer (drop p tail)) (restOf k tail)
+      → Stands text (next + p) (answer (drop (next + p) text)) (ofKind kinds (drop at text))
+  decided answer same {p} s =
+      let shorter : length (textIn (restOf k tail)) ≤ length tail =
+      omega (arith, ap length (sym (same (drop p tail)) ∙ ap textIn (s .says)), length-drop p tail) in
+      become (sym (ap (ofKind kinds) (found .begins) ∙ kind-decides k (found .known) tail shorter)) (shifted answer (found .within) s)
+
+  module _ (names : List ℕ) (n : ℕ) (before after : List ℕ) where
+    line-decided : (r : TermStep) → LineRead (map (nameOf 8) names) n tail (restOf k tail) before after r
+        → LineRead (map (nameOf 8) names) n text (ofKind kinds (drop at text)) before after (shiftedStep next r)
+    line-decided (T.To x f took) l =
+        let s = decided (past (l .line)) (λ t. refl) {p = took} (record { says = l .says; within = l .within }) in
+        record { line = l .line; says = s .says; within = s .within; term = l .term; faults = l .faults; stored = l .stored }
+    line-decided (T.Stuck p) s = decided stuck (λ t. refl) s
+
+    module _ (r : TermStep) (t : TailRead names n k (restAt text next) before after r) where
+      there : TailRead names n k tail before after r
+      there = subst (λ l. TailRead names n k l before after r) (rest-drop text next (found .within)) t
+
+      pub line-there : length names ≤ 12 → LineRead (map (nameOf 8) names) n text (ofKind kinds (drop at text)) before after (shiftedStep next r)
+      line-there few =
+          line-decided r
+          (line-become (map (nameOf 8) names) n tail before after r (sym (room names few (tailOf k tail) tail) ∙ kind-rest k (found .known) tail) there)
+
+      pub tail-within : next + termPlace r ≤ length text
+      tail-within = omega (arith, place-within (map (nameOf 8) names) n tail _ before after r there, length-drop next text, found .within)

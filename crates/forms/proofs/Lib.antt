@@ -1,7 +1,7 @@
 -- The laws that the readers' proofs cite, and the uniqueness of what is promised; each file after those that it cites.
--- join-stuck, join-more, key-passed, line-farther, tail-within: the farthest place where a word was stuck
-pub mod Farthest
--- Sought, sought-none, sought-found, sought-more, sought-all, tail-there: the kinds by their places
+-- kind-word, kind-rest, kind-decides: the words of the kinds, of which none begins with another
+pub mod KindWords
+-- Sought, sought-none, sought-more, sought-found, letters-found, line-there: the kinds one after the other, and the tail of the one found
 pub mod Kinded
 -- term-stays, term-taken: a term line with all its faults
 pub mod JoinedFaults

@@ -1,59 +1,69 @@
 // Term lines: the kind's word, what follows it, and the faults of the whole.
-ghost use Prim.Native.Nat.{_+_, _<_, _^_};
+ghost use Prim.Native.Nat.{_+_, _≤_, _<_, _^_};
 ghost use mathlib.Core.Path.{_≡_};
-ghost use Rattle.forms.specs.Terms.{LineAnswer, TermAnswer};
-ghost use Rattle.forms.specs.Kinds.{stuckPlace, fartherStep};
+ghost use mathlib.Core.List.{map};
+ghost use lib.ListN.{length};
+ghost use Rattle.table.specs.Decoded.{nameOf};
+ghost use Rattle.grammar.specs.Forms.{termLine};
+ghost use Rattle.tails.specs.Lines.{LineRead};
+ghost use Rattle.forms.specs.Terms.{termPlace, shiftedStep, TermAnswer};
 use crate::kinds::KindStep;
 use crate::kinds::find_kind;
 use crate::kinds::kind_stuck_at;
-use crate::kinds::most;
-use operands::joined_fault;
+use crate::operands::joined_fault;
+use table::NAMES;
 use tails::TermStep;
 use tails::read_tail;
 use words::Step;
 use words::literals::read_literal;
 use words::stuck_at;
 
-// The tail's answer as the line's, from the place of the tail on. A word before the kind's may have been stuck farther on.
-fn farthest(x: TermStep, at: usize, far: usize) -> TermStep
-    requires { ⌜ at + stuckPlace x < 2 ^ 64 ⌝ }
-    ensures { λ r. ⌜ r ≡ fartherStep at far x ⌝ }
+// The tail's answer as the line's: the tail stands at this place.
+fn shifted(x: TermStep, at: usize) -> TermStep
+    requires { ⌜ at + termPlace x < 2 ^ 64 ⌝ }
+    ensures { λ r. ⌜ r ≡ shiftedStep at x ⌝ }
 {
-    let TermStep::Stuck(p) = x else {
-        return x;
-    };
-    TermStep::Stuck(most(far, at + p))
+    match x {
+        TermStep::To(term, found, took) => TermStep::To(term, found, at + took),
+        TermStep::Stuck(p) => TermStep::Stuck(at + p),
+    }
 }
 
 // The key, the kind's word and what follows it, with the faults of the names and the list.
-fn read_line(line: &[u8], names: &[u64], n: usize, store: &mut [u64]) -> TermStep
-    ensures { λ r. ⌜ LineAnswer (now (names .entry)) n (now (line .entry)) (now (store .entry)) (now (store .exit)) r ⌝ }
+fn read_line(text: &[u8], names: &[u64], n: usize, list: &mut [u64]) -> TermStep
+    requires { ⌜ length (now names) ≤ 12 ⌝ }
+    ensures { λ r. ⌜ LineRead (map (nameOf 8) (now (names .entry))) n (now (text .entry)) (termLine (now (text .entry)))
+        (now (list .entry)) (now (list .exit)) r ⌝ }
 {
-    let key = read_literal(line, b"term=");
+    let key = read_literal(text, b"term=");
     let Step::To(_, at) = key else {
         return TermStep::Stuck(stuck_at(key));
     };
-    let kind = find_kind(line, at);
-    let KindStep::To(k, next, far) = kind else {
+    let kind = find_kind(text, at);
+    let KindStep::To(k, next) = kind else {
         return TermStep::Stuck(kind_stuck_at(kind));
     };
-    farthest(read_tail(k, &line[next..], names, n, store), next, far)
+    shifted(read_tail(k, &text[next..], names, n, list), next)
 }
 
-// A term line, by the term's number. The store is the part of the list store that belongs to the line.
+// A term's line, by the term's number, from the start of the text. The list is that of the term: the words of the line's list are put
+// over its start. With more names than a description has nothing is read.
 pub fn read_term(
-    line: &[u8],
+    text: &[u8],
     names: &[u64],
     equations: usize,
     n: usize,
-    store: &mut [u64],
+    list: &mut [u64],
 ) -> TermStep
-    ensures { λ r. ⌜ TermAnswer (now (names .entry)) equations n (now (line .entry)) (now (store .entry)) (now (store .exit)) r ⌝ }
+    ensures { λ r. ⌜ TermAnswer (now (names .entry)) equations n (now (text .entry)) (now (list .entry)) (now (list .exit)) r ⌝ }
 {
-    let said = read_line(line, names, n, store);
-    let TermStep::To(x, found) = said else {
+    if NAMES < names.len() {
+        return TermStep::Stuck(0);
+    }
+    let said = read_line(text, names, n, list);
+    let TermStep::To(x, found, took) = said else {
         return said;
     };
     let fault = joined_fault(x, found, n, equations);
-    TermStep::To(x, fault)
+    TermStep::To(x, fault, took)
 }

@@ -15,6 +15,7 @@ use Rattle.meaning.specs.Descriptions as D
 use Rattle.meaning.specs.Legal.{LegalOrder, Legal}
 use Rattle.meaning.specs.Answers.{Fault, form, name, range}
 use Rattle.meaning.proofs.Tests.{and-left, and-right, and-both}
+use Rattle.grammar.specs.Text.{isLower, isDigit}
 use Rattle.grammar.specs.Forms.{countLine, nameLine}
 use Rattle.grammar.specs.Faults.{unless, inRange, termSaid, termFault}
 use Rattle.grammar.specs.Reading.{takeNumber, namesInRange, equationsInRange, termsInRange, isFree, takeName, takeTerm, takeBody, takeOrder, Walk}
@@ -23,7 +24,6 @@ use Rattle.grammar.specs.Marks.{decimal}
 use Rattle.grammar.specs.Writing.{termText, orderText, written, LegalWords}
 use Rattle.grammar.proofs.Findings.{fine-unless}
 use Rattle.grammar.proofs.Onwards.{T-not→false}
-use Rattle.grammar.proofs.Writes.{inline?}
 use Rattle.grammar.proofs.Atoms.{itself, faultless, Small, writes-number, writes-word}
 use Rattle.grammar.proofs.LineForms.{WritesLine, line-ended, line-after, line-narrow}
 use Rattle.grammar.proofs.TermLines.{writes-term, writes-order}
@@ -32,24 +32,24 @@ use Rattle.grammar.proofs.Sections.{Ends, ends-reached, ends-walk, ends
 use Rattle.grammar.proofs.LegalLines.{NewWord, NewBody, NewTerm, legal-words, legal-bodies, legal-terms}
 
 -- The lines.
-writes-count : (key : Text) → T (inline? key) → WritesLine (countLine key) itself faultless itself (λ n. key ++ decimal n) Small
-unfolding countLine
-writes-count key tested = line-after key tested (line-ended writes-number itself itself faultless itself (λ n. refl) (λ n. Iff·rfl))
+writes-count : (key : Text) → WritesLine (countLine key) itself faultless itself (λ n. key ++ decimal n) Small
+unfolding countLine isLower isDigit
+writes-count key = line-after key (line-ended writes-number tt itself itself faultless itself (λ n. refl) (λ n. Iff·rfl))
 
-takes-number : (key : Text) → T (inline? key) → (test : ℕ → Bool) (f : Fault)
+takes-number : (key : Text) (test : ℕ → Bool) (f : Fault)
     → Takes (takeNumber key test f) itself (λ n. key ++ decimal n) (λ n. Small n × T (test n))
 unfolding takeNumber
-takes-number key tested test f = takes-if (writes-count key tested) test f itself
+takes-number key test f = takes-if (writes-count key) test f itself
 
 takes-body : (terms : ℕ) (bodies : List ℕ)
     → Takes (takeBody terms bodies) (λ b. bodies ++ (b ∷ [])) (λ b. ascii "equation=" ++ decimal b) (NewBody terms bodies)
 unfolding takeBody
-takes-body terms bodies = takes-if (writes-count (ascii "equation=") tt) (λ b. ltb b terms) range (λ b. bodies ++ (b ∷ []))
+takes-body terms bodies = takes-if (writes-count (ascii "equation=")) (λ b. ltb b terms) range (λ b. bodies ++ (b ∷ []))
 
 takes-name : (words : List Text) → Takes (takeName words) (λ w. words ++ (w ∷ [])) (λ w. ascii "name=" ++ w) (NewWord words)
-unfolding takeName nameLine
+unfolding takeName nameLine isLower isDigit
 takes-name words =
-    takes-if (line-after (ascii "name=") tt (line-ended writes-word itself itself faultless itself (λ w. refl) (λ w. Iff·rfl)))
+    takes-if (line-after (ascii "name=") (line-ended writes-word tt itself itself faultless itself (λ w. refl) (λ w. Iff·rfl)))
     (isFree words) name (λ w. words ++ (w ∷ []))
 
 takes-term : (words : List Text) → LegalWords words → (references : ℕ) (terms : List Term)
@@ -80,14 +80,14 @@ within least most n = (
 whole→ : (t : Text) → Ends (wholeText t) (λ w r. r ≡ [] → Accepted (w .given) (w .order) t)
 unfolding wholeText
 whole→ t =
-    ends-walk (ends-line (takes-number (ascii "names=") tt namesInRange form) 1 t) (λ n l₁ r₁ a₁.
+    ends-walk (ends-line (takes-number (ascii "names=") namesInRange form) 1 t) (λ n l₁ r₁ a₁.
     ends-walk (ends-section takes-name n l₁ r₁) (λ words l₂ r₂ a₂.
     let good = legal-words words .0 (a₂ .2) in
-    ends-walk (ends-line (takes-number (ascii "equations=") tt equationsInRange form) l₂ r₂) (λ e l₃ r₃ a₃.
-    ends-walk (ends-line (takes-number (ascii "terms=") tt termsInRange form) l₃ r₃) (λ c l₄ r₄ a₄.
+    ends-walk (ends-line (takes-number (ascii "equations=") equationsInRange form) l₂ r₂) (λ e l₃ r₃ a₃.
+    ends-walk (ends-line (takes-number (ascii "terms=") termsInRange form) l₃ r₃) (λ c l₄ r₄ a₄.
     ends-walk (ends-section (takes-term words good e) c l₄ r₄) (λ terms l₅ r₅ a₅.
     ends-walk (ends-section (takes-body c) e l₅ r₅) (λ bodies l₆ r₆ a₆.
-    ends-walk (ends-line (takes-number (ascii "root=") tt (λ r. ltb r c) range) l₆ r₆) (λ root l₇ r₇ a₇.
+    ends-walk (ends-line (takes-number (ascii "root=") (λ r. ltb r c) range) l₆ r₆) (λ root l₇ r₇ a₇.
     ends-walk (ends-line (takes-order words good) l₇ r₇) (λ order l₈ r₈ a₈.
     let d : Description = record { words = words; terms = terms; bodies = bodies; root = root } in
     let nameNumber = within 1 12 n .0 (a₁ .1 .1) in
@@ -119,13 +119,13 @@ whole← d o legal good =
     let t = D.termCount d in
     let legalTerms = legal-terms d (omega arith) [] (d .terms) (omega arith) .1 (legal .terms) in
     let legalBodies = legal-bodies t (omega arith) [] (d .bodies) .1 (legal .bodies) in
-    walk← _ (one-line← (takes-number (ascii "names=") tt namesInRange form) 1 (names d) _ (omega arith, within 1 12 (names d) .1 nameNumber)) (λ l₁.
+    walk← _ (one-line← (takes-number (ascii "names=") namesInRange form) 1 (names d) _ (omega arith, within 1 12 (names d) .1 nameNumber)) (λ l₁.
     walk← _ (lines← takes-name (d .words) [] l₁ _ (legal-words (d .words) .1 good)) (λ l₂.
-    walk← _ (one-line← (takes-number (ascii "equations=") tt equationsInRange form) l₂ e _ (omega arith, le→leb e 16 equationNumber)) (λ l₃.
-    walk← _ (one-line← (takes-number (ascii "terms=") tt termsInRange form) l₃ t _ (omega arith, within 1 96 t .1 termNumber)) (λ l₄.
+    walk← _ (one-line← (takes-number (ascii "equations=") equationsInRange form) l₂ e _ (omega arith, le→leb e 16 equationNumber)) (λ l₃.
+    walk← _ (one-line← (takes-number (ascii "terms=") termsInRange form) l₃ t _ (omega arith, within 1 96 t .1 termNumber)) (λ l₄.
     walk← _ (lines← (takes-term (d .words) good e) (d .terms) [] l₄ _ legalTerms) (λ l₅.
     walk← _ (lines← (takes-body t) (d .bodies) [] l₅ _ legalBodies) (λ l₆.
-    walk← _ (one-line← (takes-number (ascii "root=") tt (λ r. ltb r t) range) l₆ (d .root) _ (omega arith, lt→ltb (d .root) t below)) (λ l₇.
+    walk← _ (one-line← (takes-number (ascii "root=") (λ r. ltb r t) range) l₆ (d .root) _ (omega arith, lt→ltb (d .root) t below)) (λ l₇.
     walk← _ (one-line← (takes-order (d .words) good) l₇ o [] (legal .order)) (λ l₈. record { number = l₈; there = refl }))))))))
 
 -- The text as it is read: not too long, and nothing behind its last line.

@@ -6,23 +6,21 @@ use mathlib.Core.Bool.{not}
 use mathlib.Core.List.{List, [], _∷_, _++_}
 use Prim.Native.Nat.{ℕ, zero, suc, _+_, _*_, _-_, _/_, _%_, _≤_, _<_, zero-le, suc-le-suc}
 use native.Mathlib.Omega.{arith}
-use native.Mathlib.Decide.{decLt}
 use lib.Dec.{T, leb, ltb, eqb, eqb→eq, eqb-refl, leb→le, le→leb, ltb→lt, lt→ltb, lit<, nltb→le, not-T, T-not}
 use lib.ListN.{length, getD}
 use Rattle.meaning.specs.Bytes.{Text}
 use Rattle.meaning.specs.Sets.{_∈_}
 use Rattle.meaning.specs.Legal.{Each}
 use Rattle.meaning.specs.Answers.{name}
-use Rattle.meaning.proofs.Tests.{and-left, and-right, and-both, or-cases, or-left, decided-by}
+use Rattle.meaning.proofs.Tests.{and-left, and-right, and-both, decided-by}
 use Rattle.grammar.specs.Text.{past, sameText, isDigit, isLower, secondDigit, number, wordOn, word}
-use Rattle.grammar.specs.Forms.{lf}
 use Rattle.grammar.specs.Faults.{Found, fine, nameNumber, nameFault}
 use Rattle.grammar.specs.Marks.{digits, decimal}
 use Rattle.grammar.specs.Writing.{nameText, inName, NameForm, Distinct, LegalWords}
 use Rattle.grammar.proofs.Decimal.{decimal-digit, decimal-two}
 use Rattle.grammar.proofs.Findings.{IsFine, fine-unless}
 use Rattle.grammar.proofs.Onwards.{T→true, T-not→false, same→, same-refl, When, when-past, when-stuck, when-branch, onward→, onward←}
-use Rattle.grammar.proofs.Writes.{not-or→, Stops, Inline, Writes, writes-as}
+use Rattle.grammar.proofs.Writes.{not-or→, Stops, Writes, writes-as}
 
 abbrev pub faultless : {A : Type 0} → A → Found
 faultless a = fine
@@ -38,10 +36,6 @@ digit→ b h = (leb→le 48 b (and-left (leb 48 b) (leb b 57) h), leb→le b 57 
 digit← : (b : ℕ) → 48 ≤ b → b ≤ 57 → T (isDigit b)
 unfolding isDigit
 digit← b h k = and-both (leb 48 b) (leb b 57) (le→leb 48 b h) (le→leb b 57 k)
-
-lower→ : (b : ℕ) → T (isLower b) → (97 ≤ b) × (b ≤ 122)
-unfolding isLower
-lower→ b h = (leb→le 97 b (and-left (leb 97 b) (leb b 122) h), leb→le b 122 (and-right (leb 97 b) (leb b 122) h))
 
 not-eqb : (m n : ℕ) → (m ≡ n → ⊥) → T (not (eqb m n))
 not-eqb m n h = not-T (eqb m n) (λ t. h (eqb→eq m n t))
@@ -91,7 +85,7 @@ first-digit n s h k =
 
 no-second : (n : ℕ) (r : Text) → Stops inName r → secondDigit n r ≡ past n r
 unfolding secondDigit
-no-second n [] h = refl
+no-second n [] h = absurd h
 no-second n (b ∷ r) h = rw (T-not→false (isDigit b) (not-or→ (isLower b) (isDigit b) h .1), secondDigit)
 
 number-reads : (n : ℕ) → Small n → (r : Text) → Stops inName r → number (decimal n ++ r) ≡ past n r
@@ -112,23 +106,10 @@ number-reads (suc m) h r k =
           (rw (decimal-two (n / 10) (n % 10) (omega arith) (omega arith) (omega arith)) (first ∙ second))
     ]
 
-digit-inline : (n : ℕ) → T (not (eqb (digitOf n) lf))
-digit-inline n = not-eqb (digitOf n) lf (λ e. absurd (omega arith))
-
-number-inline : (n : ℕ) → Small n → Inline (decimal n)
-number-inline n h =
-    elim (decLt n 10) [
-      | yes d ↦ rw (decimal-digit n d) (digit-inline n, tt)
-      | no d ↦ let e : n ≡ 10 * (n / 10) + n % 10 = omega arith in
-          subst (λ x. Inline (decimal x)) (sym e)
-          (rw (decimal-two (n / 10) (n % 10) (omega arith) (omega arith) (omega arith)) (digit-inline (n / 10), (digit-inline (n % 10), tt)))
-    ]
-
 pub writes-number : Writes number itself faultless decimal Small inName
 writes-number = record {
   sound = number-sound;
   complete = λ n h. record { value = n; faultless = tt; said = refl; reads = number-reads n h };
-  inline = number-inline;
 }
 
 -- Words.
@@ -156,7 +137,7 @@ wordOn-reads : (more : ℕ) (w : Text) → length w ≤ more → InName w → (r
 unfolding wordOn
 wordOn-reads zero [] n h r k = refl
 wordOn-reads zero (c ∷ w) n h r k = absurd (omega arith)
-wordOn-reads (suc more) [] n h [] k = refl
+wordOn-reads (suc more) [] n h [] k = absurd k
 wordOn-reads (suc more) [] n h (b ∷ r) k = rw (T-not→false (inName b) k, wordOn)
 wordOn-reads (suc more) (c ∷ w) n h r k =
     rw (T→true (inName c) (h .0), wordOn) (onward← (λ u q. past (c ∷ u) q) (wordOn-reads more w (omega arith) (h .1) r k))
@@ -166,26 +147,10 @@ unfolding word
 word-reads [] h r k = absurd h
 word-reads (b ∷ w) h r k = rw (T→true (isLower b) (h .0), word) (onward← (λ u q. past (b ∷ u) q) (wordOn-reads 7 w (h .1) (h .2) r k))
 
-letter-inline : (b : ℕ) → T (inName b) → T (not (eqb b lf))
-letter-inline b h =
-    not-eqb b lf (λ e. elim (or-cases (isLower b) (isDigit b) h) [
-      | inl t ↦ let k = lower→ b t in absurd (omega arith)
-      | inr t ↦ let k = digit→ b t in absurd (omega arith)
-    ])
-
-letters-inline : (w : Text) → InName w → Inline w
-letters-inline [] h = tt
-letters-inline (b ∷ w) h = (letter-inline b (h .0), letters-inline w (h .1))
-
-word-inline : (w : Text) → NameForm w → Inline w
-word-inline [] h = tt
-word-inline (b ∷ w) h = letters-inline (b ∷ w) (or-left (isLower b) (isDigit b) (h .0), h .2)
-
 pub writes-word : Writes word itself faultless itself NameForm inName
 writes-word = record {
   sound = word-sound;
   complete = λ w h. record { value = w; faultless = tt; said = refl; reads = word-reads w h };
-  inline = word-inline;
 }
 
 -- Names, by their numbers.

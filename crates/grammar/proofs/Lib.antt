@@ -15,7 +15,7 @@ pub mod Areas
 pub mod Underway
 -- fine-worse, fine-unless: a line has no fault exactly when none of its parts has one
 pub mod Findings
--- T→true, when-past, onward→, literal→, ended→, ..: what a form's answer says of the steps that it is made of
+-- T→true, when-past, onward→, literal→, rest→, ..: what a form's answer says of the steps that it is made of
 pub mod Onwards
 -- writes-as, writes-narrow, writes-pair, writes-several: forms put together are read back from their writings
 pub mod Writes

@@ -2,22 +2,24 @@
 -- Assumes nothing.
 use mathlib.Core.Path.{_≡_, sym, ap, subst, _∙_, _≡⟨_⟩_, _∎}
 use mathlib.Core.Logic.{_↔_}
-use mathlib.Core.Bool.{Bool}
-use mathlib.Core.List.{[], _++_, append-nil}
+use mathlib.Core.Bool.{Bool, not}
+use mathlib.Core.List.{[], _∷_, _++_, append-assoc}
 use Prim.Native.Nat.{ℕ}
 use lib.Dec.{T}
 use Rattle.meaning.specs.Bytes.{Text}
-use Rattle.grammar.specs.Text.{Past, past, onward, ended, literal}
+use Rattle.grammar.specs.Text.{Past, past, onward, lf, ended, literal}
 use Rattle.grammar.specs.Faults.{Found, fine, worse}
+use Rattle.grammar.specs.Writing.{lineBefore}
 use Rattle.grammar.proofs.Findings.{IsFine, fine-worse}
-use Rattle.grammar.proofs.Onwards.{When, when-past, when-weaken, onward→, onward←, ended→, ended←, literal→, literal←}
-use Rattle.grammar.proofs.Writes.{Stops, Inline, inline?, inline-tested, inline-append, Writes}
+use Rattle.grammar.proofs.Onwards.{When, when-past, when-weaken, onward→, onward←, literal→, literal←}
+use Rattle.grammar.proofs.Writes.{Stops, Writes}
 
+-- A line's text without its LF is read back, whatever text there is after the LF.
 pub record ReadsLine {X Y Z : Type 0} (form : Text → Past X) (says : X → Z) (fault : X → Found) (build : Y → Z) (text : Y → Text) (y : Y) : Type 0 where
   pub value : X
   pub faultless : IsFine (fault value)
   pub said : says value ≡ build y
-  pub reads : form (text y) ≡ past value []
+  pub reads : (r : Text) → form (lineBefore (text y) r) ≡ past value r
 
 -- What a line was made of, and its text.
 pub record Made {Y Z : Type 0} (build : Y → Z) (text : Y → Text) (Legal : Y → Type 0) (z : Z) (s : Text) : Type 0 where
@@ -28,42 +30,45 @@ pub record Made {Y Z : Type 0} (build : Y → Z) (text : Y → Text) (Legal : Y 
 
 pub record WritesLine {X Y Z : Type 0} (form : Text → Past X) (says : X → Z) (fault : X → Found)
     (build : Y → Z) (text : Y → Text) (Legal : Y → Type 0) : Type 0 where
-  pub sound : (s : Text) → When (form s) (λ x r. IsFine (fault x) → Made build text Legal (says x) s)
+  pub sound : (s : Text) → When (form s) (λ x r. IsFine (fault x) → Made build (λ y. lineBefore (text y) r) Legal (says x) s)
   pub complete : (y : Y) → Legal y → ReadsLine form says fault build text y
-  pub inline : (y : Y) → Legal y → Inline (text y)
 
 -- A form and then the end.
 pub line-ended : {X Y W Z : Type 0} {form : Text → Past X} {says : X → Y} {fault : X → Found} {text : Y → Text} {Legal : Y → Type 0} {goes : ℕ → Bool}
-    → Writes form says fault text Legal goes
+    → Writes form says fault text Legal goes → T (not (goes lf))
     → (make : X → W) (says′ : W → Z) (fault′ : W → Found) (build : Y → Z)
     → ((x : X) → says′ (make x) ≡ build (says x)) → ((x : X) → IsFine (fault′ (make x)) ↔ IsFine (fault x))
     → WritesLine (λ s. onward (form s) (λ x q. onward (ended q) (λ _ p. past (make x) p))) says′ fault′ build text Legal
-line-ended {form} {says} {text} w make says′ fault′ build same faults = record {
-  sound = λ s. onward→ (w .sound s) (λ x r h. onward→ (ended→ r) (λ _ q e. when-past (λ f.
+line-ended {says} {text} w apart make says′ fault′ build same faults = record {
+  sound = λ s. onward→ (w .sound s) (λ x q h. onward→ (literal→ (lf ∷ []) q) (λ _ r e. when-past (λ f.
       let k = h (faults x .0 f) in
-      let whole = k .0 ∙ ap (λ t. text (says x) ++ t) (e .0) ∙ append-nil (text (says x)) in
-      record { source = says x; builds = same x; writes = whole; legal = k .1 })));
+      record { source = says x; builds = same x; writes = k .0 ∙ ap (λ t. text (says x) ++ t) e; legal = k .1 })));
   complete = λ y l.
       let c = w .complete y l in
       record {
         value = make (c .value);
         faultless = faults (c .value) .1 (c .faultless);
         said = same (c .value) ∙ ap build (c .said);
-        reads = onward← _ (subst (λ t. form t ≡ past (c .value) []) (append-nil (text y)) (c .reads [] tt)) ∙ onward← _ ended←;
+        reads = λ r. onward← _ (c .reads (lf ∷ r) apart) ∙ onward← _ (literal← (lf ∷ []) r);
       };
-  inline = w .inline;
 }
 
 -- A form before the rest of a line.
 pub line-first : {A X Y Z : Type 0} {form : Text → Past A} {text₁ : A → Text} {Legal₁ : A → Type 0} {goes : ℕ → Bool}
     {rest : A → Text → Past X} {says : X → Z} {fault : X → Found} {build : A → Y → Z} {text : Y → Text} {Legal : Y → Type 0}
-    → Writes form (λ a. a) (λ a. fine) text₁ Legal₁ goes → ((a : A) → WritesLine (rest a) says fault (build a) text Legal) → ((y : Y) → Stops goes (text y))
+    → Writes form (λ a. a) (λ a. fine) text₁ Legal₁ goes → ((a : A) → WritesLine (rest a) says fault (build a) text Legal)
+    → ((y : Y) (r : Text) → Stops goes (lineBefore (text y) r))
     → WritesLine (λ s. onward (form s) rest) says fault
     (λ (p : A × Y). build (p .0) (p .1)) (λ (p : A × Y). text₁ (p .0) ++ text (p .1)) (λ (p : A × Y). Legal₁ (p .0) × Legal (p .1))
 line-first {form} {text₁} {rest} {build} {text} w v stops = record {
-  sound = λ s. onward→ (w .sound s) (λ a r h. when-weaken (v a .sound r) (λ x q i f.
+  sound = λ s. onward→ (w .sound s) (λ a q h. when-weaken (v a .sound q) (λ x r i f.
       let k = i f in
-      record { source = (a, k .source); builds = k .builds; writes = h tt .0 ∙ ap (λ t. text₁ a ++ t) (k .writes); legal = (h tt .1, k .legal) }));
+      record {
+        source = (a, k .source);
+        builds = k .builds;
+        writes = h tt .0 ∙ ap (λ t. text₁ a ++ t) (k .writes) ∙ sym (append-assoc (text₁ a) (text (k .source)) (lf ∷ r));
+        legal = (h tt .1, k .legal);
+      }));
   complete = λ p l.
       let c = w .complete (p .0) (l .0) in
       let d = v (p .0) .complete (p .1) (l .1) in
@@ -71,26 +76,33 @@ line-first {form} {text₁} {rest} {build} {text} w v stops = record {
         value = d .value;
         faultless = d .faultless;
         said = d .said;
-        reads = onward (form (text₁ (p .0) ++ text (p .1))) rest
-            ≡⟨ onward← _ (c .reads (text (p .1)) (stops (p .1))) ⟩ rest (c .value) (text (p .1))
-            ≡⟨ ap (λ a. rest a (text (p .1))) (c .said) ⟩ rest (p .0) (text (p .1))
-            ≡⟨ d .reads ⟩ past (d .value) [] ∎;
+        reads = λ r.
+            let more = lineBefore (text (p .1)) r in
+            onward (form ((text₁ (p .0) ++ text (p .1)) ++ (lf ∷ r))) rest
+            ≡⟨ ap (λ t. onward (form t) rest) (append-assoc (text₁ (p .0)) (text (p .1)) (lf ∷ r)) ⟩ onward (form (text₁ (p .0) ++ more)) rest
+            ≡⟨ onward← _ (c .reads more (stops (p .1) r)) ⟩ rest (c .value) more
+            ≡⟨ ap (λ a. rest a more) (c .said) ⟩ rest (p .0) more
+            ≡⟨ d .reads r ⟩ past (d .value) r ∎;
       };
-  inline = λ p l. inline-append (text₁ (p .0)) (text (p .1)) (w .inline (p .0) (l .0)) (v (p .0) .inline (p .1) (l .1));
 }
 
 module _ {X Y Z : Type 0} {form : Text → Past X} {says : X → Z} {fault : X → Found} {build : Y → Z} {text : Y → Text} {Legal : Y → Type 0} where
   -- A line behind a word that must stand there.
-  pub line-after : (key : Text) → T (inline? key) → WritesLine form says fault build text Legal
+  pub line-after : (key : Text) → WritesLine form says fault build text Legal
       → WritesLine (λ s. onward (literal key s) (λ _ r. form r)) says fault build (λ y. key ++ text y) Legal
-  line-after key tested w = record {
-    sound = λ s. onward→ (literal→ key s) (λ _ r e. when-weaken (w .sound r) (λ x q h f.
+  line-after key w = record {
+    sound = λ s. onward→ (literal→ key s) (λ _ q e. when-weaken (w .sound q) (λ x r h f.
         let k = h f in
-        record { source = k .source; builds = k .builds; writes = e ∙ ap (λ t. key ++ t) (k .writes); legal = k .legal }));
+        let whole = e ∙ ap (λ t. key ++ t) (k .writes) ∙ sym (append-assoc key (text (k .source)) (lf ∷ r)) in
+        record { source = k .source; builds = k .builds; writes = whole; legal = k .legal }));
     complete = λ y l.
         let c = w .complete y l in
-        record { value = c .value; faultless = c .faultless; said = c .said; reads = onward← _ (literal← key (text y)) ∙ c .reads };
-    inline = λ y l. inline-append key (text y) (inline-tested key tested) (w .inline y l);
+        record {
+          value = c .value;
+          faultless = c .faultless;
+          said = c .said;
+          reads = λ r. rw append-assoc (onward← _ (literal← key (lineBefore (text y) r)) ∙ c .reads r);
+        };
   }
 
   -- One more fault to be free of.
@@ -109,5 +121,4 @@ module _ {X Y Z : Type 0} {form : Text → Past X} {says : X → Z} {fault : X �
           said = c .said;
           reads = c .reads;
         };
-    inline = λ y l. w .inline y (l .0);
   }

@@ -1,13 +1,13 @@
 -- Parts, labels, pairs, rules and the four lists: each is read back from its writing, and from nothing else.
 -- Assumes nothing.
-use mathlib.Core.Path.{_≡_, refl, sym, ap, ap₂, _∙_}
+use mathlib.Core.Path.{_≡_, refl, sym, ap, ap₂, subst, _∙_}
 use mathlib.Core.Logic.{_↔_, Iff·rfl}
-use mathlib.Core.Bool.{Bool, true, _||_}
+use mathlib.Core.Bool.{Bool, true, false, _||_, not}
 use mathlib.Core.List.{List, [], _∷_, _++_, map}
 use Prim.Native.Nat.{ℕ, _+_, _≤_, _<_, zero-le}
 use native.Mathlib.Omega.{arith}
-use lib.Dec.{T, leb, eqb, leb→le, le→leb, ltb→lt, lt→ltb}
-use lib.ListN.{length, length-map}
+use lib.Dec.{T, leb, eqb, eqb→eq, leb→le, le→leb, ltb→lt, lt→ltb}
+use lib.ListN.{length, drop, length-map}
 use Rattle.meaning.specs.Bytes.{Text, ascii}
 use Rattle.meaning.specs.Labels as L
 use Rattle.meaning.specs.Labels.{Label, size}
@@ -17,15 +17,15 @@ use Rattle.meaning.specs.Legal.{LegalLabel, LegalNames, LegalPair, LegalPairs, 
 use Rattle.meaning.specs.Answers.{name, amount}
 use Rattle.meaning.proofs.Tests.{and-left, and-right, and-both}
 use Rattle.meaning.proofs.Bags.{size-plus, size-empty}
-use Rattle.grammar.specs.Text.{past, sameText, isDigit, isLower, literal, number, word, wordOn, separatedOn, separated}
-use Rattle.grammar.specs.Forms.{Part, Parts, comma, dot, colon, greater, part, label, wordList, pair, rule, labelList}
+use Rattle.grammar.specs.Text.{past, isRest, isDigit, isLower, literal, number, word, wordOn, separatedOn, separated}
+use Rattle.grammar.specs.Forms.{Part, Parts, lf, comma, dot, colon, greater, part, label, wordList, pair, rule, labelList}
 use Rattle.grammar.specs.Faults.{worse, unless, worst, above, rising, nameNumber, nameFault, labelSaid, actions, partFault, labelFault, wordsFault}
 use Rattle.grammar.specs.Faults.{pairFault, pairsFault, ruleFault, rulesFault, labelsFault, pairSaid, ruleSaid, numberSaid}
 use Rattle.grammar.specs.Marks.{decimal, joinedBy, labelText}
 use Rattle.grammar.specs.Writing.{nameText, pairText, ruleText, listText, labelsText, inName, LegalWords}
 use Rattle.grammar.proofs.Findings.{IsFine, fine-worse, fine-unless}
-use Rattle.grammar.proofs.Onwards.{same→, sameText-differs, when-past, when-weaken, when-branch}
-use Rattle.grammar.proofs.Writes.{each-weaken, inline-tested, Reads, Writes, writes-as, writes-narrow, writes-pair, writes-several}
+use Rattle.grammar.proofs.Onwards.{T→true, rest→, rest-differs, literal→, when-past, when-weaken, when-branch}
+use Rattle.grammar.proofs.Writes.{each-weaken, Stops, Reads, Writes, writes-as, writes-narrow, writes-pair, writes-several}
 use Rattle.grammar.proofs.Atoms.{known-says, itself, faultless, Small, writes-number, writes-name}
 use Rattle.grammar.proofs.Entries.{Entry, entriesFrom, entryText, label-entries, added, total, size-known}
 use Rattle.grammar.proofs.Entries.{LegalEntry, LegalEntries, added-legal, entries-legal}
@@ -83,7 +83,7 @@ module _ (words : List Text) (legal : LegalWords words) where
   writes-part : Writes part (partSaid words) (partFault words) (entryText words) (LegalEntry (length words)) inName
   unfolding part isLower isDigit
   writes-part =
-      writes-pair (writes-name words legal) writes-count colon tt tt
+      writes-pair (writes-name words legal) writes-count colon tt
       (λ w n. record { name = w; times = n }) (λ e. e .name) (λ e. e .times) (partSaid words) (partFault words)
       (λ w n. refl) (λ w n. refl) (λ y z p q. ap₂ (λ m n. record { name = m; times = n }) p q)
       (λ w n. fine-worse (nameFault words w) (unless (leb 1 n) amount))
@@ -105,7 +105,7 @@ module _ (words : List Text) (legal : LegalWords words) where
   writes-entries : Writes label (map (partSaid words)) (labelFault words) (λ es. joinedBy dot (map (entryText words) es)) (LegalEntries (length words)) inLabel
   unfolding labelFault isLower isDigit
   writes-entries =
-      writes-narrow (writes-several writes-part dot tt tt)
+      writes-narrow (writes-several writes-part dot tt)
       (λ ps. worse (unless (rising (map (λ p. nameNumber words (p .name)) ps)) amount) (unless (leb (actions ps) 31) amount))
       (λ es. Rising (map (λ e. e .name) es) × (total es ≤ 31)) (LegalEntries (length words))
       (λ ps _. fine-most (partSaid words) (λ e. e .name) ps (actions ps) (total (map (partSaid words) ps)) 31 (actions-total ps))
@@ -153,7 +153,7 @@ module _ (words : List Text) (legal : LegalWords words) where
   writes-one-pair : Writes pair (pairSaid words) (pairFault words) (pairText words) (LegalPair (length words)) inName
   unfolding pair isLower isDigit
   writes-one-pair =
-      writes-pair (writes-name words legal) (writes-name words legal) greater tt tt
+      writes-pair (writes-name words legal) (writes-name words legal) greater tt
       (λ a b. record { left = a; right = b }) (λ p. p .left) (λ p. p .right) (pairSaid words) (pairFault words)
       (λ a b. refl) (λ a b. refl) (λ y z p q. ap₂ (λ m n. record { left = m; right = n }) p q) (λ a b. fine-worse (nameFault words a) (nameFault words b))
 
@@ -163,7 +163,7 @@ module _ (words : List Text) (legal : LegalWords words) where
   writes-one-rule : Writes rule (ruleSaid words) (ruleFault words) (ruleText words) OneRule inName
   unfolding rule isLower isDigit
   writes-one-rule =
-      writes-pair writes-left (writes-name words legal) greater tt tt
+      writes-pair writes-left (writes-name words legal) greater tt
       (λ a b. record { left = a; right = b }) (λ r. r .left) (λ r. r .right) (ruleSaid words) (ruleFault words)
       (λ a b. refl) (λ a b. refl) (λ y z p q. ap₂ (λ m n. record { left = m; right = n }) p q)
       (λ ps b. fine-worse (worse (labelFault words ps) (unless (leb 2 (actions ps)) amount)) (nameFault words b))
@@ -175,21 +175,21 @@ module _ (words : List Text) (legal : LegalWords words) where
   pub writes-names : Writes wordList (map (nameNumber words)) (wordsFault words) (listText (nameText words)) (LegalNames (length words)) inList
   unfolding wordsFault isLower isDigit
   writes-names =
-      writes-narrow (writes-several (writes-name words legal) comma tt tt)
+      writes-narrow (writes-several (writes-name words legal) comma tt)
       (λ ws. unless (rising (map (nameNumber words) ws)) amount) Rising (LegalNames (length words))
       (λ ws _. fine-rising (map (nameNumber words) ws)) (λ ns. (λ h. ((h .0, h .1), h .2), λ k. (k .0 .0, k .0 .1, k .1)))
 
   pub writes-pairs : Writes (separated comma pair) (map (pairSaid words)) (pairsFault words) (listText (pairText words)) (LegalPairs (length words)) inList
   unfolding pairsFault isLower isDigit
   writes-pairs =
-      writes-narrow (writes-several writes-one-pair comma tt tt) (λ ps. unless (rising (map (λ p. nameNumber words (p .left)) ps)) amount)
+      writes-narrow (writes-several writes-one-pair comma tt) (λ ps. unless (rising (map (λ p. nameNumber words (p .left)) ps)) amount)
       (λ ps. Rising (map (λ p. p .left) ps)) (LegalPairs (length words))
       (λ ps _. fine-keys (pairSaid words) (λ p. p .left) ps) (λ ns. (λ h. ((h .0, h .1), h .2), λ k. (k .0 .0, k .0 .1, k .1)))
 
   pub writes-rules : Writes (separated comma rule) (map (ruleSaid words)) (rulesFault words) (listText (ruleText words)) (LegalRules (length words)) inList
   unfolding rulesFault isLower isDigit
   writes-rules =
-      writes-narrow (writes-several writes-one-rule comma tt tt)
+      writes-narrow (writes-several writes-one-rule comma tt)
       (λ rs. worse (unless (rising (map (λ r. numberSaid words (r .left)) rs)) amount) (unless (leb (length rs) 8) amount))
       (λ rs. Rising (map (λ r. L.number (r .left)) rs) × (length rs ≤ 8)) (LegalRules (length words))
       (λ rs _. fine-most (ruleSaid words) (λ r. L.number (r .left)) rs (length rs) (length (map (ruleSaid words) rs)) 8 (sym (length-map rs (ruleSaid words))))
@@ -201,54 +201,67 @@ module _ (words : List Text) (legal : LegalWords words) where
   abbrev SomeLabels : List Label → Type 0
   SomeLabels ls = (1 ≤ length ls) × LegalLabels (length words) ls
 
-  writes-some-labels : Writes (separated comma label) (map (labelSaid words)) (labelsFault words) (listText (labelText words)) SomeLabels
-      (λ b. inLabel b || eqb comma b)
+  abbrev inLabels : ℕ → Bool
+  inLabels b = inLabel b || eqb comma b
+
+  writes-some-labels : Writes (separated comma label) (map (labelSaid words)) (labelsFault words) (listText (labelText words)) SomeLabels inLabels
   unfolding labelsFault isLower isDigit
   writes-some-labels =
-      writes-narrow (writes-several writes-label comma tt tt)
+      writes-narrow (writes-several writes-label comma tt)
       (λ ls. worse (unless (rising (map (numberSaid words) ls)) amount) (unless (leb (length ls) 32) amount))
       (λ ls. Rising (map L.number ls) × (length ls ≤ 32)) SomeLabels
       (λ ls _. fine-most (labelSaid words) L.number ls (length ls) (length (map (labelSaid words) ls)) 32 (sym (length-map ls (labelSaid words))))
       (λ ls. (λ h. ((h .0, h .1 .1), (h .1 .2, h .1 .0)), λ k. (k .0 .0, (k .1 .1, k .0 .1, k .1 .0))))
 
-  -- LABELS may be `none`, which is no label.
-  abbrev always : ℕ → Bool
-  always b = true
+  -- LABELS may be `none`, which is no label, and is all that is left of the line; so what follows LABELS is the LF.
+  abbrev inLine : ℕ → Bool
+  inLine b = not (eqb lf b)
+
+  line-left : (r : Text) → Stops inLine r → r ≡ lf ∷ drop 1 r
+  line-left [] h = absurd h
+  line-left (b ∷ r) h = ap {B = Text} (λ c. c ∷ r) (sym (eqb→eq lf b (twice (eqb lf b) h)))
+    where
+      twice : (t : Bool) → T (not (not t)) → T t
+      twice true h = h
+      twice false h = h
 
   some-text : (ls : List Label) → 1 ≤ length ls → listText (labelText words) ls ≡ labelsText words ls
   some-text [] h = absurd (omega arith)
   some-text (a ∷ ls) h = refl
 
-  none-stuck : (xs : List Parts) (r : Text) → separated comma label (ascii "none") ≡ past xs r → ⊥
+  none-stuck : (xs : List Parts) (r q : Text) → separated comma label (ascii "none" ++ (lf ∷ q)) ≡ past xs r → ⊥
   unfolding separatedOn part word wordOn isLower isDigit literal
-  none-stuck xs r e = let z : _≡_ {A = ℕ} 0 1 = cc in omega arith
+  none-stuck xs r q e = let z : _≡_ {A = ℕ} 0 1 = cc in omega arith
 
-  labels-complete : (ls : List Label) → LegalLabels (length words) ls → Reads labelList (map (labelSaid words)) (labelsFault words) (labelsText words) always ls
-  unfolding labelList labelsFault worst rising sameText
-  labels-complete [] l = record { value = []; faultless = tt; said = refl; reads = elim [ [] ↦ λ h. refl | b ∷ r ↦ λ h. absurd h ] }
+  labels-complete : (ls : List Label) → LegalLabels (length words) ls → Reads labelList (map (labelSaid words)) (labelsFault words) (labelsText words) inLine ls
+  unfolding labelList labelsFault worst rising isRest isLower isDigit
+  labels-complete [] l = record {
+    value = [];
+    faultless = tt;
+    said = refl;
+    reads = λ r h. subst (λ t. labelList (ascii "none" ++ t) ≡ past [] t) (sym (line-left r h)) refl;
+  }
   labels-complete (a ∷ ls) l =
       let c = writes-some-labels .complete (a ∷ ls) (omega arith, l) in
       record {
         value = c .value;
         faultless = c .faultless;
         said = c .said;
-        reads = elim [
-          | [] ↦ λ h.
-              let some = labelsText words (a ∷ ls) ++ [] in
-              let other = sameText-differs (separated comma label) some (ascii "none") (c .reads [] tt) (none-stuck (c .value) []) in
-              rw (other, labelList) (c .reads [] tt)
-          | b ∷ r ↦ λ h. absurd h
-        ];
+        reads = λ r h.
+            let some = labelsText words (a ∷ ls) ++ r in
+            let read = c .reads r (subst (Stops inLabels) (sym (line-left r h)) tt) in
+            rw (rest-differs (separated comma label) (ascii "none") some read (none-stuck (c .value) r), labelList) read;
       }
 
-  pub writes-labels : Writes labelList (map (labelSaid words)) (labelsFault words) (labelsText words) (LegalLabels (length words)) always
+  pub writes-labels : Writes labelList (map (labelSaid words)) (labelsFault words) (labelsText words) (LegalLabels (length words)) inLine
   unfolding labelList
   writes-labels = record {
     sound = λ s.
-        when-branch (sameText s (ascii "none")) (λ t. when-past (λ f. (same→ s (ascii "none") t, (zero-le, tt, tt))))
+        when-branch (isRest (ascii "none") s)
+        (λ t. let none = rest→ (ascii "none") s (T→true (isRest (ascii "none") s) t) .0 in
+        when-past (λ f. (literal→ (ascii "none") s .holds tt (drop 4 s) none, (zero-le, tt, tt))))
         (λ _. when-weaken (writes-some-labels .sound s) (λ xs r h f.
         let k = h f in
         (k .0 ∙ ap (λ t. t ++ r) (some-text (map (labelSaid words) xs) (k .1 .0)), k .1 .1)));
     complete = labels-complete;
-    inline = elim [ [] ↦ λ l. inline-tested (ascii "none") tt | a ∷ ls ↦ λ l. writes-some-labels .inline (a ∷ ls) (omega arith, l) ];
   }

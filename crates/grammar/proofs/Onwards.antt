@@ -1,14 +1,15 @@
 -- Reading step by step: what a form's answer says of the steps that it is made of.
 -- Assumes nothing.
-use mathlib.Core.Path.{_≡_, refl, subst, subst₂}
-use mathlib.Core.Bool.{Bool, true, false, not}
+use mathlib.Core.Path.{_≡_, refl, sym, ap, subst, subst₂}
+use mathlib.Core.Bool.{Bool, true, false, not, false≢true}
 use mathlib.Core.List.{[], _∷_, _++_}
-use Prim.Native.Nat.{ℕ}
+use Prim.Native.Nat.{ℕ, suc}
 use native.Mathlib.Omega.{arith}
 use lib.Dec.{T, eqb, eqb→eq, eqb-refl, not-T}
+use lib.ListN.{length, drop}
 use Rattle.meaning.specs.Bytes.{Text}
-use Rattle.meaning.proofs.Tests.{and-left, and-right, and-both}
-use Rattle.grammar.specs.Text.{Past, past, stuck, onward, sameText, ended, literal}
+use Rattle.meaning.proofs.Tests.{and-left, and-right, and-both, and-true→}
+use Rattle.grammar.specs.Text.{Past, past, stuck, onward, sameText, literal, starts, lf, isRest}
 
 -- Tests.
 pub T→true : (b : Bool) → T b → b ≡ true
@@ -33,12 +34,6 @@ pub same-refl : (s : Text) → T (sameText s s)
 unfolding sameText
 same-refl [] = tt
 same-refl (b ∷ s) = and-both (eqb b b) (sameText s s) (eqb-refl b) (same-refl s)
-
--- A text that is read is none that is not read.
-pub sameText-differs : {A : Type 0} (form : Text → Past A) {a : A} {r : Text} (s t : Text)
-    → form s ≡ past a r → (form t ≡ past a r → ⊥) → sameText s t ≡ false
-sameText-differs form {a} {r} s t e f =
-    T-not→false (sameText s t) (not-T (sameText s t) (λ h. f (subst (λ u. form u ≡ past a r) (same→ s t h) e)))
 
 -- What holds of that which was read and of the text left behind it, if anything was read.
 pub record When {A : Type 0} (m : Past A) (P : A → Text → Type 0) : Type 0 where
@@ -67,16 +62,7 @@ onward→ {m = stuck r} h k = when-stuck
 pub onward← : {A B : Type 0} {a : A} {s : Text} {m : Past A} (f : A → Text → Past B) → m ≡ past a s → onward m f ≡ f a s
 onward← f e = rw e
 
--- The end, and a word that must stand there.
-pub ended→ : (s : Text) → When (ended s) (λ _ r. (s ≡ []) × (r ≡ []))
-unfolding ended
-ended→ [] = when-past (refl, refl)
-ended→ (b ∷ s) = when-stuck
-
-pub ended← : ended [] ≡ past tt []
-unfolding ended
-ended← = refl
-
+-- A word that must stand there; the LF that ends a line is one.
 pub literal→ : (w s : Text) → When (literal w s) (λ _ r. s ≡ w ++ r)
 unfolding literal
 literal→ [] s = when-past refl
@@ -87,3 +73,34 @@ pub literal← : (w r : Text) → literal w (w ++ r) ≡ past tt r
 unfolding literal
 literal← [] r = refl
 literal← (c ∷ w) r = rw (T→true (eqb c c) (eqb-refl c), literal) (literal← w r)
+
+-- A word that is all that is left of the line: it stands there, and LF behind it.
+pub rest→ : (w s : Text) → isRest w s ≡ true → (literal w s ≡ past tt (drop (length w) s)) × (starts lf (drop (length w) s) ≡ true)
+unfolding isRest literal
+rest→ [] s h = (refl, h)
+rest→ (c ∷ w) [] h = absurd (false≢true h)
+rest→ (c ∷ w) (b ∷ s) h = let k = and-true→ (eqb c b) (isRest w s) h in let i = rest→ w s (k .1) in (rw (k .0, literal) (i .0), i .1)
+
+pub rest← : (w s r : Text) → literal w s ≡ past tt r → starts lf r ≡ true → isRest w s ≡ true
+unfolding isRest
+rest← w s r e h = subst (λ t. isRest w t ≡ true) (sym (literal→ w s .holds tt r e)) (behind w)
+  where
+    behind : (w : Text) → isRest w (w ++ r) ≡ true
+    behind [] = h
+    behind (c ∷ w) = rw (T→true (eqb c c) (eqb-refl c), isRest) (behind w)
+
+pub rest-line : (w s : Text) → T (isRest w s) → s ≡ w ++ (lf ∷ drop (suc (length w)) s)
+unfolding isRest
+rest-line [] [] h = absurd h
+rest-line [] (b ∷ s) h = ap {B = Text} (λ c. c ∷ s) (sym (eqb→eq lf b h))
+rest-line (c ∷ w) [] h = absurd h
+rest-line (c ∷ w) (b ∷ s) h =
+    let e = eqb→eq c b (and-left (eqb c b) (isRest w s) h) in
+    let f = rest-line w s (and-right (eqb c b) (isRest w s) h) in
+    cc
+
+-- What is read is no line that is not read.
+pub rest-differs : {A : Type 0} (form : Text → Past A) {a : A} {r : Text} (w s : Text)
+    → form s ≡ past a r → ((q : Text) → form (w ++ (lf ∷ q)) ≡ past a r → ⊥) → isRest w s ≡ false
+rest-differs form {a} {r} w s e f =
+    T-not→false (isRest w s) (not-T (isRest w s) (λ h. f (drop (suc (length w)) s) (subst (λ t. form t ≡ past a r) (rest-line w s h) e)))

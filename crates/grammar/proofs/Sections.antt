@@ -1,101 +1,78 @@
 -- Whole lines: one, and so many that are read alike, against their writings.
 -- Assumes nothing.
-use mathlib.Core.Path.{_≡_, refl, sym, ap, ap₂, subst, subst₂, _∙_, _≡⟨_⟩_, _∎}
+use mathlib.Core.Path.{_≡_, refl, sym, ap, subst, subst₂, _∙_, _≡⟨_⟩_, _∎}
 use mathlib.Core.Bool.{Bool, true, false}
 use mathlib.Core.List.{List, [], _∷_, _++_, append-nil, append-assoc}
 use Prim.Native.Nat.{ℕ, zero, suc}
 use native.Mathlib.Omega.{arith}
-use lib.Dec.{T, eqb, eqb→eq}
+use lib.Dec.{T}
 use lib.ListN.{length}
 use Rattle.meaning.specs.Bytes.{Text}
 use Rattle.meaning.specs.Answers.{Fault}
 use Rattle.grammar.specs.Text.{Past, past, stuck}
-use Rattle.grammar.specs.Forms.{lf}
 use Rattle.grammar.specs.Faults.{Found, fine, fault, unless}
-use Rattle.grammar.specs.Reading.{Taken, taken, faulty, takenIf, takenUnless, formed, Cut, cut, noLine, withByte}
-use Rattle.grammar.specs.Reading.{firstLine, Walk, reached, halted, walk, afterLine, lineWalk, oneLine, lines}
+use Rattle.grammar.specs.Reading.{Taken, taken, faulty, takenIf, takenUnless, formed, Walk, reached, halted, walk, afterLine, oneLine, lines}
 use Rattle.grammar.specs.Writing.{lineBefore, eachLine}
 use Rattle.grammar.proofs.Findings.{IsFine, fine-unless}
-use Rattle.grammar.proofs.Onwards.{T-not→false, When}
-use Rattle.grammar.proofs.Writes.{Inline}
+use Rattle.grammar.proofs.Onwards.{When}
 use Rattle.grammar.proofs.LineForms.{Made, WritesLine, line-narrow}
 
--- What is taken of a line.
+-- What is taken of a line, and the text after it.
 pub record Takes {Y B : Type 0} (take : Text → Taken B) (make : Y → B) (text : Y → Text) (Legal : Y → Type 0) : Type 0 where
-  pub sound : (l : Text) (b : B) → take l ≡ taken b → Made make text Legal b l
-  pub complete : (y : Y) → Legal y → take (text y) ≡ taken (make y)
-  pub inline : (y : Y) → Legal y → Inline (text y)
+  pub sound : (s : Text) (b : B) (r : Text) → take s ≡ taken b r → Made make (λ y. lineBefore (text y) r) Legal b s
+  pub complete : (y : Y) → Legal y → (r : Text) → take (lineBefore (text y) r) ≡ taken (make y) r
 
-faulty≢taken : {B : Type 0} {f : Fault} {b : B} → faulty f ≡ taken b → ⊥
+faulty≢taken : {B : Type 0} {f : Fault} {b : B} {r : Text} → faulty f ≡ taken b r → ⊥
 faulty≢taken e = let z : _≡_ {A = ℕ} 0 1 = cc in omega arith
 
-unless→ : {B : Type 0} {a b : B} (f : Found) → takenUnless f a ≡ taken b → IsFine f × (a ≡ b)
-unless→ fine e = (tt, cc)
+unless→ : {B : Type 0} {a b : B} {q r : Text} (f : Found) → takenUnless f a q ≡ taken b r → IsFine f × (a ≡ b) × (q ≡ r)
+unless→ fine e = (tt, cc, cc)
 unless→ (fault x) e = absurd (faulty≢taken e)
 
-unless← : {B : Type 0} {a : B} (f : Found) → IsFine f → takenUnless f a ≡ taken a
+unless← : {B : Type 0} {a : B} {r : Text} (f : Found) → IsFine f → takenUnless f a r ≡ taken a r
 unless← fine h = refl
 unless← (fault x) h = absurd h
 
 formed-if : {A B : Type 0} (test : A → Bool) (f : Fault) (make : A → B) (m : Past A)
     → formed m (λ a. takenIf (test a) f (make a)) ≡ formed m (λ a. takenUnless (unless (test a) f) (make a))
-formed-if {B} test f make (past a r) = same (test a)
+formed-if test f make (past a r) = same (test a)
   where
-    same : (t : Bool) → takenIf t f (make a) ≡ takenUnless (unless t f) (make a)
+    same : (t : Bool) → takenIf t f (make a) r ≡ takenUnless (unless t f) (make a) r
     same true = refl
     same false = refl
 formed-if test f make (stuck r) = refl
 
 pub line→takes : {X Y Z B : Type 0} {form : Text → Past X} {says : X → Z} {fault : X → Found} {build : Y → Z} {text : Y → Text} {Legal : Y → Type 0}
     → WritesLine form says fault build text Legal → (make : Z → B) (take : Text → Taken B)
-    → ((l : Text) → take l ≡ formed (form l) (λ x. takenUnless (fault x) (make (says x))))
+    → ((s : Text) → take s ≡ formed (form s) (λ x. takenUnless (fault x) (make (says x))))
     → Takes take (λ y. make (build y)) text Legal
 line→takes {X} {B} {form} {says} {fault} {build} {text} {Legal} w make take same = record {
-  sound = λ l b e. go l b (form l) (w .sound l) (sym (same l) ∙ e);
-  complete = λ y l.
+  sound = λ s b r e. go s b r (form s) (w .sound s) (sym (same s) ∙ e);
+  complete = λ y l r.
       let c = w .complete y l in
-      same (text y) ∙ rw (c .reads) (unless← (fault (c .value)) (c .faultless) ∙ ap (λ z. taken (make z)) (c .said));
-  inline = w .inline;
+      same (lineBefore (text y) r) ∙ rw (c .reads r) (unless← (fault (c .value)) (c .faultless) ∙ ap (λ z. taken (make z) r) (c .said));
 }
   where
-    go : (l : Text) (b : B) (m : Past X) → When m (λ x r. IsFine (fault x) → Made build text Legal (says x) l)
-        → formed m (λ x. takenUnless (fault x) (make (says x))) ≡ taken b
-        → Made (λ y. make (build y)) text Legal b l
-    go l b (past x r) h e =
+    go : (s : Text) (b : B) (r : Text) (m : Past X) → When m (λ x q. IsFine (fault x) → Made build (λ y. lineBefore (text y) q) Legal (says x) s)
+        → formed m (λ x. takenUnless (fault x) (make (says x))) ≡ taken b r
+        → Made (λ y. make (build y)) (λ y. lineBefore (text y) r) Legal b s
+    go s b r (past x q) h e =
         let k = unless→ (fault x) e in
-        let m = h .holds x r refl (k .0) in
-        record { source = m .source; builds = sym (k .1) ∙ ap make (m .builds); writes = m .writes; legal = m .legal }
-    go l b (stuck r) h e = absurd (faulty≢taken e)
+        let m = h .holds x q refl (k .0) in
+        record {
+          source = m .source;
+          builds = sym (k .1) ∙ ap make (m .builds);
+          writes = m .writes ∙ ap (lineBefore (text (m .source))) (k .2);
+          legal = m .legal;
+        }
+    go s b r (stuck q) h e = absurd (faulty≢taken e)
 
 -- A line that has no fault but one, which a test finds.
 pub takes-if : {A B : Type 0} {form : Text → Past A} {text : A → Text} {Legal : A → Type 0} → WritesLine form (λ a. a) (λ a. fine) (λ a. a) text Legal
-    → (test : A → Bool) (f : Fault) (make : A → B) → Takes (λ l. formed (form l) (λ a. takenIf (test a) f (make a))) make text (λ a. Legal a × T (test a))
+    → (test : A → Bool) (f : Fault) (make : A → B) → Takes (λ s. formed (form s) (λ a. takenIf (test a) f (make a))) make text (λ a. Legal a × T (test a))
 takes-if {form} w test f make =
     line→takes (line-narrow w (λ a. unless (test a) f) (λ a. T (test a)) (λ a. fine-unless (test a) f)) make
-    (λ l. formed (form l) (λ a. takenIf (test a) f (make a))) (λ l. formed-if test f make (form l))
-
--- The first line of a text.
-abbrev CutOf : Text → Cut → Type 0
-CutOf s (cut l r) = s ≡ lineBefore l r
-CutOf s noLine = Unit {0}
-
-first-line→ : (s : Text) → CutOf s (firstLine s)
-unfolding firstLine
-first-line→ [] = tt
-first-line→ (b ∷ s) = pick (eqb b lf) (eqb→eq b lf) (first-line→ s)
-  where
-    with-byte : (c : Cut) → CutOf s c → CutOf (b ∷ s) (withByte b c)
-    with-byte (cut l r) k = ap {B = Text} (λ t. b ∷ t) k
-    with-byte noLine k = tt
-
-    pick : (e : Bool) → (T e → b ≡ lf) → CutOf s (firstLine s) → CutOf (b ∷ s) (elim e as (λ _. Cut) [ true ↦ cut [] s | false ↦ withByte b (firstLine s) ])
-    pick true h k = ap {B = Text} (λ c. c ∷ s) (h tt)
-    pick false h k = with-byte (firstLine s) k
-
-first-line← : (l r : Text) → Inline l → firstLine (lineBefore l r) ≡ cut l r
-unfolding firstLine
-first-line← [] r h = refl
-first-line← (b ∷ l) r h = rw (T-not→false (eqb b lf) (h .0), firstLine) (ap (withByte b) (first-line← l r (h .1)))
+    (λ s. formed (form s) (λ a. takenIf (test a) f (make a))) (λ s. formed-if test f make (form s))
 
 -- A walk that came to its end, and the steps that it is made of.
 pub record Reaches {A : Type 0} (m : Walk A) (a : A) (s : Text) : Type 0 where
@@ -121,26 +98,16 @@ pub walk← : {A B : Type 0} {a : A} {b : B} {s t : Text} {m : Walk A} (f : A �
 walk← {a} {b} {s} {t} f h k = subst (λ w. Reaches (walk w f) b s) (sym (h .there)) (k (h .number))
 
 -- One line.
-after→ : {B : Type 0} {b : B} {r q : Text} (n : ℕ) (t : Taken B) → Reaches (afterLine n t q) b r → (t ≡ taken b) × (q ≡ r)
-after→ n (taken a) h = let e = h .there in (cc, cc)
+after→ : {B : Type 0} {b : B} {r : Text} (n : ℕ) (t : Taken B) → Reaches (afterLine n t) b r → t ≡ taken b r
+after→ n (taken a q) h = let e = h .there in cc
 after→ n (faulty f) h = absurd (not-halted h)
 
 module _ {Y B : Type 0} {take : Text → Taken B} {make : Y → B} {text : Y → Text} {Legal : Y → Type 0} (w : Takes take make text Legal) where
   pub one-line→ : (n : ℕ) (s : Text) (b : B) (r : Text) → Reaches (oneLine take n s) b r → Made make (λ y. lineBefore (text y) r) Legal b s
-  one-line→ n s b r h = go (firstLine s) (first-line→ s) h
-    where
-      go : (c : Cut) → CutOf s c → Reaches (lineWalk take n c) b r → Made make (λ y. lineBefore (text y) r) Legal b s
-      go (cut l q) e h =
-          let k = after→ n (take l) h in
-          let m = w .sound l b (k .0) in
-          record { source = m .source; builds = m .builds; writes = e ∙ ap₂ lineBefore (m .writes) (k .1); legal = m .legal }
-      go noLine e h = absurd (not-halted h)
+  one-line→ n s b r h = w .sound s b r (after→ n (take s) h)
 
   pub one-line← : (n : ℕ) (y : Y) (r : Text) → Legal y → Reaches (oneLine take n (lineBefore (text y) r)) (make y) r
-  one-line← n y r l = record {
-    number = suc n;
-    there = ap (lineWalk take n) (first-line← (text y) r (w .inline y l)) ∙ ap (λ t. afterLine n t r) (w .complete y l);
-  }
+  one-line← n y r l = record { number = suc n; there = ap (afterLine n) (w .complete y l r) }
 
 -- Lines that are read alike, each legal after those before it.
 module _ {A : Type 0} (Legal : List A → A → Type 0) where

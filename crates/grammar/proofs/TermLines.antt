@@ -3,28 +3,28 @@
 use mathlib.Core.Path.{_≡_, refl, sym, ap, subst, _∙_}
 use mathlib.Core.Logic.{_↔_, Iff·rfl}
 use mathlib.Core.Bool.{Bool, true, false, _&&_, _||_, not}
-use mathlib.Core.List.{List, [], _∷_, _++_}
+use mathlib.Core.List.{List, [], _∷_, _++_, append-assoc}
 use Prim.Native.Nat.{ℕ, zero, suc, _<_}
 use native.Mathlib.Omega.{arith}
 use lib.Dec.{T, ltb, eqb, ltb→lt}
-use lib.ListN.{length}
+use lib.ListN.{length, drop}
 use Rattle.meaning.specs.Bytes.{Text, ascii}
 use Rattle.meaning.specs.Descriptions as D
 use Rattle.meaning.specs.Descriptions.{Operator, block, hide, rename, comm, allow, Term, act, tau, delta, ref, sum}
 use Rattle.meaning.specs.Descriptions.{cond, choice, ifelse, seq, merge, lmerge, sync, wrap, Order}
 use Rattle.meaning.specs.Legal.{LegalLabels, LegalOperator, LegalOrder}
 use Rattle.meaning.proofs.Tests.{and-left, and-right}
-use Rattle.grammar.specs.Text.{Past, past, stuck, onward, sameText, ended, literal, word, wordOn, separatedOn, isLower, isDigit}
+use Rattle.grammar.specs.Text.{Past, past, stuck, onward, lf, ended, isRest, literal, word, wordOn, separatedOn, isLower, isDigit}
 use Rattle.grammar.specs.Forms as F
 use Rattle.grammar.specs.Forms.{space, Listed, Line, plain, acts, wraps, OrderLine, part, Kind, kinds, labelList, alone}
 use Rattle.grammar.specs.Forms.{ofName, ofOne, ofTwo, ofList, farther, ofKind, termLine, orderLine}
 use Rattle.grammar.specs.Faults.{Found, termSaid, wordsOfFault, operatorSaid, listFault, orderSaid, orderFault}
 use Rattle.grammar.specs.Marks.{decimal}
-use Rattle.grammar.specs.Writing.{nameText, labelsText, after, two, withList, termText, orderText, LegalWords}
+use Rattle.grammar.specs.Writing.{nameText, labelsText, after, two, withList, termText, orderText, lineBefore, LegalWords}
 use Rattle.grammar.proofs.Findings.{IsFine}
-use Rattle.grammar.proofs.Onwards.{same→, sameText-differs, When, when-past, when-stuck, when-weaken, when-branch}
-use Rattle.grammar.proofs.Onwards.{onward→, onward←, ended→, ended←, literal→, literal←}
-use Rattle.grammar.proofs.Writes.{Inline, inline?, inline-tested, inline-append, Writes}
+use Rattle.grammar.proofs.Onwards.{rest-line, rest-differs, When, when-past, when-stuck, when-weaken, when-branch}
+use Rattle.grammar.proofs.Onwards.{onward→, onward←, literal→, literal←}
+use Rattle.grammar.proofs.Writes.{Writes}
 use Rattle.grammar.proofs.Atoms.{Small, writes-number, writes-name}
 use Rattle.grammar.proofs.ListForms.{writes-names, writes-pairs, writes-rules, writes-labels}
 use Rattle.grammar.proofs.LineForms.{ReadsLine, Made, WritesLine, line-ended, line-after, line-first}
@@ -98,35 +98,34 @@ module _ (words : List Text) (legal : LegalWords words) where
   follows-alone : (t : Term) → Follows {Y = Unit {0}} (alone t) (λ _. t) (λ _. []) (λ _. Unit {0})
   unfolding alone wordsOfFault
   follows-alone t = record {
-    sound = λ s. onward→ (ended→ s) (λ _ r e. when-past (λ f. record { source = tt; builds = refl; writes = e .0; legal = tt }));
-    complete = λ y l. record { value = plain t; faultless = tt; said = refl; reads = onward← _ ended← };
-    inline = λ y l. tt;
+    sound = λ s. onward→ (literal→ (lf ∷ []) s) (λ _ r e. when-past (λ f. record { source = tt; builds = refl; writes = e; legal = tt }));
+    complete = λ y l. record { value = plain t; faultless = tt; said = refl; reads = λ r. onward← _ (literal← (lf ∷ []) r) };
   }
 
   follows-name : Follows ofName act (λ a. after (nameText words a)) (λ a. a < length words)
-  unfolding ofName wordsOfFault
+  unfolding ofName wordsOfFault isLower isDigit
   follows-name =
-      line-after (space ∷ []) tt (line-ended (writes-name words legal) acts (termSaid words) (wordsOfFault words) act (λ w. refl) (λ w. Iff·rfl))
+      line-after (space ∷ []) (line-ended (writes-name words legal) tt acts (termSaid words) (wordsOfFault words) act (λ w. refl) (λ w. Iff·rfl))
 
   follows-one : (make : ℕ → Term) → Follows (ofOne make) make (λ t. after (decimal t)) Small
-  unfolding ofOne wordsOfFault
+  unfolding ofOne wordsOfFault isLower isDigit
   follows-one make =
-      line-after (space ∷ []) tt (line-ended writes-number (λ t. plain (make t)) (termSaid words) (wordsOfFault words) make (λ t. refl) (λ t. Iff·rfl))
+      line-after (space ∷ []) (line-ended writes-number tt (λ t. plain (make t)) (termSaid words) (wordsOfFault words) make (λ t. refl) (λ t. Iff·rfl))
 
   follows-two : (make : ℕ → ℕ → Term) → Follows {Y = ℕ × ℕ} (ofTwo make) (λ p. make (p .0) (p .1)) (λ p. two (p .0) (p .1)) (λ p. SmallTwo (p .0) (p .1))
   unfolding ofTwo isLower isDigit
-  follows-two make = line-after (space ∷ []) tt (line-first writes-number (λ t. follows-one (make t)) (λ u. tt))
+  follows-two make = line-after (space ∷ []) (line-first writes-number (λ t. follows-one (make t)) (λ u r. tt))
 
   follows-list : {X Y : Type 0} {list : Text → Past X} {says : X → Y} {fault : X → Found} {text : Y → Text} {Legal : Y → Type 0} {goes : ℕ → Bool}
-      → Writes list says fault text Legal goes → (make : X → Listed) (operator : Y → Operator)
+      → Writes list says fault text Legal goes → T (not (goes lf)) → (make : X → Listed) (operator : Y → Operator)
       → ((x : X) → operatorSaid words (make x) ≡ operator (says x)) → ((x : X) → IsFine (listFault words (make x)) ↔ IsFine (fault x))
       → Follows {Y = ℕ × Y} (ofList list make) (λ p. wrap (operator (p .1)) (p .0)) (λ p. withList (p .0) (text (p .1))) (λ p. Small (p .0) × Legal (p .1))
   unfolding ofList wordsOfFault isLower isDigit
-  follows-list w make operator same faults =
-      line-after (space ∷ []) tt (line-first writes-number
-      (λ t. line-after (space ∷ []) tt (line-ended w (λ l. wraps (make l) t) (termSaid words) (wordsOfFault words)
+  follows-list w ends make operator same faults =
+      line-after (space ∷ []) (line-first writes-number
+      (λ t. line-after (space ∷ []) (line-ended w ends (λ l. wraps (make l) t) (termSaid words) (wordsOfFault words)
       (λ y. wrap (operator y) t) (λ x. ap (λ o. wrap o t) (same x)) faults))
-      (λ y. tt))
+      (λ y r. tt))
 
   -- What the line of a kind says: one row for each kind.
   record Row (k : Kind) : Type 1 where
@@ -143,7 +142,7 @@ module _ (words : List Text) (legal : LegalWords words) where
   row {Y} {build} {text} {Fit} f same sayable = record { Operands = Y; build = build; text = text; Fit = Fit; follows = f; same = same; sayable = sayable }
 
   rows : Rows Row kinds
-  unfolding kinds row
+  unfolding kinds row isLower isDigit
   rows =
       row (follows-alone delta) (λ y. refl) (λ y l. l)
       ⨾ row (follows-alone tau) (λ y. refl) (λ y l. l)
@@ -157,16 +156,19 @@ module _ (words : List Text) (legal : LegalWords words) where
       ⨾ row (follows-two merge) (λ y. refl) (λ y l. l)
       ⨾ row (follows-two lmerge) (λ y. refl) (λ y l. l)
       ⨾ row (follows-two sync) (λ y. refl) (λ y l. l)
-      ⨾ row (follows-list (writes-names words legal) F.block block (λ x. refl) (λ x. Iff·rfl)) (λ y. refl) (λ y l. l)
-      ⨾ row (follows-list (writes-names words legal) F.hide hide (λ x. refl) (λ x. Iff·rfl)) (λ y. refl) (λ y l. l)
-      ⨾ row (follows-list (writes-pairs words legal) F.rename rename (λ x. refl) (λ x. Iff·rfl)) (λ y. refl) (λ y l. l)
-      ⨾ row (follows-list (writes-rules words legal) F.comm comm (λ x. refl) (λ x. Iff·rfl)) (λ y. refl) (λ y l. l)
-      ⨾ row (follows-list (writes-labels words legal) F.allow allow (λ x. refl) (λ x. Iff·rfl)) (λ y. refl) (λ y l. l)
+      ⨾ row (follows-list (writes-names words legal) tt F.block block (λ x. refl) (λ x. Iff·rfl)) (λ y. refl) (λ y l. l)
+      ⨾ row (follows-list (writes-names words legal) tt F.hide hide (λ x. refl) (λ x. Iff·rfl)) (λ y. refl) (λ y l. l)
+      ⨾ row (follows-list (writes-pairs words legal) tt F.rename rename (λ x. refl) (λ x. Iff·rfl)) (λ y. refl) (λ y l. l)
+      ⨾ row (follows-list (writes-rules words legal) tt F.comm comm (λ x. refl) (λ x. Iff·rfl)) (λ y. refl) (λ y l. l)
+      ⨾ row (follows-list (writes-labels words legal) tt F.allow allow (λ x. refl) (λ x. Iff·rfl)) (λ y. refl) (λ y l. l)
       ⨾ noRows
 
   -- A kind that was read is one of those in the list, so what its row says holds.
   abbrev Says : Text → Line → Text → Type 0
-  Says s l r = IsFine (wordsOfFault words l) → Made (λ t. t) (termText words) (Sayable (length words)) (termSaid words l) s
+  Says s l r = IsFine (wordsOfFault words l) → Made (λ t. t) (λ t. lineBefore (termText words t) r) (Sayable (length words)) (termSaid words l) s
+
+  row-line : (k : Kind) (w : Row k) (y : w .Operands) (r : Text) → lineBefore (termText words (w .build y)) r ≡ k .word ++ lineBefore (w .text y) r
+  row-line k w y r = rw (w .same y) (append-assoc (k .word) (w .text y) (lf ∷ r))
 
   kind-says : (k : Kind) → Row k → (t : Text) → When (k .rest t) (Says (k .word ++ t))
   kind-says k w t =
@@ -175,7 +177,7 @@ module _ (words : List Text) (legal : LegalWords words) where
       record {
         source = w .build (m .source);
         builds = m .builds;
-        writes = ap (λ u. k .word ++ u) (m .writes) ∙ sym (w .same (m .source));
+        writes = ap (λ u. k .word ++ u) (m .writes) ∙ sym (row-line k w (m .source) r);
         legal = w .sayable (m .source) (m .legal);
       })
 
@@ -194,32 +196,32 @@ module _ (words : List Text) (legal : LegalWords words) where
       go (stuck r) h more = passed-on r (ofKind ks s) more
 
   -- The other way round a kind's line is found, since no kind's word begins like another's.
-  found : (ks : List Kind) (n : ℕ) (t : Text) (l : Line) → T (apart ks n) → kindAt ks n .rest t ≡ past l [] → ofKind ks (kindAt ks n .word ++ t) ≡ past l []
+  found : (ks : List Kind) (n : ℕ) (t : Text) (l : Line) (r : Text) → T (apart ks n)
+      → kindAt ks n .rest t ≡ past l r → ofKind ks (kindAt ks n .word ++ t) ≡ past l r
   unfolding ofKind apart kindAt
-  found [] n t l h e = absurd h
-  found (k ∷ ks) zero t l h e = rw (literal← (k .word) t, ofKind) e
-  found (k ∷ ks) (suc n) t l h e =
+  found [] n t l r h e = absurd h
+  found (k ∷ ks) zero t l r h e = rw (literal← (k .word) t, ofKind) e
+  found (k ∷ ks) (suc n) t l r h e =
       let v = kindAt ks n .word in
       let c = clash-stuck (k .word) v t (and-left (clash (k .word) v) (apart ks n) h) in
-      rw (c .1, ofKind) (rw (found ks n t l (and-right (clash (k .word) v) (apart ks n) h) e))
+      rw (c .1, ofKind) (rw (found ks n t l r (and-right (clash (k .word) v) (apart ks n) h) e))
 
   abbrev Shown : Term → Type 0
-  Shown t = ReadsLine (ofKind kinds) (termSaid words) (wordsOfFault words) (λ u. u) (termText words) t × Inline (termText words t)
+  Shown = ReadsLine (ofKind kinds) (termSaid words) (wordsOfFault words) (λ u. u) (termText words)
 
   abbrev rowOf : (n : ℕ) → T (ltb n (length kinds)) → Row (kindAt kinds n)
   rowOf n h = rowAt rows n (ltb→lt n (length kinds) h)
 
-  shown-by : (n : ℕ) (h : T (ltb n (length kinds))) → T (apart kinds n && inline? (kindAt kinds n .word)) → (y : rowOf n h .Operands) → rowOf n h .Fit y
-      → Shown (rowOf n h .build y)
-  shown-by n h k y l =
+  shown-by : (n : ℕ) (h : T (ltb n (length kinds))) → T (apart kinds n) → (y : rowOf n h .Operands) → rowOf n h .Fit y → Shown (rowOf n h .build y)
+  shown-by n h first y l =
       let w = rowOf n h in
       let c = w .follows .complete y l in
-      let key = kindAt kinds n .word in
-      let first = and-left (apart kinds n) (inline? key) k in
-      let within = and-right (apart kinds n) (inline? key) k in (
-        record { value = c .value; faultless = c .faultless; said = c .said; reads = rw (w .same y) (found kinds n (w .text y) (c .value) first (c .reads)) },
-        rw (w .same y) (inline-append key (w .text y) (inline-tested key within) (w .follows .inline y l)),
-      )
+      record {
+        value = c .value;
+        faultless = c .faultless;
+        said = c .said;
+        reads = λ r. rw (row-line (kindAt kinds n) w y r) (found kinds n (lineBefore (w .text y) r) (c .value) r first (c .reads r));
+      }
 
   shown : (t : Term) → Sayable (length words) t → Shown t
   unfolding kinds apart clash kindAt rowAt rows row
@@ -243,48 +245,44 @@ module _ (words : List Text) (legal : LegalWords words) where
 
   pub writes-term : WritesLine termLine (termSaid words) (wordsOfFault words) (λ t. t) (λ t. ascii "term=" ++ termText words t) (Sayable (length words))
   unfolding termLine
-  writes-term =
-      line-after (ascii "term=") tt (record { sound = kinds-say kinds rows; complete = λ t l. shown t l .0; inline = λ t l. shown t l .1 })
+  writes-term = line-after (ascii "term=") (record { sound = kinds-say kinds rows; complete = shown })
 
   -- The order: `all`, or LABELS.
   abbrev only-line : Text → Past OrderLine
   only-line r = onward (labelList r) (λ ls q. onward (ended q) (λ _ p. past (F.only ls) p))
 
-  all-stuck : (l : OrderLine) → only-line (ascii "all") ≡ past l [] → ⊥
-  unfolding labelList sameText separatedOn part word wordOn isLower isDigit literal
-  all-stuck l e = let z : _≡_ {A = ℕ} 0 1 = cc in omega arith
+  all-stuck : (l : OrderLine) (r q : Text) → only-line (ascii "all" ++ (lf ∷ q)) ≡ past l r → ⊥
+  unfolding labelList isRest separatedOn part word wordOn isLower isDigit literal
+  all-stuck l r q e = let z : _≡_ {A = ℕ} 0 1 = cc in omega arith
 
   writes-only : WritesLine only-line (orderSaid words) (orderFault words) D.only (labelsText words) (LegalLabels (length words))
   unfolding orderFault
-  writes-only = line-ended (writes-labels words legal) F.only (orderSaid words) (orderFault words) D.only (λ x. refl) (λ x. Iff·rfl)
+  writes-only = line-ended (writes-labels words legal) tt F.only (orderSaid words) (orderFault words) D.only (λ x. refl) (λ x. Iff·rfl)
 
   abbrev after-key : Text → Past OrderLine
-  after-key r = elim (sameText r (ascii "all")) [ true ↦ past F.all [] | false ↦ only-line r ]
+  after-key s = elim (isRest (ascii "all") s) [ true ↦ past F.all (drop 4 s) | false ↦ only-line s ]
 
   order-complete : (o : Order) → LegalOrder (length words) o → ReadsLine after-key (orderSaid words) (orderFault words) (λ o. o) (orderText words) o
-  unfolding orderFault sameText
-  order-complete D.all l = record { value = F.all; faultless = tt; said = refl; reads = refl }
+  unfolding orderFault isRest
+  order-complete D.all l = record { value = F.all; faultless = tt; said = refl; reads = λ r. refl }
   order-complete (D.only ls) l =
       let c = writes-only .complete ls l in
       record {
         value = c .value;
         faultless = c .faultless;
         said = c .said;
-        reads = rw (sameText-differs only-line (labelsText words ls) (ascii "all") (c .reads) (all-stuck (c .value)), after-key) (c .reads);
+        reads = λ r.
+            let line = lineBefore (labelsText words ls) r in
+            rw (rest-differs only-line (ascii "all") line (c .reads r) (all-stuck (c .value) r), after-key) (c .reads r);
       }
-
-  order-inline : (o : Order) → LegalOrder (length words) o → Inline (orderText words o)
-  order-inline D.all l = inline-tested (ascii "all") tt
-  order-inline (D.only ls) l = writes-only .inline ls l
 
   pub writes-order : WritesLine orderLine (orderSaid words) (orderFault words) (λ o. o) (λ o. ascii "order=" ++ orderText words o) (LegalOrder (length words))
   unfolding orderLine orderFault
-  writes-order = line-after (ascii "order=") tt (record {
-    sound = λ s. when-branch (sameText s (ascii "all"))
-        (λ t. when-past (λ f. record { source = D.all; builds = refl; writes = same→ s (ascii "all") t; legal = tt }))
+  writes-order = line-after (ascii "order=") (record {
+    sound = λ s. when-branch (isRest (ascii "all") s)
+        (λ t. when-past (λ f. record { source = D.all; builds = refl; writes = rest-line (ascii "all") s t; legal = tt }))
         (λ _. when-weaken (writes-only .sound s) (λ x r h f.
         let m = h f in
         record { source = D.only (m .source); builds = m .builds; writes = m .writes; legal = m .legal }));
     complete = order-complete;
-    inline = order-inline;
   })

@@ -13,12 +13,12 @@ use Rattle.meaning.specs.Descriptions.{Term, Description, act, ref, seq, merge,
 use Rattle.meaning.specs.Answers.{form, name, range, amount}
 use Rattle.meaning.proofs.Alphabets as M
 use Rattle.meaning.proofs.Alphabets.{hangs, busyForEver, startBlocked, startNotAllowed, startInStep, startFirst, fifteenOfSixteen, twoDies}
-use Rattle.grammar.specs.Text.{sameText, ended, literal, isDigit, isLower, secondDigit, number, wordOn, word, separatedOn}
+use Rattle.grammar.specs.Text.{sameText, literal, isRest, isDigit, isLower, secondDigit, number, wordOn, word, separatedOn}
 use Rattle.grammar.specs.Forms.{part, pair, rule, labelList, alone, ofName, ofOne, ofTwo, ofList, kinds, ofKind, countLine, nameLine, termLine, orderLine}
 use Rattle.grammar.specs.Faults.{worst, rising, nameNumber, nameFault, labelSaid, actions, labelFault, wordsFault}
 use Rattle.grammar.specs.Faults.{pairsFault, rulesFault, labelsFault, wordsOfFault, termFault, orderFault}
 use Rattle.grammar.specs.Reading.{Reading, read, overlong, badLine, takeNumber, isFree, takeName, takeTerm}
-use Rattle.grammar.specs.Reading.{takeBody, takeOrder, firstLine, lines, wholeText, readText}
+use Rattle.grammar.specs.Reading.{takeBody, takeOrder, lines, wholeText, readText}
 
 -- lines, each ended by LF
 abbrev pub text : List String → Text
@@ -95,7 +95,7 @@ pub record Case : Type 0 where
 abbrev case : List String → Reading → Case
 case t r = record { given = text t; reading = r }
 
--- 8,192 bytes are read, and have no line; one more is too long.
+-- 8,192 bytes are read, and have no line; one more is too long. A line that lacks its LF has no form, whatever its name.
 abbrev pub table : List Case
 table =
     case listing (read (stripe (wrap (comm (record { left = 2 ∷ 0 ∷ []; right = 1 } ∷ [])) 3)) all)
@@ -103,6 +103,8 @@ table =
     ∷ record { given = replicate 8193 10; reading = overlong }
     ∷ record { given = replicate 8192 10; reading = badLine form 1 }
     ∷ case [] (badLine form 1)
+    ∷ case ("names=1" ∷ "name=tau" ∷ []) (badLine name 2)
+    ∷ record { given = text ("names=1" ∷ []) ++ ascii "name=tau"; reading = badLine form 2 }
     ∷ case (tenth "term=comm 3 done:2>close,") (badLine form 10)
     ∷ case (tenth "term=comm 3 done:02>close") (badLine form 10)
     ∷ case (tenth "term=block 99 zz") (badLine name 10)
@@ -136,12 +138,12 @@ All [] = Unit {0}
 All (c ∷ cs) = Holds c × All cs
 
 computed : All table × All unseenTexts × All exactTexts
-unfolding plus sameText ended literal isDigit isLower secondDigit number wordOn word separatedOn
+unfolding plus sameText literal isRest isDigit isLower secondDigit number wordOn word separatedOn
     part pair rule labelList alone ofName ofOne ofTwo ofList kinds ofKind countLine nameLine termLine orderLine
     worst rising nameNumber nameFault labelSaid actions labelFault wordsFault pairsFault rulesFault labelsFault wordsOfFault termFault orderFault
-    takeNumber isFree takeName takeTerm takeBody takeOrder firstLine lines wholeText readText
+    takeNumber isFree takeName takeTerm takeBody takeOrder lines wholeText readText
 computed = (
-  (refl, (refl, (refl, (refl, (refl, (refl, (refl, (refl, (refl, (refl, (refl, (refl, tt)))))))))))),
+  (refl, (refl, (refl, (refl, (refl, (refl, (refl, (refl, (refl, (refl, (refl, (refl, (refl, (refl, tt)))))))))))))),
   (refl, (refl, (refl, (refl, (refl, (refl, tt)))))),
   (refl, (refl, tt)),
 )

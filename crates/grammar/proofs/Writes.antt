@@ -3,7 +3,7 @@
 -- Assumes nothing.
 use mathlib.Core.Path.{_≡_, refl, sym, ap, ap₂, subst, _∙_}
 use mathlib.Core.Logic.{_↔_}
-use mathlib.Core.Bool.{Bool, true, false, _&&_, _||_, not}
+use mathlib.Core.Bool.{Bool, true, false, _||_, not}
 use mathlib.Core.List.{List, [], _∷_, _++_, map, append-assoc, append-nil}
 use Prim.Native.Nat.{ℕ, zero, suc, _≤_, _<_, zero-le, suc-le-suc}
 use native.Mathlib.Omega.{arith}
@@ -11,41 +11,20 @@ use lib.Dec.{T, eqb, eqb-refl}
 use lib.ListN.{length, length-append, length-map}
 use Rattle.meaning.specs.Bytes.{Text}
 use Rattle.meaning.specs.Legal.{Each}
-use Rattle.meaning.proofs.Tests.{and-left, and-right}
 use Rattle.grammar.specs.Text.{Past, past, onward, byte, starts, separatedOn, separated}
-use Rattle.grammar.specs.Forms.{lf}
 use Rattle.grammar.specs.Faults.{Found, fine, worse, worst}
 use Rattle.grammar.specs.Marks.{followed, joinedBy}
 use Rattle.grammar.proofs.Findings.{IsFine, fine-worse}
 use Rattle.grammar.proofs.Onwards.{T→true, T-not→false, When, when-past, when-stuck, when-weaken, when-branch, onward→, onward←, literal→, literal←}
 
--- A text that does not go on with such a byte, and a text within a line.
+-- A text that goes on, and not with such a byte: behind a form there is another, or the LF of the line.
 abbrev pub Stops : (ℕ → Bool) → Text → Type 0
-Stops goes [] = Unit {0}
+Stops goes [] = ⊥
 Stops goes (b ∷ s) = T (not (goes b))
-
-abbrev pub Inline : Text → Type 0
-Inline s = Each (λ b. T (not (eqb b lf))) s
-
-pub each-append : {A : Type 0} (P : A → Type 0) (s t : List A) → Each P s → Each P t → Each P (s ++ t)
-each-append P [] t h k = k
-each-append P (x ∷ s) t h k = (h .0, each-append P s t (h .1) k)
 
 pub each-weaken : {A : Type 0} (P Q : A → Type 0) (xs : List A) → ((x : A) → P x → Q x) → Each P xs → Each Q xs
 each-weaken P Q [] f h = tt
 each-weaken P Q (x ∷ xs) f h = (f x (h .0), each-weaken P Q xs f (h .1))
-
-pub inline-append : (s t : Text) → Inline s → Inline t → Inline (s ++ t)
-inline-append = each-append (λ b. T (not (eqb b lf)))
-
--- (of a text that is written out, by a test)
-abbrev pub inline? : Text → Bool
-inline? [] = true
-inline? (b ∷ s) = not (eqb b lf) && inline? s
-
-pub inline-tested : (s : Text) → T (inline? s) → Inline s
-inline-tested [] h = tt
-inline-tested (b ∷ s) h = (and-left (not (eqb b lf)) (inline? s) h, inline-tested s (and-right (not (eqb b lf)) (inline? s) h))
 
 pub not-or→ : (b c : Bool) → T (not (b || c)) → T (not b) × T (not c)
 not-or→ true c h = absurd h
@@ -62,7 +41,6 @@ pub record Writes {X Y : Type 0} (form : Text → Past X) (says : X → Y) (faul
     (text : Y → Text) (Legal : Y → Type 0) (goes : ℕ → Bool) : Type 0 where
   pub sound : (s : Text) → When (form s) (λ x r. IsFine (fault x) → (s ≡ text (says x) ++ r) × Legal (says x))
   pub complete : (y : Y) → Legal y → Reads form says fault text goes y
-  pub inline : (y : Y) → Legal y → Inline (text y)
 
 module _ {X Y : Type 0} {form : Text → Past X} {says : X → Y} {fault : X → Found} {text : Y → Text} {Legal : Y → Type 0} {goes : ℕ → Bool}
     (w : Writes form says fault text Legal goes) where
@@ -82,7 +60,6 @@ module _ {X Y : Type 0} {form : Text → Past X} {says : X → Y} {fault : X →
         let c = w .complete (b .0) (b .1) in
         let k = b .3 (c .value) (c .faultless) (c .said) in
         record { value = c .value; faultless = k .0; said = k .1; reads = λ r h. rw (b .2) at (c .reads r h) };
-    inline = λ z l. let b = back z l in subst Inline (b .2) (w .inline (b .0) (b .1));
   }
 
   -- One more fault to be free of.
@@ -98,7 +75,7 @@ module _ {X Y : Type 0} {form : Text → Past X} {says : X → Y} {fault : X →
 module _ {A B C D X Y : Type 0} {one : Text → Past A} {says₁ : A → B} {fault₁ : A → Found} {text₁ : B → Text} {Legal₁ : B → Type 0} {goes₁ : ℕ → Bool}
     {other : Text → Past C} {says₂ : C → D} {fault₂ : C → Found} {text₂ : D → Text} {Legal₂ : D → Type 0} {goes₂ : ℕ → Bool}
     (w : Writes one says₁ fault₁ text₁ Legal₁ goes₁) (v : Writes other says₂ fault₂ text₂ Legal₂ goes₂)
-    (sign : ℕ) (apart : T (not (goes₁ sign))) (in-line : T (not (eqb sign lf)))
+    (sign : ℕ) (apart : T (not (goes₁ sign)))
     (make : A → C → X) (left : Y → B) (right : Y → D) (says : X → Y) (fault : X → Found)
     (says-left : (a : A) (c : C) → left (says (make a c)) ≡ says₁ a) (says-right : (a : A) (c : C) → right (says (make a c)) ≡ says₂ c)
     (only : (y z : Y) → left y ≡ left z → right y ≡ right z → y ≡ z)
@@ -135,11 +112,7 @@ module _ {A B C D X Y : Type 0} {one : Text → Past A} {says₁ : A → B} {fau
       }
 
   pub writes-pair : Writes pair-form says fault pair-text pair-legal goes₂
-  writes-pair = record {
-    sound = pair-sound;
-    complete = pair-complete;
-    inline = λ y l. inline-append (text₁ (left y)) (sign ∷ text₂ (right y)) (w .inline (left y) (l .0)) (in-line, v .inline (right y) (l .1));
-  }
+  writes-pair = record { sound = pair-sound; complete = pair-complete }
 
 -- One or more of a form with a sign between them.
 signs : (sign : ℕ) (ts : List Text) → length ts ≤ length (followed sign ts)
@@ -148,7 +121,7 @@ signs sign [] = zero-le
 signs sign (t ∷ ts) = let n = signs sign ts in simp length-append (omega arith)
 
 module _ {X Y : Type 0} {form : Text → Past X} {says : X → Y} {fault : X → Found} {text : Y → Text} {Legal : Y → Type 0} {goes : ℕ → Bool}
-    (w : Writes form says fault text Legal goes) (sign : ℕ) (apart : T (not (goes sign))) (in-line : T (not (eqb sign lf))) where
+    (w : Writes form says fault text Legal goes) (sign : ℕ) (apart : T (not (goes sign))) where
   abbrev several-text : List Y → Text
   several-text ys = joinedBy sign (map text ys)
 
@@ -195,7 +168,7 @@ module _ {X Y : Type 0} {form : Text → Past X} {says : X → Y} {fault : X →
   values-said (y ∷ ys) l = ap₂ {C = List Y} _∷_ (w .complete y (l .0) .said) (values-said ys (l .1))
 
   stops-both : (r : Text) → Stops or-sign r → Stops goes r × (starts sign r ≡ false)
-  stops-both [] h = (tt, refl)
+  stops-both [] h = absurd h
   stops-both (b ∷ s) h = let k = not-or→ (goes b) (eqb sign b) h in (k .0, T-not→false (eqb sign b) (k .1))
 
   several-reads : (more : ℕ) (y : Y) (ys : List Y) (l : Each Legal (y ∷ ys)) (r : Text) → Stops or-sign r → length ys < more
@@ -215,11 +188,6 @@ module _ {X Y : Type 0} {form : Text → Past X} {says : X → Y} {fault : X →
   unfolding joinedBy
   enough y ys r = let n = signs sign (map text ys) in simp length-append (omega (arith, length-map ys text))
 
-  followed-inline : (ys : List Y) → Each Legal ys → Inline (followed sign (map text ys))
-  unfolding followed
-  followed-inline [] l = tt
-  followed-inline (y ∷ ys) l = (in-line, inline-append (text y) (followed sign (map text ys)) (w .inline y (l .0)) (followed-inline ys (l .1)))
-
   several-complete : (ys : List Y) → Several ys → Reads (separated sign form) (map says) (worst fault) several-text or-sign ys
   several-complete [] l = absurd (omega arith)
   several-complete (y ∷ ys) l = record {
@@ -229,10 +197,5 @@ module _ {X Y : Type 0} {form : Text → Past X} {says : X → Y} {fault : X →
     reads = λ r h. several-reads (suc (length (several-text (y ∷ ys) ++ r))) y ys (l .1) r h (suc-le-suc (enough y ys r));
   }
 
-  several-inline : (ys : List Y) → Several ys → Inline (several-text ys)
-  unfolding joinedBy
-  several-inline [] l = tt
-  several-inline (y ∷ ys) l = inline-append (text y) (followed sign (map text ys)) (w .inline y (l .1 .0)) (followed-inline ys (l .1 .1))
-
   pub writes-several : Writes (separated sign form) (map says) (worst fault) several-text Several or-sign
-  writes-several = record { sound = λ s. several-sound (suc (length s)) s; complete = several-complete; inline = several-inline }
+  writes-several = record { sound = λ s. several-sound (suc (length s)) s; complete = several-complete }

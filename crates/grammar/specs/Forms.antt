@@ -1,19 +1,17 @@
--- The form of each line (docs/FORMAT.md, "The lines"): what can be seen without knowing the names and the counts.
+-- The form of each line, with the LF that ends it (docs/FORMAT.md, "The lines"): what can be seen without knowing the names and the counts.
 -- Assumes nothing.
 use mathlib.Core.Bool.{true, false}
 use mathlib.Core.List.{List, [], _∷_}
 use Prim.Native.Nat.{ℕ}
 use lib.Dec.{ltb}
-use lib.ListN.{length}
+use lib.ListN.{length, drop}
 use Rattle.meaning.specs.Descriptions.{Term, tau, delta, ref, sum, cond, choice, ifelse, seq, merge, lmerge, sync}
 use Rattle.meaning.specs.Bytes.{Text, ascii}
 use Rattle.meaning.specs.Rounds.{pick}
-use Rattle.grammar.specs.Text.{Past, past, stuck, onward, sameText, ended, literal, byte, number, word, separated}
+pub use Rattle.grammar.specs.Text.{lf}
+use Rattle.grammar.specs.Text.{Past, past, stuck, onward, ended, isRest, literal, byte, number, word, separated}
 
--- the signs: LF, space, comma, dot, colon and greater-than
-abbrev pub lf : ℕ
-lf = 10
-
+-- the signs: space, comma, dot, colon and greater-than
 abbrev pub space : ℕ
 space = 32
 
@@ -78,7 +76,7 @@ unfoldable pub rule : Text → Past WordRule
 rule s = onward (label s) (λ a r. onward (byte greater r) (λ _ q. onward (word q) (λ b p. past (record { left = a; right = b }) p)))
 
 unfoldable pub labelList : Text → Past (List Parts)
-labelList s = elim (sameText s (ascii "none")) [ true ↦ past [] [] | false ↦ separated comma label s ]
+labelList s = elim (isRest (ascii "none") s) [ true ↦ past [] (drop 4 s) | false ↦ separated comma label s ]
 
 -- What follows a kind: its operands and its list.
 unfoldable pub alone : Term → Text → Past Line
@@ -149,7 +147,7 @@ termLine s = onward (literal (ascii "term=") s) (λ _ r. ofKind kinds r)
 
 unfoldable pub orderLine : Text → Past OrderLine
 orderLine s =
-    onward (literal (ascii "order=") s) (λ _ r. elim (sameText r (ascii "all")) [
-      | true ↦ past all []
+    onward (literal (ascii "order=") s) (λ _ r. elim (isRest (ascii "all") r) [
+      | true ↦ past all (drop 4 r)
       | false ↦ onward (labelList r) (λ ls q. onward (ended q) (λ _ p. past (only ls) p))
     ])

@@ -2,7 +2,7 @@
 -- is what has to be believed.
 -- The form at the start of a text: words that stand as they are, numbers, names, lists
 pub mod Text
--- The form of each line
+-- The form of each line, with its LF
 pub mod Forms
 -- What a line of right form says, and which faults it has
 pub mod Faults

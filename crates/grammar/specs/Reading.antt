@@ -3,35 +3,36 @@
 use mathlib.Core.Bool.{Bool, true, false, _&&_, not}
 use mathlib.Core.List.{List, [], _∷_, _++_}
 use Prim.Native.Nat.{ℕ, zero, suc}
-use lib.Dec.{leb, ltb, eqb}
+use lib.Dec.{leb, ltb}
 use lib.ListN.{length}
 use Rattle.meaning.specs.Bytes.{Text, ascii}
 use Rattle.meaning.specs.Descriptions.{Term, Order, Description}
 use Rattle.meaning.specs.Answers.{Fault, form, name, range}
 use Rattle.grammar.specs.Text.{Past, past, stuck, sameText}
-use Rattle.grammar.specs.Forms.{lf, countLine, nameLine, termLine, orderLine}
+use Rattle.grammar.specs.Forms.{countLine, nameLine, termLine, orderLine}
 use Rattle.grammar.specs.Faults.{Found, fine, fault, nameNumber, termSaid, termFault, orderSaid, orderFault}
 
--- What a line makes of that which was read before it, or its fault. A line that has no form is 2, whatever else it is.
+-- What a line makes of that which was read before it, with the text after it, or its fault. A line that has no form is 2, whatever else
+-- it is; so is one that lacks its LF, which belongs to the form.
 pub data Taken (A : Type 0) : Type 0 where
-  taken : A → Taken A
+  taken : A → Text → Taken A
   faulty : Fault → Taken A
 
-abbrev pub takenIf : {A : Type 0} → Bool → Fault → A → Taken A
-takenIf true f a = taken a
-takenIf false f a = faulty f
+abbrev pub takenIf : {A : Type 0} → Bool → Fault → A → Text → Taken A
+takenIf true f a rest = taken a rest
+takenIf false f a rest = faulty f
 
-abbrev pub takenUnless : {A : Type 0} → Found → A → Taken A
-takenUnless fine a = taken a
-takenUnless (fault f) a = faulty f
+abbrev pub takenUnless : {A : Type 0} → Found → A → Text → Taken A
+takenUnless fine a rest = taken a rest
+takenUnless (fault f) a rest = faulty f
 
-abbrev pub formed : {A B : Type 0} → Past A → (A → Taken B) → Taken B
-formed (past a r) f = f a
+abbrev pub formed : {A B : Type 0} → Past A → (A → Text → Taken B) → Taken B
+formed (past a rest) f = f a rest
 formed (stuck r) f = faulty form
 
 -- A number that passes a test: a count, or the number of a term.
 unfoldable pub takeNumber : Text → (ℕ → Bool) → Fault → Text → Taken ℕ
-takeNumber key test f line = formed (countLine key line) (λ n. takenIf (test n) f n)
+takeNumber key test f s = formed (countLine key s) (λ n. takenIf (test n) f n)
 
 abbrev pub namesInRange : ℕ → Bool
 namesInRange n = leb 1 n && leb n 12
@@ -48,31 +49,17 @@ isFree words w =
     not (ltb (nameNumber words w) (length words)) && not (sameText w (ascii "tau")) && not (sameText w (ascii "none")) && not (sameText w (ascii "all"))
 
 unfoldable pub takeName : List Text → Text → Taken (List Text)
-takeName words line = formed (nameLine line) (λ w. takenIf (isFree words w) name (words ++ (w ∷ [])))
+takeName words s = formed (nameLine s) (λ w. takenIf (isFree words w) name (words ++ (w ∷ [])))
 
 unfoldable pub takeTerm : List Text → ℕ → List Term → Text → Taken (List Term)
-takeTerm words equations terms line =
-    formed (termLine line) (λ l. takenUnless (termFault words equations (length terms) l) (terms ++ (termSaid words l ∷ [])))
+takeTerm words equations terms s =
+    formed (termLine s) (λ l. takenUnless (termFault words equations (length terms) l) (terms ++ (termSaid words l ∷ [])))
 
 unfoldable pub takeBody : ℕ → List ℕ → Text → Taken (List ℕ)
-takeBody terms bodies line =
-    formed (countLine (ascii "equation=") line) (λ t. takenIf (ltb t terms) range (bodies ++ (t ∷ [])))
+takeBody terms bodies s = formed (countLine (ascii "equation=") s) (λ t. takenIf (ltb t terms) range (bodies ++ (t ∷ [])))
 
 unfoldable pub takeOrder : List Text → Text → Taken Order
-takeOrder words line = formed (orderLine line) (λ l. takenUnless (orderFault words l) (orderSaid words l))
-
--- The text's first line, without its LF, and the text after it. Without LF there is no line.
-pub data Cut : Type 0 where
-  cut : Text → Text → Cut
-  noLine : Cut
-
-abbrev pub withByte : ℕ → Cut → Cut
-withByte b (cut line rest) = cut (b ∷ line) rest
-withByte b noLine = noLine
-
-unfoldable pub firstLine : Text → Cut
-firstLine [] = noLine
-firstLine (b ∷ s) = elim (eqb b lf) [ true ↦ cut [] s | false ↦ withByte b (firstLine s) ]
+takeOrder words s = formed (orderLine s) (λ l. takenUnless (orderFault words l) (orderSaid words l))
 
 -- How far reading has come: what was read, the number of the next line and the text from there on; or the first bad line's fault
 -- and number.
@@ -84,16 +71,13 @@ abbrev pub walk : {A B : Type 0} → Walk A → (A → ℕ → Text → Walk B) 
 walk (reached a line s) g = g a line s
 walk (halted f line) g = halted f line
 
-abbrev pub afterLine : {A : Type 0} → ℕ → Taken A → Text → Walk A
-afterLine line (taken a) rest = reached a (suc line) rest
-afterLine line (faulty f) rest = halted f line
-
-abbrev pub lineWalk : {A : Type 0} → (Text → Taken A) → ℕ → Cut → Walk A
-lineWalk take line (cut l rest) = afterLine line (take l) rest
-lineWalk take line noLine = halted form line
+-- one line, by its number
+abbrev pub afterLine : {A : Type 0} → ℕ → Taken A → Walk A
+afterLine line (taken a rest) = reached a (suc line) rest
+afterLine line (faulty f) = halted f line
 
 abbrev pub oneLine : {A : Type 0} → (Text → Taken A) → ℕ → Text → Walk A
-oneLine take line s = lineWalk take line (firstLine s)
+oneLine take line s = afterLine line (take s)
 
 -- So many lines that are read alike, each adding to what was read before.
 unfoldable pub lines : {A : Type 0} → (A → Text → Taken A) → ℕ → A → ℕ → Text → Walk A

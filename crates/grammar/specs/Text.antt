@@ -23,11 +23,7 @@ sameText [] (c ∷ t) = false
 sameText (b ∷ s) [] = false
 sameText (b ∷ s) (c ∷ t) = eqb b c && sameText s t
 
--- Nothing more, and a word that must stand there as it is.
-unfoldable pub ended : Text → Past (Unit {0})
-ended [] = past tt []
-ended (b ∷ s) = stuck (b ∷ s)
-
+-- A word that must stand there as it is.
 unfoldable pub literal : Text → Text → Past (Unit {0})
 literal [] s = past tt s
 literal (w ∷ ws) [] = stuck []
@@ -39,6 +35,19 @@ byte b = literal (b ∷ [])
 abbrev pub starts : ℕ → Text → Bool
 starts b [] = false
 starts b (c ∷ s) = eqb b c
+
+-- A line ends with LF, which belongs to its form.
+abbrev pub lf : ℕ
+lf = 10
+
+abbrev pub ended : Text → Past (Unit {0})
+ended = byte lf
+
+-- whether a word is all that is left of the line
+unfoldable pub isRest : Text → Text → Bool
+isRest [] s = starts lf s
+isRest (w ∷ ws) [] = false
+isRest (w ∷ ws) (b ∷ s) = eqb w b && isRest ws s
 
 -- A decimal number: one or two digits, no leading zero.
 unfoldable pub isDigit : ℕ → Bool

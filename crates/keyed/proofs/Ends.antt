@@ -1,66 +1,48 @@
--- A key, an item and the end of the line.
+-- The last thing of a line, after its key: past the LF, or stuck where it does not stand.
 -- Assumes nothing.
 use mathlib.Core.Path.{_≡_, refl, ap, _∙_}
 use mathlib.Core.Bool.{Bool, true, false}
 use Prim.Native.Nat.{ℕ, _+_, _-_, _≤_}
 use native.Mathlib.Omega.{arith}
-use lib.Dec.{ltb}
-use lib.ListN.{length, drop, length-drop, drop-of-length-le}
-use borrow.Author.Tests.{ltb-true, ltb-false}
+use lib.ListN.{length, drop, length-drop}
 use Rattle.meaning.specs.Bytes.{Text}
-use Rattle.grammar.specs.Text.{Past, past, onward, ended, literal}
+use Rattle.grammar.specs.Text.{Past, past, onward, lf, ended, starts, literal}
 use Rattle.words.specs.Steps.{stepPlace, Stands, Steps}
 use Rattle.words.specs.declared.Step.{Step}
 use Rattle.words.specs.declared.Step.the-variants.{To, Stuck}
-use Rattle.words.proofs.Steps.{stops, goes, restAt, rest-drop, went-on, stays-on}
-use Rattle.keyed.specs.Lines.{pastEnd, endedFrom}
-use Rattle.tails.proofs.Operands.{ended-none, ended-some}
+use Rattle.words.proofs.Rests.{sign-within}
+use Rattle.words.proofs.Steps.{stops, goes, restAt, rest-drop, went-on, stays-on, no-sign, past-sign, arrived}
+use Rattle.keyed.specs.Ends.{pastEnd, endedFrom}
 
--- a value with nothing after it
+-- a value with the LF after it
 abbrev pub last-with : {A : Type 0} → A → Text → Past A
 last-with a q = onward (ended q) (λ _ p. past a p)
 
-module _ {A : Type 0} (f : ℕ → A) (line : Text) {due : Past A} where
-  ends : (t : Bool) {v next : ℕ} → ltb next (length line) ≡ t → Stands line next (past (f v) (drop next line)) due
-      → Steps f line (pastEnd t v next) (onward due last-with)
+module _ {A : Type 0} (f : ℕ → A) (text : Text) {due : Past A} where
+  ends : (t : Bool) {v next : ℕ} → starts lf (drop next text) ≡ t → Stands text next (past (f v) (drop next text)) due
+      → Steps f text (pastEnd t v next) (onward due last-with)
   ends true {v} {next} e s =
-      let k = ltb-true next (length line) e in
-      record {
-        stands =
-            record {
-              says = ap (λ d. onward d (λ _ p. past (f v) p)) (ended-some line next k) ∙ ap (λ d. onward d last-with) (s .says);
-              within = s .within;
-            };
-      }
-  ends false {v} {next} e s =
-      let k = ltb-false next (length line) e in
-      record {
-        stands =
-            record {
-              says =
-                  ap (past (f v)) (drop-of-length-le line k)
-                  ∙ ap (λ d. onward d (λ _ p. past (f v) p)) (ended-none line next k)
-                  ∙ ap (λ d. onward d last-with) (s .says);
-              within = s .within;
-            };
-      }
+      let w = sign-within lf text next e in
+      record { stands = goes last-with s (past-sign lf text next (λ _ p. past (f v) p) e (arrived (f v) (omega arith))) }
+  ends false {v} {next} e s = record { stands = goes last-with s (no-sign lf text next (λ _ p. past (f v) p) e (s .within)) }
 
 -- What the item after the key says.
-module _ {A : Type 0} (f : ℕ → A) (item : Text → Past A) (key line : Text) {at : ℕ} (h : Stands line at (past tt (drop at line)) (literal key line)) where
+module _ {A : Type 0} (f : ℕ → A) (item : Text → Past A) (key text : Text) {at : ℕ} (h : Stands text at (past tt (drop at text)) (literal key text)) where
   abbrev Keyed : Past A
-  Keyed = onward (literal key line) (λ _ q. onward (item q) last-with)
+  Keyed = onward (literal key text) (λ _ q. onward (item q) last-with)
 
-  last : (s : Step) → Steps f (restAt line at) s (item (restAt line at)) → Steps f line (endedFrom (length line) at s) Keyed
-  last (To v n) s = record { stands = goes _ h (ends f line (ltb (at + n) (length line)) refl (went-on item line at (h .within) s refl) .stands) }
-  last (Stuck p) s = record { stands = goes _ h (stops _ (stays-on item line at (h .within) s refl)) }
+  last : (s : Step) → Steps f (restAt text at) s (item (restAt text at)) → Steps f text (endedFrom text at s) Keyed
+  last (To v n) s =
+      record { stands = goes _ h (ends f text (starts lf (drop (at + n) text)) refl (went-on item text at (h .within) s refl) .stands) }
+  last (Stuck p) s = record { stands = goes _ h (stops _ (stays-on item text at (h .within) s refl)) }
 
-  pub item-last : {s r : Step} → Steps f (restAt line at) s (item (restAt line at)) → r ≡ endedFrom (length line) at s → Steps f line r Keyed
+  pub item-last : {s r : Step} → Steps f (restAt text at) s (item (restAt text at)) → r ≡ endedFrom text at s → Steps f text r Keyed
   item-last {s} t e = rw e (last s t)
 
--- The place of a step of the rest fits a word where the line's length does.
-pub place-fits : {A : Type 0} {f : ℕ → A} (line : Text) (at : ℕ) {r : Step} {due : Past A} → at ≤ length line
-    → Steps f (restAt line at) r due → at + stepPlace r ≤ length line
-place-fits line at h s = omega (arith, s .stands .within, length-rest line at h)
+-- The place of a step of the rest lies in the text.
+pub place-fits : {A : Type 0} {f : ℕ → A} (text : Text) (at : ℕ) {r : Step} {due : Past A} → at ≤ length text
+    → Steps f (restAt text at) r due → at + stepPlace r ≤ length text
+place-fits text at h s = omega (arith, s .stands .within, length-rest)
   where
-    length-rest : (line : Text) (at : ℕ) → at ≤ length line → length (restAt line at) ≡ length line - at
-    length-rest line at h = ap length (rest-drop line at h) ∙ length-drop at line
+    length-rest : length (restAt text at) ≡ length text - at
+    length-rest = ap length (rest-drop text at h) ∙ length-drop at text

@@ -1,37 +1,127 @@
--- What is settled of any two results that meet the promise of the order's reader.
+-- Any two results that meet a promise of this crate are equal, and so are the words that are lent.
 -- Assumes nothing.
-use mathlib.Core.Path.{_≡_}
-use mathlib.Core.List.{List, map}
-use Prim.Native.Nat.{ℕ, _≤_}
-use lib.ListN.{length, drop}
+use mathlib.Core.Path.{_≡_, refl, sym, ap, ap₂, _∙_}
+use mathlib.Core.List.{List, [], _∷_, _++_, map}
+use Prim.Native.Nat.{ℕ, suc, _^_, _<_}
+use native.Mathlib.Omega.{arith}
+use lib.ListN.{drop}
 use Rattle.meaning.specs.Bytes.{Text}
+use Rattle.meaning.specs.Descriptions as D
+use Rattle.meaning.proofs.Alike.{alike}
 use Rattle.table.specs.declared.Order.{Order}
 use Rattle.table.specs.Decoded.{nameOf}
-use Rattle.table.specs.Encoded.{orderWords, orderFor}
-use Rattle.grammar.specs.Forms.{orderLine}
-use Rattle.grammar.specs.Faults.{orderSaid, orderFault}
-use Rattle.faults.specs.declared.Found.the-variants.{Fine}
+use Rattle.table.specs.Encoded.{wordOf, orderFor, orderWords}
+use Rattle.grammar.specs.Faults.{fault}
+use Rattle.grammar.specs.Reading.{Walk}
+use Rattle.faults.specs.CodedFaults.{faultOf}
+use Rattle.faults.specs.declared.Fault as F
+use Rattle.faults.specs.declared.Found.the-variants.{Faulty}
+use Rattle.faults.proofs.Uniqueness.{found-unique}
+use Rattle.words.proofs.Looked.{word-name}
+use Rattle.words.proofs.Uniqueness.{place-unique}
 use Rattle.lists.specs.Lists.{overlaid}
-use Rattle.tails.proofs.Uniqueness.{Seen, took, stopped, Took, Meets, seen-unique}
-use Rattle.keyed.specs.Orders.{OrderRead, OrderAnswer}
-use Rattle.keyed.specs.declared.OrderStep.{OrderStep}
-use Rattle.keyed.specs.declared.OrderStep.the-variants as O
+use Rattle.keyed.specs.Walks.{walkOf, TookOf, Walks}
+use Rattle.keyed.specs.Numbers.{NumberTo}
+use Rattle.keyed.specs.Orders.{OrderWalks, ZeroAfter, OrderEnd, orderLast}
+use Rattle.keyed.specs.declared.Progress.{Progress}
+use Rattle.keyed.specs.declared.Progress.the-variants.{To, Bad}
+use Rattle.keyed.specs.declared.orders.Ordered.{Ordered}
 
-abbrev pub orderSeen : Text → OrderStep → Seen Order
-orderSeen line (O.To x f) = took x f
-orderSeen line (O.Stuck p) = stopped (drop p line)
+fault-unique : (f g : F.Fault) → faultOf f ≡ faultOf g → f ≡ g
+fault-unique f g e = let k = found-unique (Faulty f) (Faulty g) (fault (faultOf g)) (ap fault e) refl in cc
 
-module _ (names : List ℕ) (line : Text) (before after₁ after₂ : List ℕ) where
-  order-meets : (words : List Text) (after : List ℕ) (r : OrderStep) → OrderRead words line before after r
-      → Meets (orderLine line) (λ l. orderFor (orderSaid words l)) (orderFault words) (λ l. overlaid (orderWords (orderSaid words l)) before) after
-      (orderSeen line r)
-  unfolding Meets
-  order-meets words after (O.To x f) p = record { line = p .line; says = p .says; made = p .order; found = p .faults; stored = p .stored }
-  order-meets words after (O.Stuck n) p = p
+-- How far reading has come: the bytes are settled by the text behind them, the number by what it says.
+abbrev pub Telling : {A : Type 0} → (f g : ℕ → A) → Progress → Progress → Type 0
+Telling f g (To v t) (To w u) = f v ≡ g w → v ≡ w
+Telling f g (To v t) (Bad y m) = Unit {0}
+Telling f g (Bad x l) (To w u) = Unit {0}
+Telling f g (Bad x l) (Bad y m) = Unit {0}
 
-  pub order-unique : (r s : OrderStep) → OrderAnswer names line before after₁ r → OrderAnswer names line before after₂ s → length names ≤ 12
-      → (orderSeen line r ≡ orderSeen line s) × ((x : Order) → orderSeen line r ≡ took x Fine → after₁ ≡ after₂)
-  order-unique r s p q few =
-      let ws = map (nameOf 8) names in
-      seen-unique (orderLine line) (λ l. orderFor (orderSaid ws l)) (orderFault ws) (λ l. overlaid (orderWords (orderSaid ws l)) before) after₁ after₂
-      (orderSeen line r) (orderSeen line s) (order-meets ws after₁ r (p few)) (order-meets ws after₂ s (q few))
+pub walk-unique : {A : Type 0} (f g : ℕ → A) (text : Text) (next : ℕ) (r s : Progress) → walkOf f text next r ≡ walkOf g text next s
+    → TookOf text next r → TookOf text next s → Telling f g r s → r ≡ s
+walk-unique f g text next (To v t) (To w u) e p q tells =
+    let x : f v ≡ g w = cc in
+    let d : drop t text ≡ drop u text = cc in
+    ap₂ To (tells x) (place-unique text t u p q d)
+walk-unique f g text next (To v t) (Bad y m) e p q tells = let z : _≡_ {A = ℕ} 0 1 = cc in absurd (omega arith)
+walk-unique f g text next (Bad x l) (To w u) e p q tells = let z : _≡_ {A = ℕ} 0 1 = cc in absurd (omega arith)
+walk-unique f g text next (Bad x l) (Bad y m) e p q tells =
+    let h : faultOf x ≡ faultOf y = cc in
+    let k : l ≡ m = cc in
+    ap₂ Bad (fault-unique x y h) k
+
+-- One line: what it holds is settled where numbers that say the same are equal.
+line-unique : {A : Type 0} (value : ℕ → A) {text : Text} {next : ℕ} {due : Walk A} (r s : Progress) → Telling value value r s
+    → Walks value text next r due → Walks value text next s due → r ≡ s
+line-unique value {text} {next} r s tells p q = walk-unique value value text next r s (alike (p .says) (q .says)) (p .within) (q .within) tells
+
+pub number-unique : {text : Text} {line below : ℕ} {due : Walk ℕ} (r s : Progress) → NumberTo text line below r due → NumberTo text line below s due → r ≡ s
+number-unique r s p q = line-unique (λ n. n) r s (itself r s) (p .walks) (q .walks)
+  where
+    itself : (r s : Progress) → Telling (λ n. n) (λ n. n) r s
+    itself (To v t) (To w u) = λ e. e
+    itself (To v t) (Bad y m) = tt
+    itself (Bad x l) (To w u) = tt
+    itself (Bad x l) (Bad y m) = tt
+
+-- (a name is a word)
+abbrev pub InWord : Progress → Type 0
+InWord (To v took) = v < 2 ^ 64
+InWord (Bad f line) = Unit {0}
+
+module _ (names : List ℕ) where
+  abbrev withName : ℕ → List Text
+  withName w = map (nameOf 8) names ++ (nameOf 8 w ∷ [])
+
+  named : (r s : Progress) → InWord r → InWord s → Telling withName withName r s
+  named (To v t) (To w u) a b =
+      λ e. sym (word-name 8 v a) ∙ ap wordOf (last-of (map (nameOf 8) names) (nameOf 8 v) (nameOf 8 w) e) ∙ word-name 8 w b
+    where
+      last-of : (xs : List Text) (x y : Text) → xs ++ (x ∷ []) ≡ xs ++ (y ∷ []) → x ≡ y
+      last-of [] x y e = cc
+      last-of (z ∷ xs) x y e = let k : xs ++ (x ∷ []) ≡ xs ++ (y ∷ []) = cc in last-of xs x y k
+  named (To v t) (Bad y m) a b = tt
+  named (Bad x l) (To w u) a b = tt
+  named (Bad x l) (Bad y m) a b = tt
+
+  pub name-unique : {text : Text} {next : ℕ} {due : Walk (List Text)} (r s : Progress) → InWord r → InWord s
+      → Walks withName text next r due → Walks withName text next s due → r ≡ s
+  name-unique r s a b p q = line-unique withName r s (named r s a b) p q
+
+-- The order: the words that are lent are settled by the order, and after a bad line.
+abbrev Where : Progress → Type 0 → Type 0
+Where (To v took) P = P
+Where (Bad f line) P = Unit {0}
+
+module _ (text : Text) (line : ℕ) (due : Walk D.Order) (before after₁ after₂ : List ℕ) (x₁ x₂ : Order) where
+  walks-unique : (r s : Progress) → OrderWalks text line due before after₁ x₁ r → OrderWalks text line due before after₂ x₂ s
+      → (r ≡ s) × (x₁ ≡ x₂) × Where r (after₁ ≡ after₂)
+  walks-unique (To v t) (To w u) p q =
+      let e = alike (p .says) (q .says) in
+      let x : p .order ≡ q .order = cc in (
+        walk-unique (λ n. p .order) (λ n. q .order) text (suc line) (To v t) (To w u) e (p .within) (q .within) (λ h. p .plain ∙ sym (q .plain)),
+        p .kept ∙ ap orderFor x ∙ sym (q .kept),
+        p .stored ∙ ap (λ o. overlaid (orderWords o) before) x ∙ sym (q .stored),
+      )
+  walks-unique (To v t) (Bad y m) p q = let e = alike (p .says) (q .says) in let z : _≡_ {A = ℕ} 0 1 = cc in absurd (omega arith)
+  walks-unique (Bad x l) (To w u) p q = let e = alike (p .says) (q .says) in let z : _≡_ {A = ℕ} 0 1 = cc in absurd (omega arith)
+  walks-unique (Bad x l) (Bad y m) p q = (
+    walk-unique (λ n. D.all) (λ n. D.all) text (suc (suc line)) (Bad x l) (Bad y m) (alike (p .says) (q .says)) (omega (arith, p .low))
+        (omega (arith, q .low)) tt,
+    p .none ∙ sym (q .none),
+    tt,
+  )
+
+words-unique : (r : Progress) (before after₁ after₂ : List ℕ) → Where r (after₁ ≡ after₂) → ZeroAfter r before after₁ → ZeroAfter r before after₂
+    → after₁ ≡ after₂
+words-unique (To v t) before after₁ after₂ w p q = w
+words-unique (Bad x l) before after₁ after₂ w p q = p ∙ sym q
+
+module _ {text : Text} {line : ℕ} {names before after₁ after₂ : List ℕ} {r s : Ordered} where
+  pub order-unique : OrderEnd text line names before after₁ r → OrderEnd text line names before after₂ s
+      → (r .progress ≡ s .progress) × (r .order ≡ s .order) × (after₁ ≡ after₂)
+  order-unique p q =
+      let due = orderLast names line text in
+      let u = walks-unique text line due before after₁ after₂ (r .order) (s .order) (r .progress) (s .progress) (p .walked .came) (q .walked .came) in
+      let z = rw (sym (u .0)) at (q .cleared) in
+      (u .0, u .1, words-unique (r .progress) before after₁ after₂ (u .2) (p .cleared) z)

@@ -1,3 +1,5 @@
--- What the answers of the readers of the other lines stand for.
-pub mod Lines
+-- How far reading has come in a text, and what its lines give that hold one thing after their key.
+pub mod Ends
+pub mod Walks
+pub mod Numbers
 pub mod Orders

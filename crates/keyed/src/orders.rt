@@ -1,60 +1,150 @@
-// The order's line.
+// The order's line, which is the last of its text. Its labels go to words of their own.
 ghost use Prim.Native.Nat.{_≤_};
 ghost use mathlib.Core.List.{map};
+ghost use mathlib.Core.Path.{_≡_};
 ghost use lib.ListN.{length, drop};
 ghost use Rattle.table.specs.Decoded.{nameOf};
-ghost use Rattle.keyed.specs.Orders.{OrderDue, onlyThese, OrderAnswer};
-use crate::OrderStep;
-use entries::ListKind;
-use entries::SaidStep;
-use entries::said_stuck_at;
+ghost use Rattle.grammar.specs.Forms.{orderLine};
+ghost use Rattle.keyed.specs.Orders.{refusal, OrderRead, onlyThese, OrderWalked, OrderEnd, orderFirst, orderLast};
+use crate::Progress;
+use areas::clear;
+use faults::Fault;
 use faults::Found;
+use lists::ListKind;
+use lists::SaidStep;
 use lists::read_whole;
 use slots::Place;
+use table::LIST_WORDS;
 use table::NAMES;
 use table::Order;
 use words::Step;
+use words::literals::is_rest;
 use words::literals::read_literal;
-use words::literals::same_text;
-use words::stuck_at;
+use words::literals::sign_at;
 
-// Its labels stand behind the lists of all terms in the list store.
-const ORDER_AT: usize = 3072;
+// The largest number of a line, after which no line has a number.
+const LARGEST: usize = 0xffffffffffffffff;
 
-fn read_labels(line: &[u8], at: usize, names: &[u64], store: &mut [u64]) -> OrderStep
-    requires { ⌜ (at ≤ length (now line)) × (length (now names) ≤ 12) ⌝ }
-    ensures { λ r. ⌜ OrderDue (map (nameOf 8) (now (names .entry))) (now (line .entry))
-        (onlyThese (drop at (now (line .entry)))) (now (store .entry)) (now (store .exit)) r ⌝ }
+// The order is all where a line is bad.
+pub struct Ordered {
+    pub progress: Progress,
+    pub order: Order,
+}
+
+// What a line says: the order, the fault of its labels and how many bytes the line took; or nothing, where it has not the form.
+enum OrderStep {
+    To(Order, Found, usize),
+    Formless,
+}
+
+fn refused(fault: Fault, line: usize) -> Ordered
+    ensures { λ r. ⌜ r ≡ refusal fault line ⌝ }
 {
-    let list = read_whole(ListKind::Labels, &line[at..], names, store);
+    Ordered {
+        progress: Progress::Bad(fault, line),
+        order: Order::All,
+    }
+}
+
+// What follows the key where it is not `all`.
+fn read_labels(text: &[u8], at: usize, names: &[u64], listed: &mut [u64]) -> OrderStep
+    requires { ⌜ (at ≤ length (now text)) × (length (now names) ≤ 12) ⌝ }
+    ensures { λ r. ⌜ OrderRead (map (nameOf 8) (now (names .entry))) (now (text .entry))
+        (onlyThese (drop at (now (text .entry)))) (now (listed .entry)) (now (listed .exit)) r ⌝ }
+{
+    let list = read_whole(ListKind::Labels, &text[at..], names, listed);
     let SaidStep::To(said, bytes) = list else {
-        return OrderStep::Stuck(at + said_stuck_at(list));
+        return OrderStep::Formless;
     };
     let next = at + bytes;
-    if next < line.len() {
-        return OrderStep::Stuck(next);
+    if !sign_at(text, next, b'\n') {
+        return OrderStep::Formless;
     }
     let place = Place {
-        at: ORDER_AT,
+        at: 0,
         entries: said.first as usize,
     };
     let fault = said.fault;
-    OrderStep::To(Order::Only(place), fault)
+    OrderStep::To(Order::Only(place), fault, next + 1)
 }
 
-// The store is the part of the list store that belongs to the order.
-pub fn read_order(line: &[u8], names: &[u64], store: &mut [u64]) -> OrderStep
-    ensures { λ r. ⌜ OrderAnswer (now (names .entry)) (now (line .entry)) (now (store .entry)) (now (store .exit)) r ⌝ }
+fn read_order(text: &[u8], names: &[u64], listed: &mut [u64]) -> OrderStep
+    requires { ⌜ length (now names) ≤ 12 ⌝ }
+    ensures { λ r. ⌜ OrderRead (map (nameOf 8) (now (names .entry))) (now (text .entry))
+        (orderLine (now (text .entry))) (now (listed .entry)) (now (listed .exit)) r ⌝ }
+{
+    let key = read_literal(text, b"order=");
+    let Step::To(_, at) = key else {
+        return OrderStep::Formless;
+    };
+    if is_rest(&text[at..], b"all") {
+        return OrderStep::To(Order::All, Found::Fine, at + 4);
+    }
+    read_labels(text, at, names, listed)
+}
+
+// The text's first line.
+fn first_line(text: &[u8], line: usize, names: &[u64], listed: &mut [u64]) -> Ordered
+    requires { ⌜ length (now names) ≤ 12 ⌝ }
+    ensures { λ r. ⌜ OrderWalked (now (text .entry)) line (orderFirst (now (names .entry)) line (now (text .entry)))
+        (now (listed .entry)) (now (listed .exit)) r ⌝ }
+{
+    let step = read_order(text, names, listed);
+    let OrderStep::To(order, found, took) = step else {
+        return refused(Fault::Form, line);
+    };
+    if let Found::Faulty(f) = found {
+        return refused(f, line);
+    }
+    Ordered {
+        progress: Progress::To(0, took),
+        order,
+    }
+}
+
+// The text's only line: bytes after it are a fault of the line that they begin.
+fn only_line(text: &[u8], line: usize, names: &[u64], listed: &mut [u64]) -> Ordered
+    ensures { λ r. ⌜ OrderWalked (now (text .entry)) line (orderLast (now (names .entry)) line (now (text .entry)))
+        (now (listed .entry)) (now (listed .exit)) r ⌝ }
 {
     if NAMES < names.len() {
-        return OrderStep::Stuck(0);
+        return refused(Fault::Form, line);
     }
-    let key = read_literal(line, b"order=");
-    let Step::To(_, at) = key else {
-        return OrderStep::Stuck(stuck_at(key));
+    if LARGEST <= line {
+        return refused(Fault::Form, line);
+    }
+    let last = first_line(text, line, names, listed);
+    let progress = last.progress;
+    let Progress::To(_, end) = progress else {
+        return last;
     };
-    if same_text(&line[at..], b"all") {
-        return OrderStep::To(Order::All, Found::Fine);
+    if end < text.len() {
+        return refused(Fault::Form, line + 1);
     }
-    read_labels(line, at, names, store)
+    last
+}
+
+// The same, with words of 0 after a bad line.
+fn take_end(text: &[u8], line: usize, names: &[u64], listed: &mut [u64]) -> Ordered
+    requires { ⌜ length (now listed) ≤ 32 ⌝ }
+    ensures { λ r. ⌜ OrderEnd (now (text .entry)) line (now (names .entry)) (now (listed .entry)) (now (listed .exit)) r ⌝ }
+{
+    let last = only_line(text, line, names, listed);
+    let progress = last.progress;
+    let Progress::To(_, _) = progress else {
+        clear(listed, LIST_WORDS);
+        return last;
+    };
+    last
+}
+
+// An order that is all of its text, with the number of its line: its labels go to the start of the words that are lent. After a bad line
+// the first 32 of these are 0. The others stay as they were, whatever the line is.
+pub fn take_order(text: &[u8], line: usize, names: &[u64], listed: &mut [u64]) -> Ordered
+    ensures { λ r. ⌜ OrderEnd (now (text .entry)) line (now (names .entry)) (now (listed .entry)) (now (listed .exit)) r ⌝ }
+{
+    if LIST_WORDS < listed.len() {
+        return take_end(text, line, names, &mut listed[..LIST_WORDS]);
+    }
+    take_end(text, line, names, listed)
 }

@@ -15,12 +15,12 @@ use Rattle.grammar.specs.Forms.{Parts, WordPair, WordRule}
 use Rattle.grammar.specs.Faults.{Found, fine, fault, worse, unless, worst, rising}
 use Rattle.grammar.specs.Faults.{nameFault, partFault, labelFault, ruleFault, wordsFault, pairsFault, rulesFault, labelsFault}
 use Rattle.grammar.specs.Faults.{nameNumber, actions, numberSaid, labelSaid, pairSaid, ruleSaid}
-use Rattle.entries.specs.Tallies.{Said, weightOf, allFaults}
-use Rattle.entries.specs.Entries.{nameEntry, pairEntry, ruleEntry, labelEntry, unlessFaulty}
+use Rattle.lists.specs.Tallies.{Said, weightOf, allFaults}
+use Rattle.lists.specs.Entries.{nameEntry, pairEntry, ruleEntry, labelEntry, unlessFaulty}
 use Rattle.lists.specs.Lists.{listFaults, listWords}
-use Rattle.entries.specs.declared.ListKind.the-variants.{Names, Pairs, Rules, Labels}
+use Rattle.lists.specs.declared.ListKind.the-variants.{Names, Pairs, Rules, Labels}
 use Rattle.faults.proofs.Ranks.{by-rank, rank-worse, worse-fine}
-use Rattle.entries.proofs.Parts.{worst-map, map-twice, worse-none}
+use Rattle.lists.proofs.Parts.{worst-map, map-twice, worse-none}
 
 -- The weight of a list whose entries all weigh the same.
 weighed : {A : Type 0} (weight : ℕ) (say : A → Said) (xs : List A)

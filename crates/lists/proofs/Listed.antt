@@ -1,30 +1,31 @@
 -- The lists, entry by entry, with their words over the start of a store.
 -- Assumes nothing.
 use mathlib.Core.Path.{_≡_, refl, sym, ap, ap₂, subst, _∙_}
-use mathlib.Core.Bool.{Bool, true, false}
+use mathlib.Core.Bool.{Bool, true, false, _&&_, false≢true}
 use mathlib.Core.List.{List, [], _∷_, _++_, map, append-assoc, append-nil}
 use Rattle.table.specs.Decoded.{nameOf}
 use Rattle.words.proofs.Steps.{IsStuck, restAt, rest-drop}
 use Prim.Native.Nat.{ℕ, suc, _+_, _*_, _≤_, _<_, _^_}
 use native.Mathlib.Omega.{arith}
-use native.Mathlib.Nat.{le-refl}
-use lib.Dec.{ltb}
+use lib.Dec.{ltb, eqb}
 use lib.ListN.{length, drop, set, length-append, drop-of-length-le}
-use Rattle.meaning.specs.Bytes.{Text}
-use Rattle.grammar.specs.Text.{Past, past, stuck, onward, word, separatedOn}
+use Rattle.meaning.specs.Bytes.{Text, ascii}
+use Rattle.meaning.proofs.Tests.{and-true→}
+use Rattle.grammar.specs.Text.{Past, past, stuck, onward, isRest, word, separatedOn}
 use Rattle.grammar.specs.Forms.{part, label, pair, rule}
 use borrow.Author.Tests.{le-leb, ltb-true, ltb-false}
 use Rattle.grammar.specs.Faults.{fine, worst, rising}
-use Rattle.entries.specs.Tallies.{Said, weightOf, allFaults}
-use Rattle.entries.specs.Entries.{nameEntry, pairEntry, ruleEntry, labelEntry, entryOf, withFew}
-use Rattle.lists.specs.Lists.{listFaults, weightFor, limitFor, wordCount, entryWord, entryWords, listWords, entryStored, overlaid, wholeList, ListRead}
-use Rattle.entries.specs.declared.SaidStep.{SaidStep}
-use Rattle.entries.specs.declared.SaidStep.the-variants as S
+use Rattle.lists.specs.Tallies.{Said, weightOf, allFaults}
+use Rattle.lists.specs.Entries.{nameEntry, pairEntry, ruleEntry, labelEntry, entryOf, withFew}
+use Rattle.lists.specs.Lists.{listFaults, weightFor, limitFor, wordCount, entryWord, entryWords}
+use Rattle.lists.specs.Lists.{listWords, entryStored, overlaid, takesNone, wholeList, ListRead}
+use Rattle.lists.specs.declared.SaidStep.{SaidStep}
+use Rattle.lists.specs.declared.SaidStep.the-variants as S
 use Rattle.faults.specs.declared.Found.the-variants.{Fine}
-use Rattle.entries.specs.declared.ListKind.{ListKind}
-use Rattle.entries.specs.declared.ListKind.the-variants.{Names, Pairs, Rules, Labels}
-use Rattle.entries.proofs.Seen.{said-same}
-use Rattle.entries.proofs.Parts.{name-low, label-small}
+use Rattle.lists.specs.declared.ListKind.{ListKind}
+use Rattle.lists.specs.declared.ListKind.the-variants.{Names, Pairs, Rules, Labels}
+use Rattle.lists.proofs.Seen.{said-same}
+use Rattle.lists.proofs.Parts.{name-low, label-small}
 
 -- words over the start of a store, one more
 over-one : (ws store : List ℕ) (a : ℕ) → overlaid (ws ++ (a ∷ [])) store ≡ set (overlaid ws store) (length ws) a
@@ -179,16 +180,24 @@ pub over-none : (kind : ListKind) (store : List ℕ) → store ≡ overlaid (lis
 unfolding overlaid listWords
 over-none kind store = refl
 
+-- (`none` and the LF behind it stand in the line)
+rest-within : (w line : Text) → isRest w line ≡ true → length w ≤ length line
+unfolding isRest
+rest-within [] line h = omega arith
+rest-within (c ∷ w) [] h = absurd (false≢true h)
+rest-within (c ∷ w) (b ∷ line) h = let k = rest-within w line (and-true→ (eqb c b) (isRest w line) h .1) in omega arith
+
 pub none-read : (kind : ListKind) (line : Text) (store : List ℕ)
-    → ListRead kind line (past [] []) store store (S.To (record { fault = Fine; first = 0; second = 0 }) (length line))
-none-read kind line store =
+    → (takesNone kind && isRest (ascii "none") line) ≡ true
+    → ListRead kind line (past [] (drop 4 line)) store store (S.To (record { fault = Fine; first = 0; second = 0 }) 4)
+none-read kind line store h =
     record {
       read =
           record {
             stands =
                 record {
-                  says = ap₂ {C = Past Said} past (said-same (list-none kind) refl refl) (drop-of-length-le line (le-refl (length line)));
-                  within = le-refl (length line);
+                  says = ap (λ e. past e (drop 4 line)) (said-same (list-none kind) refl refl);
+                  within = rest-within (ascii "none") line (and-true→ (takesNone kind) (isRest (ascii "none") line) h .1);
                 };
           };
       stored = λ es p h. over-none kind store ∙ ap (λ l. overlaid (listWords kind l) store) (sym (as-read h refl));

@@ -5,16 +5,16 @@ use mathlib.Core.Bool.{Bool, true, false, _&&_}
 use mathlib.Core.Path.{_≡_}
 use Prim.Native.Nat.{ℕ, _+_, _*_}
 use lib.Dec.{eqb}
-use lib.ListN.{length, set}
+use lib.ListN.{length, drop, set}
 use Rattle.meaning.specs.Bytes.{Text, ascii}
-use Rattle.grammar.specs.Text.{Past, past, onward, sameText, separated}
+use Rattle.grammar.specs.Text.{Past, past, onward, isRest, separated}
 use Rattle.grammar.specs.Forms.{comma}
 use Rattle.grammar.specs.Faults.{Found}
-use Rattle.entries.specs.Tallies.{Said, allFaults}
-use Rattle.entries.specs.Entries.{Says, entryOf}
-use Rattle.entries.specs.declared.SaidStep.{SaidStep}
-use Rattle.entries.specs.declared.ListKind.{ListKind}
-use Rattle.entries.specs.declared.ListKind.the-variants.{Names, Pairs, Rules, Labels}
+use Rattle.lists.specs.Tallies.{Said, allFaults}
+use Rattle.lists.specs.Entries.{Says, entryOf}
+use Rattle.lists.specs.declared.SaidStep.{SaidStep}
+use Rattle.lists.specs.declared.ListKind.{ListKind}
+use Rattle.lists.specs.declared.ListKind.the-variants.{Names, Pairs, Rules, Labels}
 
 -- Only rules and labels have a maximum.
 abbrev pub weightFor : ListKind → ℕ
@@ -77,9 +77,9 @@ overlaid (w ∷ ws) [] = []
 overlaid (w ∷ ws) (x ∷ store) = w ∷ overlaid ws store
 
 -- `none` is the list of no labels.
-abbrev pub unlessNone : Bool → Past (List Said) → Past (List Said)
-unlessNone true other = past [] []
-unlessNone false other = other
+abbrev pub unlessNone : Bool → Text → Past (List Said) → Past (List Said)
+unlessNone true s other = past [] (drop 4 s)
+unlessNone false s other = other
 
 abbrev pub takesNone : ListKind → Bool
 takesNone Names = false
@@ -88,7 +88,7 @@ takesNone Rules = false
 takesNone Labels = true
 
 abbrev pub wholeList : List Text → ListKind → Text → Past (List Said)
-wholeList words kind s = unlessNone (takesNone kind && sameText s (ascii "none")) (listOf words kind s)
+wholeList words kind s = unlessNone (takesNone kind && isRest (ascii "none") s) s (listOf words kind s)
 
 -- A list that is read: its fault and its number of entries, and its words over the start of the store.
 pub record ListRead (kind : ListKind) (line : Text) (due : Past (List Said)) (before after : List ℕ) (r : SaidStep) : Type 0 where

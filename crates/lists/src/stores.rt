@@ -3,7 +3,7 @@ ghost use Prim.Native.Nat.{_+_, _<_, _^_};
 ghost use mathlib.Core.Path.{_≡_};
 ghost use lib.ListN.{set};
 ghost use Rattle.lists.specs.Lists.{wordCount, entryWord, weightFor, limitFor, entryStored};
-use entries::ListKind;
+use crate::ListKind;
 
 // A word of the store, as far as it reaches.
 fn put(store: &mut [u64], at: usize, word: u64)

@@ -2,5 +2,5 @@
 -- Over, over-start, over-step, over-end: rules taken two words at a time; first-few, lent-rules: the words that are lent of them
 pub mod Exchanged
 -- wayOf, wayWords: the way of an operator of a description, and its list as the way takes it; way-same, words-same: they are those that
--- the table and the list store of a legal description give
-pub mod Stores
+-- the lists of a legal description give
+pub mod OperatorLists

@@ -1,4 +1,4 @@
--- The ways of operators, with their lists from the list store.
+-- The ways of operators, with their lists from those of the terms.
 -- Assumes nothing.
 use mathlib.Core.List.{List}
 use Prim.Native.Nat.{ℕ}
@@ -35,12 +35,12 @@ placeFor (O.Comm p) = p
 placeFor (O.Allow p) = p
 
 -- rules in the order in which they are followed from some labels
-abbrev pub wordsFor : (store labels : List ℕ) → Operator → List ℕ
-wordsFor store labels (O.Block p) = wordsAt store p 1
-wordsFor store labels (O.Hide p) = wordsAt store p 1
-wordsFor store labels (O.Rename p) = wordsAt store p 1
-wordsFor store labels (O.Comm p) = rulesFor labels (ruleList (wordsAt store p 2))
-wordsFor store labels (O.Allow p) = wordsAt store p 1
+abbrev pub wordsFor : (lists labels : List ℕ) → Operator → List ℕ
+wordsFor lists labels (O.Block p) = wordsAt lists p 1
+wordsFor lists labels (O.Hide p) = wordsAt lists p 1
+wordsFor lists labels (O.Rename p) = wordsAt lists p 1
+wordsFor lists labels (O.Comm p) = rulesFor labels (ruleList (wordsAt lists p 2))
+wordsFor lists labels (O.Allow p) = wordsAt lists p 1
 
 -- what a way makes of labels of an operand goes into a set at the start of words of its own
 abbrev pub passed : ℕ → Way → (list labels operand : List ℕ) → List ℕ → Building

@@ -1,4 +1,4 @@
-// Labels through an operator of a description, with its list from the list store, into a set at the start of words of its own.
+// Labels through an operator of a description, with its list from the terms' lists, into a set at the start of words of its own.
 mod exchanging;
 
 use crate::exchanging::exchanges;
@@ -56,7 +56,7 @@ fn way_of(operator: Operator) -> Way
     }
 }
 
-// Where an operator's list stands in the store.
+// Where an operator's list stands.
 fn list_place(operator: Operator) -> Place
     ensures { λ r. ⌜ r ≡ placeFor operator ⌝ }
 {
@@ -71,21 +71,21 @@ fn list_place(operator: Operator) -> Place
 
 // What an operator makes of labels that are all labels of its operand or some of them.
 pub fn through(
-    store: &[u64],
+    lists: &[u64],
     operator: Operator,
     labels: &[u64],
     operand: &[u64],
     out: &mut [u64],
 ) -> Built
-    ensures { λ r. ⌜ Passes (wayFor operator) (wordsFor (now (store .entry)) (held (now (labels .entry))) operator) (held (now (labels .entry)))
+    ensures { λ r. ⌜ Passes (wayFor operator) (wordsFor (now (lists .entry)) (held (now (labels .entry))) operator) (held (now (labels .entry)))
         (held (now (operand .entry))) (held (now (out .entry))) (held (now (out .exit))) r ⌝ }
 {
     let place = list_place(operator);
     match operator {
-        Operator::Comm(_) => communicate(rule_words_of(store, place), labels, operand, out),
+        Operator::Comm(_) => communicate(rule_words_of(lists, place), labels, operand, out),
         _ => add_image(
             way_of(operator),
-            words_of(store, place),
+            words_of(lists, place),
             labels,
             operand,
             out,

@@ -1,5 +1,5 @@
--- For callers: how long a text can be, which is what a lent area must have to hold every one, and that what is answered lies within
--- the area.
+-- How long a text can be, which is what an area must have to hold every one, so that nothing is measured; and, for callers, that what is
+-- answered lies within the area.
 -- Assumes nothing.
 use mathlib.Core.List.{List, map}
 use Prim.Native.Nat.{ℕ, _+_, _*_, _≤_}

@@ -9,5 +9,5 @@ pub mod LabelLines
 pub mod Answers
 -- same-answer: for callers, what is printed over packed words is what is printed over a description's own
 pub mod Callers
--- length-answer, length-refusal, printed-within: for callers, how long a text can be
+-- length-answer, length-refusal, printed-within: how long a text can be, for callers too
 pub mod Lengths

@@ -4,6 +4,7 @@
 // into the rest of the area behind the lines before it.
 mod lines;
 
+use lines::LONGEST_LINE;
 use lines::label_lines_fit;
 use lines::write_head;
 use lines::write_label_lines;
@@ -28,9 +29,13 @@ fn write_answer_head(text: &mut [u8], rounds: usize, count: usize) -> usize
     write_head(text, b"answer=ok\n", b"rounds=", rounds, b"labels=", count)
 }
 
+// Where the longest answer would fit, no length is worked out. Else the labels are held to what the head leaves.
 fn answer_fits(names: [u64; NAMES], rounds: usize, labels: &[u64], room: usize) -> bool
     ensures { λ r. ⌜ r ≡ leb (length (answerText (nameTexts names) rounds (map countsOf (now (labels .entry))))) room ⌝ }
 {
+    if LONGEST_HEAD <= room && labels.len() <= (room - LONGEST_HEAD) / LONGEST_LINE {
+        return true;
+    }
     let mut scratch = [0u8; LONGEST_HEAD];
     let size = write_answer_head(&mut scratch, rounds, labels.len());
     if room < size {
@@ -65,9 +70,13 @@ fn write_fitting_refusal(text: &mut [u8], reason: usize, line: usize) -> usize
     )
 }
 
+// Where the longest head would fit, no length is worked out: a refusal is a head.
 fn refusal_fits(reason: usize, line: usize, room: usize) -> bool
     ensures { λ r. ⌜ r ≡ leb (length (refusedText reason line)) room ⌝ }
 {
+    if LONGEST_HEAD <= room {
+        return true;
+    }
     let mut scratch = [0u8; LONGEST_HEAD];
     write_fitting_refusal(&mut scratch, reason, line) <= room
 }

@@ -58,7 +58,7 @@ pub(crate) fn write_label_lines(text: &mut [u8], names: [u64; NAMES], labels: &[
 const AROUND_A_LABEL: usize = 7;
 
 // A label of the longest, with the bytes around it.
-const LONGEST_LINE: usize = 151;
+pub(crate) const LONGEST_LINE: usize = 151;
 
 // Where the longest lines would fit, no length is worked out. Else the room goes down line by line: the lengths of all lines
 // together could pass a word.

@@ -1,6 +1,13 @@
 -- The laws that the readers' proofs cite; each file after those that it cites.
--- ends-bad, ends-on, by-head, by-foot: a step that ends the reading, and one after which it goes on; order-refused,
--- order-read: the order's line and the end of the text; order-stored, table-held: the store and the table of what was read
+-- table-holds, order-held: what is left holds the description and its order
+pub mod Holdings
+-- head-joins: the lines before the terms are lines of the whole text; lines-halt, lines-crowd, lines-fit: what it comes to by those
 pub mod Wholes
--- stored-once: any two results that meet the public promise are equal; kept-completed, cleared-completed, completed-stored: the store
+-- terms-refused, terms-read, head-refused, head-crowded, head-read: what a section leaves with those after it
+pub mod Sequels
+-- too-much-stored, rooms, kept-stored, cleared-stored, not-fine: what is left in the areas, by the answer
 pub mod Stores
+-- never-crowded, read-in-full: where there is room for every text's lists; read-holds: what is left of a text that is read
+pub mod Rooms
+-- stored-once: any two results that meet the promise are equal, and so are the areas
+pub mod Uniqueness

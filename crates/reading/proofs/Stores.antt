@@ -1,88 +1,100 @@
--- What reading leaves in the store, and that its contract settles it.
+-- What reading leaves in the three areas, whatever the text: what was read, or words of 0.
 -- Assumes nothing.
 use mathlib.Core.Path.{_≡_, refl, sym, ap, _∙_}
-use mathlib.Core.Bool.{Bool, true, false}
-use mathlib.Core.List.{List, [], _∷_, _++_}
-use Prim.Native.Nat.{ℕ, _≤_, _<_}
+use mathlib.Core.Bool.{true, false, _||_}
+use mathlib.Core.List.{List, [], _∷_}
+use Prim.Native.Nat.{ℕ, zero, suc, _≤_}
 use native.Mathlib.Omega.{arith}
-use lib.Dec.{leb}
+use lib.Dec.{ltb}
 use lib.ListN.{length, drop}
-use borrow.Author.Tests.{lt-ltb, le-ltb, le-leb, lt-leb}
+use borrow.Author.Tests.{ltb-false}
 use types.Run.{OneOf, miss}
 use denote.Enum.Declared.{tagOf}
 use Rattle.reading.proofs.Answer.{the-type}
 use Rattle.meaning.specs.Bytes.{Text}
-use Rattle.meaning.proofs.Alike.{alike}
-use Rattle.table.specs.Encoded.{filled}
-use Rattle.table.proofs.Fillings.{filled-replicate}
-use Rattle.grammar.specs.Reading.{Reading, read, overlong, badLine, described, wholeText, readText}
-use Rattle.reading.specs.Stored.{refusing, readFor, storeFor, withRoom, readWith, Stored, Ended, Completed}
+use Rattle.meaning.proofs.Tests.{or-false→}
+use Rattle.areas.specs.Areas.{zeroed}
+use Rattle.grammar.specs.Reading.{read, overlong, badLine}
+use Rattle.sections.specs.Sections.{Within}
+use Rattle.reading.specs.Stored.{Coming, comes, crowded, linesIn, tooMuch, readIn, refusing, readFor, tableFor, listsFor, listedFor, Stored}
+use Rattle.reading.specs.Whole.{LinesLeft, LinesRead}
 use Rattle.reading.specs.declared.Answer.{Answer}
-use Rattle.reading.specs.declared.Answer.the-variants.{Fine, TooLong, Bad}
+use Rattle.reading.specs.declared.Answer.the-variants.{Fine, NoRoom, TooLong, Bad}
 use Rattle.reading.specs.declared.Read.{Read}
 
--- Any two results that meet the contract are equal, and so are the stores.
-pub stored-once : {text : Text} {before after after′ : List ℕ} {r r′ : Read} → Stored text before after r → Stored text before after′ r′
-    → (r ≡ r′) × (after ≡ after′)
-stored-once s t = (alike (s .result) (t .result), alike (s .store) (t .store))
-
 -- Refusal 1 comes first.
-too-long : (b : Bool) → withRoom b overlong ≡ overlong
-too-long true = refl
-too-long false = refl
+pub too-much-stored : {text : Text} {table lists listed : List ℕ} {r : Read} → tooMuch (length text) (length table) (length listed) ≡ true
+    → r ≡ refusing TooLong → Stored text table lists listed table lists listed r
+unfolding readIn
+too-much-stored {text} {table} {lists} {listed} e q = record {
+  result = q ∙ ap readFor (sym over);
+  tabled = ap (λ x. tableFor x table) (sym over);
+  listing = ap (λ x. listsFor x lists) (sym over);
+  ordered = ap (λ x. listedFor x listed) (sym over);
+}
+  where
+    over : readIn text (length table) (length lists) (length listed) ≡ comes overlong
+    over = rw e
 
-module _ (text : Text) where
-  long-refused : 8192 < length text → readText text ≡ overlong
-  unfolding readText
-  long-refused h = rw (lt-ltb 8192 (length text) h, readText)
+-- otherwise both areas that it looks at are long enough
+pub rooms : (text table listed : ℕ) → tooMuch text table listed ≡ false → (128 ≤ table) × (32 ≤ listed)
+rooms text table listed e =
+    let k = or-false→ (ltb 8192 text || ltb table 128) (ltb listed 32) e in
+    let l = or-false→ (ltb 8192 text) (ltb table 128) (k .0) in
+    (ltb-false table 128 (l .1), ltb-false listed 32 (k .1))
 
-  short-read : length text ≤ 8192 → readText text ≡ described (wholeText text)
-  unfolding readText
-  short-read h = rw (le-ltb 8192 (length text) h, readText)
+-- Words that are touched no further than they are cleared.
+cleared-alike : (n : ℕ) (a b : List ℕ) → length b ≡ length a → drop n b ≡ drop n a → zeroed n b ≡ zeroed n a
+unfolding zeroed
+cleared-alike zero a b l d = d
+cleared-alike (suc n) [] [] l d = refl
+cleared-alike (suc n) [] (y ∷ b) l d = absurd (omega arith)
+cleared-alike (suc n) (x ∷ a) [] l d = absurd (omega arith)
+cleared-alike (suc n) (x ∷ a) (y ∷ b) l d = ap (λ (r : List ℕ). 0 ∷ r) (cleared-alike n a b (omega arith) d)
 
-module _ (text : Text) (room : ℕ) where
-  pub text-long : 8192 < length text → readWith text room ≡ overlong
-  unfolding readWith
-  text-long h = ap (withRoom (leb 3104 room)) (long-refused text h) ∙ too-long (leb 3104 room)
+cleared : {n : ℕ} {a b : List ℕ} → Within n a b → zeroed n b ≡ zeroed n a
+cleared {n} {a} {b} w = cleared-alike n a b (w .long) (w .behind)
 
-  pub room-short : room < 3104 → readWith text room ≡ overlong
-  unfolding readWith
-  room-short h = rw (lt-leb 3104 room h)
+-- By the answer the areas are kept or cleared.
+module _ {text : Text} {table lists listed table′ lists′ listed′ : List ℕ} {r : Read} (w : LinesRead text table lists listed table′ lists′ listed′ r)
+    (fits : tooMuch (length text) (length table) (length listed) ≡ false) where
+  looked-at : linesIn (length lists) text ≡ readIn text (length table) (length lists) (length listed)
+  unfolding readIn
+  looked-at = rw fits
 
-  pub both-fit : length text ≤ 8192 → 3104 ≤ room → readWith text room ≡ described (wholeText text)
-  unfolding readWith
-  both-fit h k = rw (le-leb 3104 room k) (short-read text h)
+  stored : {table″ lists″ listed″ : List ℕ}
+      → (table″ ≡ tableFor (linesIn (length lists) text) table) × (lists″ ≡ listsFor (linesIn (length lists) text) lists)
+      × (listed″ ≡ listedFor (linesIn (length lists) text) listed) → Stored text table lists listed table″ lists″ listed″ r
+  stored k = record {
+    result = w .result ∙ ap readFor looked-at;
+    tabled = k .0 ∙ ap (λ x. tableFor x table) looked-at;
+    listing = k .1 ∙ ap (λ x. listsFor x lists) looked-at;
+    ordered = k .2 ∙ ap (λ x. listedFor x listed) looked-at;
+  }
 
-module _ (text : Text) (before : List ℕ) {r : Read} where
-  pub refused-first : readWith text (length before) ≡ overlong → r ≡ refusing TooLong → Stored text before before r
-  refused-first e h = record { result = h ∙ ap readFor (sym e); store = ap (λ x. storeFor x before) (sym e) }
-
--- By the answer the store is kept or cleared.
-module _ {due : Reading} {front : List ℕ} {r : Read} (e : Ended due front r) where
-  pub kept-completed : r .answer ≡ Fine → Completed due front r
-  kept-completed h = record { result = e .result; store = λ before. by-reading before due e }
+  pub kept-stored : r .answer ≡ Fine → Stored text table lists listed table′ lists′ listed′ r
+  kept-stored h = stored (by-coming (linesIn (length lists) text) (w .result) (w .left))
     where
-      by-reading : (before : List ℕ) (x : Reading) → Ended x front r → front ++ drop 3104 before ≡ storeFor x before
-      by-reading before (read d o) e = ap (λ l. l ++ drop 3104 before) (e .left)
-      by-reading before overlong e = absurd (e .left)
-      by-reading before (badLine f line) e =
-          let k = sym (ap (λ x. x .answer) (e .result)) ∙ h in let z : _≡_ {A = ℕ} 0 1 = cc in absurd (omega arith)
+      by-coming : (x : Coming) → r ≡ readFor x → LinesLeft x table lists listed table′ lists′ listed′
+          → (table′ ≡ tableFor x table) × (lists′ ≡ listsFor x lists) × (listed′ ≡ listedFor x listed)
+      by-coming (comes (read d o)) e l = l
+      by-coming (comes overlong) e l = absurd l
+      by-coming (comes (badLine f line)) e l = let k = sym (ap (λ x. x .answer) e) ∙ h in let z : _≡_ {A = ℕ} 0 1 = cc in absurd (omega arith)
+      by-coming crowded e l = let k = sym (ap (λ x. x .answer) e) ∙ h in let z : _≡_ {A = ℕ} 0 1 = cc in absurd (omega arith)
 
-  pub cleared-completed : {zeros : List ℕ} → (r .answer ≡ Fine → ⊥) → zeros ≡ filled 3104 0 [] → Completed due zeros r
-  cleared-completed {zeros} h z = record { result = e .result; store = λ before. by-reading before due e }
+  pub cleared-stored : (r .answer ≡ Fine → ⊥) → Stored text table lists listed (zeroed 128 table′) (zeroed 3072 lists′) (zeroed 32 listed′) r
+  cleared-stored h = stored (by-coming (linesIn (length lists) text) (w .result) (w .left))
     where
-      by-reading : (before : List ℕ) (x : Reading) → Ended x front r → zeros ++ drop 3104 before ≡ storeFor x before
-      by-reading before (read d o) e = absurd (h (ap (λ x. x .answer) (e .result)))
-      by-reading before overlong e = absurd (e .left)
-      by-reading before (badLine f line) e = ap (λ l. l ++ drop 3104 before) (z ∙ sym (filled-replicate 0 3104))
-
-pub completed-stored : (text : Text) (before : List ℕ) {front : List ℕ} {r : Read} → readWith text (length before) ≡ described (wholeText text)
-    → Completed (described (wholeText text)) front r → Stored text before (front ++ drop 3104 before) r
-completed-stored text before fits k =
-    record { result = k .result ∙ ap readFor (sym fits); store = k .store before ∙ ap (λ x. storeFor x before) (sym fits) }
+      by-coming : (x : Coming) → r ≡ readFor x → LinesLeft x table lists listed table′ lists′ listed′
+          → (zeroed 128 table′ ≡ tableFor x table) × (zeroed 3072 lists′ ≡ listsFor x lists) × (zeroed 32 listed′ ≡ listedFor x listed)
+      by-coming (comes (read d o)) e l = absurd (h (ap (λ x. x .answer) e))
+      by-coming (comes overlong) e l = absurd l
+      by-coming (comes (badLine f line)) e l = (cleared (w .tabled), cleared (w .listing), cleared l)
+      by-coming crowded e l = (cleared (w .tabled), cleared (w .listing), cleared l)
 
 -- one of the other answers
-pub not-fine : (a : Answer) → OneOf (1 ∷ 2 ∷ []) (tagOf the-type a) → a ≡ Fine → ⊥
-not-fine Fine h e = miss (1 ∷ 2 ∷ []) 0 tt h
+pub not-fine : (a : Answer) → OneOf (1 ∷ 2 ∷ 3 ∷ []) (tagOf the-type a) → a ≡ Fine → ⊥
+not-fine Fine h e = miss (1 ∷ 2 ∷ 3 ∷ []) 0 tt h
+not-fine NoRoom h e = let z : _≡_ {A = ℕ} 0 1 = cc in omega arith
 not-fine TooLong h e = let z : _≡_ {A = ℕ} 0 1 = cc in omega arith
 not-fine (Bad f line) h e = let z : _≡_ {A = ℕ} 0 1 = cc in omega arith

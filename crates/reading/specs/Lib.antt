@@ -1,4 +1,5 @@
--- What reading leaves in a table and its list store.
+-- What reading leaves in a table, its lists and the order's words.
+-- Coming, readIn; Stored: what is promised for every text
 pub mod Stored
--- What the sections ask for and leave, one after the other.
-pub mod Parts
+-- what the functions that join the sections ask for and leave
+pub mod Whole

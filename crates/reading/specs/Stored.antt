@@ -1,66 +1,76 @@
--- What reading leaves: the answer with its table and order, and the list store.
+-- What reading promises for every text and for areas of any lengths.
 -- Assumes nothing.
 use mathlib.Core.Path.{_≡_}
-use mathlib.Core.Bool.{Bool, true, false}
-use mathlib.Core.List.{List, _++_}
-use Prim.Native.Nat.{ℕ}
-use lib.Dec.{leb}
-use lib.ListN.{length, drop, replicate}
+use mathlib.Core.Bool.{Bool, _||_}
+use mathlib.Core.List.{List}
+use Prim.Native.Nat.{ℕ, _*_}
+use lib.Dec.{leb, ltb}
+use lib.ListN.{length}
 use Rattle.meaning.specs.Bytes.{Text}
-use Rattle.meaning.specs.Answers.{Fault, form, name, range, amount}
+use Rattle.meaning.specs.Rounds.{pick}
+use Rattle.areas.specs.Areas.{zeroed}
 use Rattle.table.specs.declared.Order.the-variants.{All}
-use Rattle.table.specs.Encoded.{tableOf, blank, orderFor, storeOf}
-use Rattle.faults.specs.declared.Fault as F
-use Rattle.faults.specs.declared.Fault.the-variants.{Form, Name, Range, Amount}
-use Rattle.grammar.specs.Reading.{Reading, read, overlong, badLine, readText}
+use Rattle.table.specs.Encoded.{orderFor, orderWords}
+use Rattle.lists.specs.Lists.{overlaid}
+use Rattle.grammar.specs.Reading.{Walk, reached, halted, Reading, read, overlong, badLine, described, wholeText}
 use Rattle.reading.specs.declared.Answer.{Answer}
-use Rattle.reading.specs.declared.Answer.the-variants.{Fine, TooLong, Bad}
+use Rattle.reading.specs.declared.Answer.the-variants.{Fine, NoRoom, TooLong, Bad}
 use Rattle.reading.specs.declared.Read.{Read}
+use Rattle.sections.specs.Laying.{tableAfter, listsOver}
+pub use Rattle.sections.specs.Sections.{faultFor}
+use Rattle.heads.specs.Heads.{Heading, headText}
 
-abbrev pub faultFor : Fault → F.Fault
-faultFor form = Form
-faultFor name = Name
-faultFor range = Range
-faultFor amount = Amount
+-- What a text comes to where there are so many words for lists: what it reads as; or crowded, where the lines before the terms are
+-- right and there is no room for the lists of so many terms.
+pub data Coming : Type 0 where
+  comes : Reading → Coming
+  crowded : Coming
 
--- What is returned for each reading; after a refusal the table is that of nothing.
+abbrev pub unlessCrowded : (room : ℕ) → Walk Heading → Reading → Coming
+unlessCrowded room (halted f line) r = comes r
+unlessCrowded room (reached h line s) r = pick (leb (32 * h .terms) room) (comes r) crowded
+
+unfoldable pub linesIn : (room : ℕ) → Text → Coming
+linesIn room text = unlessCrowded room (headText text) (described (wholeText text))
+
+-- Refusal 1: a text that is too long is not looked at, and so is every text where the table or the order has too few words.
+abbrev pub tooMuch : (text table listed : ℕ) → Bool
+tooMuch text table listed = ltb 8192 text || ltb table 128 || ltb listed 32
+
+unfoldable pub readIn : Text → (table lists listed : ℕ) → Coming
+readIn text table lists listed = pick (tooMuch (length text) table listed) (comes overlong) (linesIn lists text)
+
+-- What is returned.
 abbrev pub refusing : Answer → Read
-refusing a = record { answer = a; table = tableOf blank; order = All }
+refusing a = record { answer = a; order = All }
 
-abbrev pub readFor : Reading → Read
-readFor (read d o) = record { answer = Fine; table = tableOf d; order = orderFor o }
-readFor overlong = refusing TooLong
-readFor (badLine f line) = refusing (Bad (faultFor f) line)
+abbrev pub readFor : Coming → Read
+readFor (comes (read d o)) = record { answer = Fine; order = orderFor o }
+readFor (comes overlong) = refusing TooLong
+readFor (comes (badLine f line)) = refusing (Bad (faultFor f) line)
+readFor crowded = refusing NoRoom
 
--- The first 3,104 words hold the lists, or 0 after a bad line; after refusal 1 they are unchanged.
-abbrev pub storeFor : Reading → List ℕ → List ℕ
-storeFor (read d o) before = storeOf d o ++ drop 3104 before
-storeFor overlong before = before
-storeFor (badLine f line) before = replicate 3104 0 ++ drop 3104 before
+-- What the areas hold afterwards: the description over what was there; the same as before; or 0.
+abbrev pub tableFor : Coming → List ℕ → List ℕ
+tableFor (comes (read d o)) table = tableAfter d table
+tableFor (comes overlong) table = table
+tableFor (comes (badLine f line)) table = zeroed 128 table
+tableFor crowded table = zeroed 128 table
 
--- A store that is too short is refused as a text that is too long.
-abbrev pub withRoom : Bool → Reading → Reading
-withRoom true x = x
-withRoom false x = overlong
+abbrev pub listsFor : Coming → List ℕ → List ℕ
+listsFor (comes (read d o)) lists = listsOver 0 (d .terms) lists
+listsFor (comes overlong) lists = lists
+listsFor (comes (badLine f line)) lists = zeroed 3072 lists
+listsFor crowded lists = zeroed 3072 lists
 
-unfoldable pub readWith : Text → ℕ → Reading
-readWith text room = withRoom (leb 3104 room) (readText text)
+abbrev pub listedFor : Coming → List ℕ → List ℕ
+listedFor (comes (read d o)) listed = overlaid (orderWords o) listed
+listedFor (comes overlong) listed = listed
+listedFor (comes (badLine f line)) listed = zeroed 32 listed
+listedFor crowded listed = zeroed 32 listed
 
-pub record Stored (text : Text) (before after : List ℕ) (r : Read) : Type 0 where
-  pub result : r ≡ readFor (readWith text (length before))
-  pub store : after ≡ storeFor (readWith text (length before)) before
-
--- The same over a store of 3,104 words that were 0, of a text that is not too long; the refusal of a line does not clear it yet.
-abbrev pub Left : Reading → List ℕ → Type 0
-Left (read d o) after = after ≡ storeOf d o
-Left overlong after = ⊥
-Left (badLine f line) after = Unit {0}
-
-pub record Ended (due : Reading) (after : List ℕ) (r : Read) : Type 0 where
-  pub result : r ≡ readFor due
-  pub left : Left due after
-
--- The same once the refusal of a line has cleared the store, whatever words follow it.
-pub record Completed (due : Reading) (after : List ℕ) (r : Read) : Type 0 where
-  pub result : r ≡ readFor due
-  pub store : (before : List ℕ) → after ++ drop 3104 before ≡ storeFor due before
+pub record Stored (text : Text) (table lists listed table′ lists′ listed′ : List ℕ) (r : Read) : Type 0 where
+  pub result : r ≡ readFor (readIn text (length table) (length lists) (length listed))
+  pub tabled : table′ ≡ tableFor (readIn text (length table) (length lists) (length listed)) table
+  pub listing : lists′ ≡ listsFor (readIn text (length table) (length lists) (length listed)) lists
+  pub ordered : listed′ ≡ listedFor (readIn text (length table) (length lists) (length listed)) listed

@@ -1,156 +1,88 @@
-// The lines of the whole text: those before the terms, the terms, those after them. Each function is lent the text from its first
-// line on.
-ghost use mathlib.Core.Path.{_≡_};
-ghost use mathlib.Core.List.{List, []};
-ghost use Prim.Native.Nat.{ℕ, _+_, _^_, _<_};
+// The lines of the whole text: those before the terms, the terms, those after them, the order. Each function is lent the text from its
+// first line on.
+ghost use Prim.Native.Nat.{_*_, _≤_};
 ghost use lib.ListN.{length};
-ghost use Rattle.meaning.specs.Descriptions as D;
-ghost use Rattle.table.specs.Encoded.{filled};
-ghost use Rattle.grammar.specs.Reading.{fromOrder, fromBodies, fromTerms, wholeText, described};
-ghost use Rattle.frames.specs.Heads.{headingOf};
-ghost use Rattle.reading.specs.Stored.{refusing, Ended, Completed};
-ghost use Rattle.reading.specs.Parts.{Headed, Sized, TermsPart, HeldTerms, Held};
+ghost use mathlib.Core.Path.{_≡_};
+ghost use Rattle.reading.specs.Whole.{readOf, TermsDue, LinesRead};
 use crate::Answer;
 use crate::Read;
-use areas::clear;
-use faults::Fault;
-use frames::feet::take_foot;
-use frames::heads::Head;
-use frames::heads::take_head;
-use orderline::take_end;
+use feet::read_end;
+use heads::read_head;
+use keyed::Progress;
+use keyed::orders::Ordered;
+use table::LIST_WORDS;
 use table::Order;
-use table::STORE_WORDS;
-use table::Table;
-use table::empty;
-use termlines::terms::Terms;
-use termlines::terms::take_terms;
-use textlines::Progress;
+use table::bodies_of;
+use table::names_of;
+use termlines::read_terms;
 
-// What is returned of a text that is refused: the answer, with a table of nothing.
-pub fn refused(answer: Answer) -> Read
-    ensures { λ r. ⌜ r ≡ refusing answer ⌝ }
+// What is returned of the last lines that were looked at.
+fn told(last: Ordered) -> Read
+    ensures { λ r. ⌜ r ≡ readOf last ⌝ }
 {
-    Read {
-        answer,
-        table: empty(),
-        order: Order::All,
-    }
-}
-
-// The refusal of a bad line, where so many lines stand before those that were read.
-fn bad(p: Progress, before: usize) -> Read
-    requires { ⌜ ((f : Fault) (line : ℕ) → p ≡ Progress.Bad f line → before + line < 2 ^ 64) ⌝ }
-    ensures { λ r. ⌜ ((f : Fault) (line : ℕ) → p ≡ Progress.Bad f line → r ≡ refusing (Answer.Bad f (before + line))) ⌝ }
-{
-    match p {
-        Progress::To(_, _) => refused(Answer::TooLong),
-        Progress::Bad(f, line) => refused(Answer::Bad(f, before + line)),
-    }
-}
-
-// The order, after a table that is whole; its words are the store's last.
-fn read_order(text: &[u8], line: usize, table: Table, store: &mut [u64]) -> Read
-    requires { ⌜ Sized line (table .named) (table .names) (now store) ⌝ }
-    ensures { λ r. ⌜ ((d : D.Description) → Held d table (now (store .entry))
-        → Ended (described (fromOrder d line (now (text .entry)))) (now (store .exit)) r) ⌝ }
-{
-    let names = table.names;
-    let named = table.named;
-    let last = take_end(text, &names[..named], &mut store[3072..]);
     let progress = last.progress;
     let order = last.order;
-    let Progress::To(_, _) = progress else {
-        return bad(progress, line);
-    };
-    Read {
-        answer: Answer::Fine,
-        table,
-        order,
+    match progress {
+        Progress::To(_, _) => Read {
+            answer: Answer::Fine,
+            order,
+        },
+        Progress::Bad(f, line) => Read {
+            answer: Answer::Bad(f, line),
+            order,
+        },
     }
 }
 
-// The lines from the bodies' on.
-fn read_foot(text: &[u8], head: Head, slots: [u64; 96], store: &mut [u64]) -> Read
-    requires { ⌜ Headed head × (length (now store) ≡ 3104) ⌝ }
-    ensures { λ r. ⌜ ((terms : List D.Term) → HeldTerms terms (head .terms) slots (now (store .entry))
-        → Ended (described (fromBodies (headingOf head .words) terms (head .equations) (head .terms)
-        (4 + head .named + head .terms) (now (text .entry)))) (now (store .exit)) r) ⌝ }
+// The lines from the terms' on, which follow the names and three counts.
+fn from_terms(
+    text: &[u8],
+    count: usize,
+    table: &mut [u64],
+    lists: &mut [u64],
+    listed: &mut [u64],
+) -> Ordered
+    requires { ⌜ (count ≤ 96) × (128 ≤ length (now table)) × (32 * count ≤ length (now lists)) ⌝ }
+    ensures { λ r. ⌜ TermsDue (now (text .entry)) count (now (table .entry)) (now (lists .entry)) (now (listed .entry))
+        (now (table .exit)) (now (lists .exit)) (now (listed .exit)) r ⌝ }
 {
-    let equations = head.equations;
-    let terms = head.terms;
-    let named = head.named;
-    let before = 4 + named + terms;
-    let foot = take_foot(text, equations, terms as u64);
-    let progress = foot.progress;
-    let Progress::To(root, at) = progress else {
-        return bad(progress, before);
+    let equations = bodies_of(table).len();
+    let line = 4 + names_of(table).len();
+    let terms = read_terms(text, line, equations, count, table, lists);
+    let Progress::To(_, at) = terms else {
+        return Ordered {
+            progress: terms,
+            order: Order::All,
+        };
     };
-    let names = head.names;
-    let bodies = foot.bodies;
-    let table = Table {
-        names,
-        named,
-        bodies,
-        equations,
-        slots,
-        terms,
-        root: root as usize,
-    };
-    let line = before + equations + 1;
-    read_order(&text[at..], line, table, store)
+    read_end(&text[at..], line + count, equations, count, table, listed)
 }
 
-// The lines of terms, whose lists go to the first 3,072 words of the store.
-fn read_part(text: &[u8], head: Head, store: &mut [u64]) -> Terms
-    requires { ⌜ Headed head × (now store ≡ filled 3104 0 []) ⌝ }
-    ensures { λ r. ⌜ TermsPart (now (text .entry)) head (now (store .exit)) r ⌝ }
+// All lines of a text that is not too long. Where the lists have no room for its terms these are not read.
+pub(crate) fn read_lines(
+    text: &[u8],
+    table: &mut [u64],
+    lists: &mut [u64],
+    listed: &mut [u64],
+) -> Read
+    requires { ⌜ (128 ≤ length (now table)) × (32 ≤ length (now listed)) ⌝ }
+    ensures { λ r. ⌜ LinesRead (now (text .entry)) (now (table .entry)) (now (lists .entry)) (now (listed .entry))
+        (now (table .exit)) (now (lists .exit)) (now (listed .exit)) r ⌝ }
 {
-    let names = head.names;
-    let named = head.named;
-    let equations = head.equations;
-    let terms = head.terms;
-    take_terms(text, &names[..named], equations, terms, &mut store[..3072])
-}
-
-// The lines from the terms' on.
-fn read_terms(text: &[u8], head: Head, store: &mut [u64]) -> Read
-    requires { ⌜ Headed head × (now store ≡ filled 3104 0 []) ⌝ }
-    ensures { λ r. ⌜ Ended (described (fromTerms (headingOf head .words) (head .equations) (head .terms) (4 + head .named) (now (text .entry))))
-        (now (store .exit)) r ⌝ }
-{
-    let part = read_part(text, head, store);
-    let progress = part.progress;
-    let Progress::To(_, at) = progress else {
-        return bad(progress, 4 + head.named);
+    let head = read_head(text, table);
+    let Progress::To(terms, at) = head else {
+        return told(Ordered {
+            progress: head,
+            order: Order::All,
+        });
     };
-    let slots = part.slots;
-    read_foot(&text[at..], head, slots, store)
-}
-
-// All lines of a text, into a store that is 0.
-fn read_lines(text: &[u8], store: &mut [u64]) -> Read
-    requires { ⌜ now store ≡ filled 3104 0 [] ⌝ }
-    ensures { λ r. ⌜ Ended (described (wholeText (now (text .entry)))) (now (store .exit)) r ⌝ }
-{
-    let head = take_head(text);
-    let progress = head.progress;
-    let Progress::To(_, at) = progress else {
-        return bad(progress, 0);
-    };
-    read_terms(&text[at..], head, store)
-}
-
-// The same into a store of any words, which are 0 after a refusal.
-pub fn read_cleared(text: &[u8], store: &mut [u64]) -> Read
-    requires { ⌜ length (now store) ≡ 3104 ⌝ }
-    ensures { λ r. ⌜ Completed (described (wholeText (now (text .entry)))) (now (store .exit)) r ⌝ }
-{
-    clear(store, STORE_WORDS);
-    let read = read_lines(text, store);
-    let answer = read.answer;
-    let Answer::Fine = answer else {
-        clear(store, STORE_WORDS);
-        return read;
-    };
-    read
+    let count = terms as usize;
+    if lists.len() / LIST_WORDS < count {
+        return Read {
+            answer: Answer::NoRoom,
+            order: Order::All,
+        };
+    }
+    let last = from_terms(&text[at..], count, table, lists, listed);
+    told(last)
 }

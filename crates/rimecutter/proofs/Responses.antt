@@ -1,179 +1,166 @@
 -- From what reading and the rounds answer to what a call leaves.
 -- Assumes nothing.
-use mathlib.Core.Path.{_≡_, refl, sym, ap, ap₂, subst, _∙_, _≡⟨_⟩_, _∎}
+use mathlib.Core.Path.{_≡_, refl, sym, ap, subst, _∙_}
 use mathlib.Core.Bool.{Bool, true, false}
-use lib.Dec.{ltb}
-use borrow.Author.Tests.{ltb-false, le-leb}
-use mathlib.Core.List.{List, [], _++_, map, append-nil}
+use mathlib.Core.List.{List, _++_, map}
 use Prim.Native.Nat.{ℕ, _≤_}
 use native.Mathlib.Omega.{arith}
-use lib.ListN.{length, drop, length-map, drop-of-length-le}
+use lib.Dec.{ltb}
+use lib.ListN.{length, drop, length-map}
+use borrow.Author.Tests.{ltb-false}
 use Rattle.meaning.specs.Bytes.{Text}
-use Rattle.meaning.proofs.Tests.{or-false→}
 use Rattle.meaning.specs.Labels.{number}
 use Rattle.meaning.specs.Descriptions as D
 use Rattle.meaning.specs.Answers as A
-use Rattle.meaning.specs.Answers.{Outcome, tooLarge, listed, tooLong, inLine}
-use Rattle.grammar.specs.Reading.{Reading, read, overlong, badLine, readText}
-use Rattle.grammar.proofs.Acceptance.{accepted→}
-use Rattle.table.specs.Encoded.{tableOf, storeOf}
-use Rattle.areas.specs.Areas.{zeroed}
+use Rattle.meaning.specs.Answers.{Outcome, tooLarge, listed, tooLong, inLine, large}
+use Rattle.meaning.proofs.Tests.{or-false→}
+use Rattle.grammar.specs.Reading.{readText}
+use Rattle.table.specs.declared.Order.{Order}
+use Rattle.table.specs.Encoded.{filled, wordOf}
+use Rattle.table.specs.Holding.{namesIn}
+use Rattle.table.proofs.Holdings.{names-held}
 use Rattle.areas.proofs.Zeroes.{zeroed-front}
-use Rattle.faults.specs.CodedFaults.{faultOf}
-use Rattle.faults.specs.declared.Fault as F
+use Rattle.reading.specs.Stored.{faultFor}
+use Rattle.reading.specs.declared.Answer as ReadAnswer
+use Rattle.reading.specs.declared.Answer.the-variants as B
+use Rattle.rounds.specs.declared.Answer as RoundsAnswer
+use Rattle.rounds.specs.declared.Answer.the-variants as R
+use Rattle.rounds.specs.Alphabets.{alphabetOf, answerArea, Answered, AnsweredFew}
 use Rattle.rimecutter.specs.declared.Answer.{Answer}
-use Rattle.rimecutter.specs.declared.Answer.the-variants as C
+use Rattle.rimecutter.specs.declared.Answer.the-variants.{Listed, TooLong, Bad, TooLarge}
 use Rattle.rimecutter.specs.declared.calls.Response.{Response}
-use Rattle.reading.specs.declared.Answer as B
-use Rattle.reading.specs.declared.Answer.the-variants.{Fine, Bad, TooLong}
-use Rattle.reading.specs.declared.Read.{Read}
-use Rattle.rounds.specs.declared.Answer as R
-use Rattle.rounds.specs.declared.Answer.the-variants.{TooLarge, Listed}
-use Rattle.rounds.specs.Alphabets as Q
-use Rattle.rounds.specs.Alphabets.{alphabetOf, Answered}
-use Rattle.reading.specs.Stored.{faultFor, readFor, storeFor, withRoom, readWith, Stored}
-use Rattle.rimecutter.specs.Calls.{Call, refusing, tooShort, ofOutcome, ofReading, unlessShort, call, cleared, workWords, answerWords}
-use Rattle.rimecutter.specs.Answers.{verdictFor, Responded}
+use Rattle.rimecutter.specs.Calls.{Call, refusing, answering, tooShort, ofOutcome, ofReading, unlessShort, call, ownCall}
+use Rattle.rimecutter.specs.Calls.{verdictOf, answerAfter, cleared, workAfter, workWords, answerWords}
+use Rattle.rimecutter.specs.Answers.{verdictFor, NamesFor, Responded, answerFor, refusalFor, RespondedFew, clearedUnless, Cleared}
+use Rattle.rimecutter.proofs.Readings.{fault-back, Refused, ReadAs}
+use Rattle.rimecutter.proofs.Uniqueness.{verdict-unique}
 
--- What the call makes of what the rounds answer.
-abbrev pub answerFor : R.Answer → Answer
-answerFor TooLarge = C.TooLarge
-answerFor (Listed rounds labels) = C.Listed rounds labels
+-- What is told of a call besides the work area.
+abbrev pub Told : Call → (answer answer′ : List ℕ) → Response → Type 0
+Told c answer answer′ r = (verdictFor (r .answer) ≡ verdictOf c) × (answer′ ≡ answerAfter c answer) × NamesFor c (r .names)
 
-abbrev IsFine : B.Answer → Type 0
-IsFine Fine = Unit {0}
-IsFine (Bad f l) = ⊥
-IsFine TooLong = ⊥
+-- Areas that are long enough are as good as areas of the call's own.
+own-read : (text : Text) → ownCall text ≡ ofReading (readText text)
+unfolding call
+own-read text = refl
 
-abbrev IsBad : B.Answer → Type 0
-IsBad Fine = ⊥
-IsBad (Bad f l) = Unit {0}
-IsBad TooLong = ⊥
+pub long-enough : (work answer : ℕ) → tooShort work answer ≡ false → (workWords ≤ work) × (answerWords ≤ answer)
+long-enough work answer long =
+    let fits = or-false→ (ltb work workWords) (ltb answer answerWords) long in
+    (ltb-false work workWords (fits .0), ltb-false answer answerWords (fits .1))
 
-abbrev faultIn : B.Answer → A.Fault
-faultIn Fine = A.form
-faultIn (Bad f l) = faultOf f
-faultIn TooLong = A.form
+pub long-responded : (text : Text) {work work′ answer answer′ : List ℕ} {r : Response} → tooShort (length work) (length answer) ≡ false
+    → Responded (ownCall text) work work′ answer answer′ r → Responded (call text (length work) (length answer)) work work′ answer answer′ r
+unfolding call
+long-responded text {work} {work′} {answer} {answer′} {r} long h =
+    subst (λ (b : Bool). Responded (unlessShort b (readText text)) work work′ answer answer′ r) (sym long) h
 
-abbrev lineIn : B.Answer → ℕ
-lineIn Fine = 0
-lineIn (Bad f l) = l
-lineIn TooLong = 0
+-- Refusal 1 before anything is read.
+pub short-responded : (text : Text) (work answer : List ℕ) (r : Response) → r .answer ≡ TooLong → tooShort (length work) (length answer) ≡ true
+    → Responded (call text (length work) (length answer)) work work answer answer r
+unfolding call
+short-responded text work answer r said e =
+    subst (λ (b : Bool). Responded (unlessShort b (readText text)) work work answer answer r) (sym e)
+    (record { settled = record { verdict = ap verdictFor said; works = refl; answers = refl }; names = tt })
 
-fault-back : (f : A.Fault) → faultOf (faultFor f) ≡ f
-fault-back A.form = refl
-fault-back A.name = refl
-fault-back A.range = refl
-fault-back A.amount = refl
+-- The work area, from what is told.
+answerOf : Call → Answer
+answerOf (refusing tooLong) = TooLong
+answerOf (refusing (inLine f line)) = Bad (faultFor f) line
+answerOf (refusing large) = TooLarge
+answerOf (answering words rounds labels) = Listed rounds (length labels)
 
--- equal readings say the same
-answer-eq : {x y : Read} → x ≡ y → x .answer ≡ y .answer
-answer-eq e = ap (λ (y : Read). y .answer) e
+told-once : (c : Call) → verdictFor (answerOf c) ≡ verdictOf c
+unfolding answerOf
+told-once (refusing tooLong) = refl
+told-once (refusing (inLine f line)) = ap (λ (x : A.Fault). A.refused (inLine x line)) (fault-back f)
+told-once (refusing large) = refl
+told-once (answering words rounds labels) = refl
 
-responded : (c c′ : Call) (work work′ answer answer′ : List ℕ) (r : Response) → c ≡ c′ → Responded c′ work work′ answer answer′ r
-    → Responded c work work′ answer answer′ r
-responded c c′ work work′ answer answer′ r e h = subst (λ (x : Call). Responded x work work′ answer answer′ r) (sym e) h
+module _ (work : List ℕ) (long : workWords ≤ length work) where
+  cleared-after : (c : Call) → clearedUnless (answerOf c) work ≡ workAfter c work
+  unfolding answerOf
+  cleared-after (refusing tooLong) = refl
+  cleared-after (refusing (inLine f line)) = zeroed-front workWords work long
+  cleared-after (refusing large) = zeroed-front workWords work long
+  cleared-after (answering words rounds labels) = zeroed-front workWords work long
 
-module _ (text : Text) (work answer : List ℕ) where
-  abbrev called : Call
-  called = call text (length work) (length answer)
+  pub cleared-responded : (c : Call) (answer answer′ : List ℕ) {work′ : List ℕ} {r a : Response} → Told c answer answer′ r → Cleared r work work′ a
+      → Responded c work work′ answer answer′ a
+  cleared-responded c answer answer′ {work′} {r} t h =
+      let one : r .answer ≡ answerOf c = verdict-unique (r .answer) (answerOf c) (verdictOf c) (t .0) (told-once c) in
+      subst (Responded c work work′ answer answer′) (sym (h .same))
+      (record {
+        settled = record {
+          verdict = t .0;
+          works = h .works ∙ ap (λ (x : Answer). clearedUnless x work) one ∙ cleared-after c;
+          answers = t .1;
+        };
+        names = t .2;
+      })
 
-  -- Refusal 1 before anything is read.
-  pub short-responded : (names : List ℕ) → tooShort (length work) (length answer) ≡ true
-      → Responded called work work answer answer (record { answer = C.TooLong; names = names })
-  unfolding call
-  short-responded names e =
-      responded called (refusing tooLong) work work answer answer (record { answer = C.TooLong; names = names })
-      (ap (λ (b : Bool). unlessShort b (readText text)) e)
-      (record { settled = record { verdict = refl; works = refl; answers = refl }; names = tt })
+-- A text that was not read.
+module _ (text : Text) (room : ℕ) (answer : List ℕ) (r : Response) where
+  refused-told : (s : ReadAnswer.Answer) → r .answer ≡ refusalFor s → Refused text room s → (r .answer ≡ TooLarge → ⊥) → Told (ownCall text) answer answer r
+  refused-told B.Fine e h some = absurd h
+  refused-told B.NoRoom e h some = absurd (some e)
+  refused-told B.TooLong e h some = subst (λ (c : Call). Told c answer answer r) (sym (own-read text ∙ ap ofReading h)) (ap verdictFor e, refl, tt)
+  refused-told (B.Bad f line) e h some =
+      subst (λ (c : Call). Told c answer answer r) (sym (own-read text ∙ ap ofReading h)) (ap verdictFor e, refl, tt)
 
-  module _ (long : tooShort (length work) (length answer) ≡ false) where
-    by-reading : called ≡ ofReading (readText text)
-    unfolding call
-    by-reading = ap (λ (b : Bool). unlessShort b (readText text)) long
+  pub few-refused : (s : ReadAnswer.Answer) → r .answer ≡ refusalFor s → Refused text room s → RespondedFew (ownCall text) answer answer r
+  few-refused s e h = record { untold = λ large. refl; told = refused-told s e h }
 
-    room : (workWords ≤ length work) × (answerWords ≤ length answer)
-    room =
-        let fits = or-false→ (ltb (length work) workWords) (ltb (length answer) answerWords) long in
-        (ltb-false (length work) workWords (fits .0), ltb-false (length answer) answerWords (fits .1))
+  -- where there was room for it
+  pub roomy-refused : (s : ReadAnswer.Answer) → r .answer ≡ refusalFor s → Refused text room s → room ≡ 3072 → Told (ownCall text) answer answer r
+  roomy-refused s e h roomy = refused-told s e h (λ large. never s (sym e ∙ large) h)
+    where
+      never : (s : ReadAnswer.Answer) → refusalFor s ≡ TooLarge → Refused text room s → ⊥
+      never B.Fine e h = h
+      never B.NoRoom e h = h (omega arith)
+      never B.TooLong e h = let z : _≡_ {A = ℕ} 0 1 = cc in omega arith
+      never (B.Bad f line) e h = let z : _≡_ {A = ℕ} 0 1 = cc in omega arith
 
-    -- What reading answers, over a store of just its words.
-    module _ (before after : List ℕ) (r : Read) (whole : length before ≡ 3104) (done : Stored text before after r) where
-      as-read : readWith text (length before) ≡ readText text
-      unfolding readWith
-      as-read = ap (λ (b : Bool). withRoom b (readText text)) (le-leb 3104 (length before) (omega (arith, whole)))
+-- A description that was read, with what the rounds found.
+outcome-told : (d : D.Description) (x : Outcome) (answer : List ℕ) {f : RoundsAnswer.Answer} {answer′ : List ℕ} {r : Response} → f ≡ alphabetOf x
+    → answer′ ≡ answerArea x answer → r .answer ≡ answerFor f → r .names ≡ filled 12 0 (map wordOf (d .words)) → Told (ofOutcome d x) answer answer′ r
+outcome-told d tooLarge answer e a s n = (ap verdictFor (s ∙ ap answerFor e), a, tt)
+outcome-told d (listed rounds labels) answer e a s n =
+    let size : length (map number labels) ≡ length labels = rw length-map in
+    (ap verdictFor (s ∙ ap answerFor e), a ∙ ap (λ (n : ℕ). map number labels ++ drop n answer) size, n)
 
-      answers : r ≡ readFor (readText text)
-      answers = done .result ∙ ap readFor as-read
+outcome-works : (d : D.Description) (x : Outcome) (work : List ℕ) → cleared work ≡ workAfter (ofOutcome d x) work
+outcome-works d tooLarge work = refl
+outcome-works d (listed rounds labels) work = refl
 
-      stores : after ≡ storeFor (readText text) before
-      stores = done .store ∙ ap (λ (x : Reading). storeFor x before) as-read
+module _ {text : Text} {table lists listed : List ℕ} {order : Order} (h : ReadAs text table lists listed order) (r : Response)
+    (printed : r .names ≡ filled 12 0 (namesIn table)) where
+  abbrev outcome : Outcome
+  outcome = A.answer (h .given) (h .wanted)
 
-      pub long-responded : (names : List ℕ) → r .answer ≡ TooLong → Responded called work work answer answer (record { answer = C.TooLong; names = names })
-      long-responded names e = told (readText text) refl by-reading answers
-        where
-          told : (x : Reading) → readText text ≡ x → called ≡ ofReading x → r ≡ readFor x
-              → Responded called work work answer answer (record { answer = C.TooLong; names = names })
-          told (read d o) t c h = absurd (subst IsFine (answer-eq (sym h) ∙ e) tt)
-          told overlong t c h =
-              responded called (refusing tooLong) work work answer answer (record { answer = C.TooLong; names = names }) c
-              (record { settled = record { verdict = refl; works = refl; answers = refl }; names = tt })
-          told (badLine f l) t c h = absurd (subst IsBad (answer-eq (sym h) ∙ e) tt)
+  own-outcome : ownCall text ≡ ofOutcome (h .given) outcome
+  own-outcome = own-read text ∙ ap ofReading (h .reads)
 
-      pub bad-responded : (names work′ : List ℕ) (f : F.Fault) (l : ℕ) → r .answer ≡ Bad f l → work′ ≡ zeroed workWords work
-          → Responded called work work′ answer answer (record { answer = C.Bad f l; names = names })
-      bad-responded names work′ f l e w = told (readText text) refl by-reading answers
-        where
-          told : (x : Reading) → readText text ≡ x → called ≡ ofReading x → r ≡ readFor x
-              → Responded called work work′ answer answer (record { answer = C.Bad f l; names = names })
-          told (read d o) t c h = absurd (subst IsFine (answer-eq (sym h) ∙ e) tt)
-          told overlong t c h = absurd (subst IsBad (sym e ∙ answer-eq h) tt)
-          told (badLine g m) t c h =
-              let k : Bad (faultFor g) m ≡ Bad f l = answer-eq (sym h) ∙ e in
-              responded called (refusing (inLine g m)) work work′ answer answer (record { answer = C.Bad f l; names = names }) c
-              (record {
-                settled = record {
-                  verdict = sym (ap₂ (λ (x : A.Fault) (y : ℕ). A.refused (inLine x y)) (sym (fault-back g) ∙ ap faultIn k) (ap lineIn k));
-                  works = w ∙ zeroed-front workWords work (room .0);
-                  answers = refl;
-                };
-                names = tt;
-              })
+  found-told : (answer : List ℕ) {f : RoundsAnswer.Answer} {answer′ : List ℕ} → f ≡ alphabetOf outcome → answer′ ≡ answerArea outcome answer
+      → r .answer ≡ answerFor f → Told (ownCall text) answer answer′ r
+  found-told answer {answer′} e a s =
+      let named = printed ∙ ap (filled 12 0) (names-held (h .holds) (h .legal .nameCount .1)) in
+      subst (λ (c : Call). Told c answer answer′ r) (sym own-outcome) (outcome-told (h .given) outcome answer e a s named)
 
-      -- What the rounds find.
-      module _ (work′ answer′ : List ℕ) (f : R.Answer) (worked : Answered (r .table) after (r .order) work answer work′ answer′ f) where
-        outcome : (d : D.Description) (x : Outcome) → f ≡ alphabetOf x → answer′ ≡ Q.answerArea x answer
-            → work′ ≡ cleared work → Responded (ofOutcome d x) work work′ answer answer′ (record { answer = answerFor f; names = tableOf d .names })
-        unfolding tableOf
-        outcome d tooLarge e a w =
-            record { settled = record { verdict = ap (λ (y : R.Answer). verdictFor (answerFor y)) e; works = w; answers = a }; names = tt }
-        outcome d (listed rounds labels) e a w =
-            let size : length (map number labels) ≡ length labels = rw length-map in
-            record {
-              settled = record {
-                verdict = ap (λ (y : R.Answer). verdictFor (answerFor y)) e;
-                works = w;
-                answers = a ∙ ap (λ (n : ℕ). map number labels ++ drop n answer) size;
-              };
-              names = refl;
-            }
+  pub few-worked : (f : RoundsAnswer.Answer) {answer answer′ : List ℕ} → AnsweredFew table lists order listed answer answer′ f → r .answer ≡ answerFor f
+      → RespondedFew (ownCall text) answer answer′ r
+  few-worked R.TooLarge w s = record { untold = λ large. w .unchanged refl; told = λ some. absurd (some s) }
+  few-worked (R.Listed rounds labels) {answer} w s =
+      let found = w .right (h .given) (h .wanted) (h .legal) (h .holds) (h .ordered) rounds labels refl in
+      record {
+        untold = λ large. let z : _≡_ {A = ℕ} 0 1 = cc in absurd (omega arith);
+        told = λ some. found-told answer (found .0) (found .1) s;
+      }
 
-        pub worked-responded : (a : Answer) → r .answer ≡ Fine → a ≡ answerFor f
-            → Responded called work work′ answer answer′ (record { answer = a; names = r .table .names })
-        worked-responded a e ae = told (readText text) refl by-reading answers stores
-          where
-            told : (x : Reading) → readText text ≡ x → called ≡ ofReading x → r ≡ readFor x → after ≡ storeFor x before
-                → Responded called work work′ answer answer′ (record { answer = a; names = r .table .names })
-            told (read d o) t c h s =
-                let all : length before ≤ 3104 = omega (arith, whole) in
-                let store = after
-                ≡⟨ s ⟩ storeOf d o ++ drop 3104 before
-                ≡⟨ ap (λ (ws : List ℕ). storeOf d o ++ ws) (drop-of-length-le before all) ⟩ storeOf d o ++ []
-                ≡⟨ append-nil (storeOf d o) ⟩ storeOf d o ∎
-                in
-                let table = ap (λ (y : Read). y .table) h in
-                let found = worked .right d o (accepted→ text d o t .1) table store (ap (λ (y : Read). y .order) h) (room .0) (room .1) in
-                responded called (ofOutcome d (A.answer d o)) work work′ answer answer′ (record { answer = a; names = r .table .names }) c
-                (rw (ae, table) (outcome d (A.answer d o) (found .0) (found .1) (found .2)))
-            told overlong t c h s = absurd (subst IsFine (sym e ∙ answer-eq h) tt)
-            told (badLine g m) t c h s = absurd (subst IsFine (sym e ∙ answer-eq h) tt)
+  pub full-worked : (f : RoundsAnswer.Answer) {work answer work′ answer′ : List ℕ} → Answered table lists order listed work answer work′ answer′ f
+      → r .answer ≡ answerFor f → workWords ≤ length work → answerWords ≤ length answer → Responded (ownCall text) work work′ answer answer′ r
+  full-worked f {work} {answer} w s long wide =
+      let found = w .right (h .given) (h .wanted) (h .legal) (h .holds) (h .ordered) long wide in
+      let t = found-told answer (found .0) (found .1) s in
+      let works = found .2 ∙ outcome-works (h .given) outcome work ∙ ap (λ (c : Call). workAfter c work) (sym own-outcome) in
+      record { settled = record { verdict = t .0; works = works; answers = t .1 }; names = t .2 }

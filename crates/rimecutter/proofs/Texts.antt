@@ -4,11 +4,11 @@ use mathlib.Core.Path.{_≡_, refl, sym, ap, ap₂, subst, _∙_, _≡⟨_⟩_, 
 use mathlib.Core.Bool.{Bool, true, false, _&&_}
 use mathlib.Core.Logic.{inl, inr}
 use mathlib.Core.List.{List, [], _∷_, _++_, map}
-use Prim.Native.Nat.{ℕ, _≤_, _<_}
+use Prim.Native.Nat.{ℕ, _≤_, _<_, zero-le}
 use native.Mathlib.Omega.{arith}
 use lib.Dec.{T, leb, leb→le}
 use Rattle.meaning.proofs.Tests.{and-left, and-right, or-cases}
-use lib.ListN.{length, take, drop, length-map, length-take}
+use lib.ListN.{length, take, drop, length-map, length-take, length-append}
 use Rattle.printing.proofs.Lengths.{length-answer, length-refusal}
 use lib.Seq.{take-at}
 use Rattle.meaning.specs.Bytes.{Text}
@@ -26,6 +26,8 @@ use Rattle.grammar.specs.Reading.{Reading, read, overlong, badLine, readText}
 use Rattle.grammar.specs.Writing.{inName, NameForm}
 use Rattle.grammar.proofs.Writes.{each-weaken}
 use Rattle.grammar.proofs.Acceptance.{accepted→}
+use Rattle.grammar.proofs.Lengths.{→overlong}
+use Rattle.faults.specs.CodedFaults.{faultOf}
 use Rattle.table.specs.Encoded.{filled, wordOf}
 use Rattle.grammar.specs.Text.{isLower, isDigit}
 use Rattle.grammar.specs.Printed.{refusedText, answerText}
@@ -34,18 +36,19 @@ use Rattle.label_texts.specs.Packed.{nameTexts, countsOf}
 use Rattle.printing.proofs.Callers.{Bytes, Fits, same-answer}
 use Rattle.rimecutter.specs.Calls.{Call, refusing, answering, workWords, answerWords, tooShort, ofOutcome}
 use Rattle.rimecutter.specs.Calls.{ofReading, unlessShort, call, ownCall, verdictOf, answerAfter, textOf}
-use Rattle.rimecutter.specs.Answers.{verdictFor, NamesFor, Responded}
+use Rattle.rimecutter.specs.Answers.{verdictFor, NamesFor, saidText, listedIn, TextWritten}
 use Rattle.rimecutter.specs.declared.Answer.{Answer}
 use Rattle.rimecutter.specs.declared.calls.Response.{Response}
-use Rattle.rimecutter.specs.declared.Answer.the-variants.{Listed}
+use Rattle.rimecutter.specs.declared.Answer.the-variants.{Listed, TooLong, Bad, TooLarge}
+use Rattle.rimecutter.proofs.Responses.{Told}
 
 -- A refusal's text is that of its number and line.
-pub refused-text : (c : Call) (v : Verdict) → v ≡ verdictOf c → (v .reason ≡ 0 → ⊥) → textOf c ≡ refusedText (v .reason) (v .line)
+refused-text : (c : Call) (v : Verdict) → v ≡ verdictOf c → (v .reason ≡ 0 → ⊥) → textOf c ≡ refusedText (v .reason) (v .line)
 refused-text (refusing r) v e some = ap₂ refusedText (reason-eq (sym e)) (line-eq (sym e))
 refused-text (answering words rounds labels) v e some = absurd (some (reason-eq e))
 
 -- No refusal has number 0.
-pub faults-numbered : (f : Fault) → 1 ≤ faultNumber f
+faults-numbered : (f : Fault) → 1 ≤ faultNumber f
 faults-numbered form = omega arith
 faults-numbered name = omega arith
 faults-numbered range = omega arith
@@ -140,11 +143,11 @@ name-bytes (b ∷ w) h =
     (omega (arith, h .1), (first, each-weaken (λ c. T (inName c)) (λ c. (1 ≤ c) × (c < 256)) w name-byte (h .2)))
 
 -- An answer's text is that of its words.
-pub record Listing (c : Call) (rounds n : ℕ) (names answer : List ℕ) : Type 0 where
+record Listing (c : Call) (rounds n : ℕ) (names answer : List ℕ) : Type 0 where
   pub few : n ≤ 1024
   pub says : textOf c ≡ answerText (nameTexts names) rounds (map countsOf (take n answer))
 
-pub listed-text : (text : Text) (c : Call) → ownCall text ≡ c → (rounds n : ℕ) (names answer answer′ : List ℕ)
+listed-text : (text : Text) (c : Call) → ownCall text ≡ c → (rounds n : ℕ) (names answer answer′ : List ℕ)
     → verdictFor (Listed rounds n) ≡ verdictOf c → NamesFor c names → answer′ ≡ answerAfter c answer → Listing c rounds n names answer′
 listed-text text (refusing r) e rounds n names answer answer′ v ns put = absurd (omega (arith, refusals-numbered r, reason-eq v))
 listed-text text (answering words k ls) e rounds n names answer answer′ v ns put =
@@ -168,19 +171,42 @@ listed-text text (answering words k ls) e rounds n names answer answer′ v ns p
           answerText (nameTexts names) rounds (map countsOf (take n answer′)) ∎;
     }
 
--- The same of what a call responds.
-module _ (text : Text) {work work′ answer answer′ : List ℕ} {r : Response} (h : Responded (ownCall text) work work′ answer answer′ r) where
-  pub responded→listing : {rounds n : ℕ} → r .answer ≡ Listed rounds n → Listing (ownCall text) rounds n (r .names) answer′
-  responded→listing {rounds} {n} e =
-      listed-text text (ownCall text) refl rounds n (r .names) answer answer′ (ap verdictFor (sym e) ∙ h .settled .verdict)
-      (h .names) (h .settled .answers)
+-- What a response's text is, by its answer.
+module _ {r : Response} {words area area′ : List ℕ} {n : ℕ} where
+  pub written : (a : Answer) → r .answer ≡ a → Printed (saidText a (r .names) words) area area′ n → TextWritten r words area area′ n
+  written a e h = record { printed = λ all. subst (λ (x : Answer). Printed (saidText x (r .names) words) area area′ n) (sym e) h }
 
-  pub responded→refusal : (a : Answer) → r .answer ≡ a → (verdictFor a .reason ≡ 0 → ⊥)
-      → textOf (ownCall text) ≡ refusedText (verdictFor a .reason) (verdictFor a .line)
-  responded→refusal a e some = refused-text (ownCall text) (verdictFor a) (ap verdictFor (sym e) ∙ h .settled .verdict) some
+  pub unwritten : {rounds : ℕ} (labels : ℕ) → r .answer ≡ Listed rounds labels → length words < labels → TextWritten r words area area′ n
+  unwritten labels e few = record { printed = λ all. absurd (omega (arith, ap listedIn e)) }
 
-pub printed-same : {s t before after : Text} {n : ℕ} → s ≡ t → Printed t before after n → Printed s before after n
-printed-same {before = before} {after = after} {n = n} e p = subst (λ (x : Text). Printed x before after n) (sym e) p
+-- An answer's labels are words of the answer area.
+listed-count : (a : Answer) → listedIn a ≡ verdictFor a .labels
+listed-count (Listed rounds labels) = refl
+listed-count TooLong = refl
+listed-count (Bad f line) = refl
+listed-count TooLarge = refl
+
+labels-fit : (c : Call) (answer : List ℕ) → verdictOf c .labels ≤ length (answerAfter c answer)
+labels-fit (refusing r) answer = zero-le
+labels-fit (answering words rounds labels) answer =
+    omega (arith, length-append (map number labels) (drop (length labels) answer), length-map labels number)
+
+-- The text of what is told of a call is the call's.
+module _ (text : Text) (answer answer′ : List ℕ) (r : Response) (h : Told (ownCall text) answer answer′ r) where
+  all-there : listedIn (r .answer) ≤ length answer′
+  all-there = omega (arith, listed-count (r .answer), labels-eq (h .0), labels-fit (ownCall text) answer, ap length (h .1))
+
+  told-text : (a : Answer) → r .answer ≡ a → textOf (ownCall text) ≡ saidText a (r .names) answer′
+  told-text (Listed rounds labels) e =
+      listed-text text (ownCall text) refl rounds labels (r .names) answer answer′ (ap verdictFor (sym e) ∙ h .0) (h .2) (h .1) .says
+  told-text TooLong e = refused-text (ownCall text) (verdictFor TooLong) (ap verdictFor (sym e) ∙ h .0) (λ z. omega arith)
+  told-text (Bad f line) e =
+      refused-text (ownCall text) (verdictFor (Bad f line)) (ap verdictFor (sym e) ∙ h .0) (λ z. omega (arith, faults-numbered (faultOf f)))
+  told-text TooLarge e = refused-text (ownCall text) (verdictFor TooLarge) (ap verdictFor (sym e) ∙ h .0) (λ z. omega arith)
+
+  pub told-printed : {area area′ : Text} {n : ℕ} → TextWritten r answer′ area area′ n → Printed (textOf (ownCall text)) area area′ n
+  told-printed {area} {area′} {n} w =
+      subst (λ (t : Text). Printed t area area′ n) (sym (told-text (r .answer) refl)) (w .printed all-there)
 
 -- 155,648 bytes hold every text.
 pub text-fits : (text : Text) → length (textOf (ownCall text)) ≤ 155648
@@ -193,3 +219,9 @@ text-fits text = fits (ownCall text) refl
         let l = listed-text text (answering words k ls) e k (length ls) names [] (map number ls ++ drop (length ls) []) refl refl refl in
         let shown = take (length ls) (map number ls ++ drop (length ls) []) in
         omega (arith, l .few, ap length (l .says), length-answer names k shown, length-take (length ls) (map number ls ++ drop (length ls) []))
+
+-- A text that is too long is refused with 1, without a line.
+pub long-printed : (text : Text) {area area′ : List ℕ} {n : ℕ} → 8192 < length text → Printed (refusedText 1 0) area area′ n
+    → Printed (textOf (ownCall text)) area area′ n
+unfolding call
+long-printed text {area} {area′} {n} h p = subst (λ (r : Reading). Printed (textOf (ofReading r)) area area′ n) (sym (→overlong text h)) p

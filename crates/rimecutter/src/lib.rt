@@ -3,15 +3,20 @@ mod calls;
 
 ghost use lib.ListN.{length};
 ghost use Rattle.grammar.specs.Areas.{Printed};
-ghost use Rattle.rimecutter.specs.Calls.{call, textOf, workWords, answerWords};
-ghost use Rattle.rimecutter.specs.Answers.{Settled};
+ghost use Rattle.rimecutter.specs.Calls.{call, ownCall, textOf, workWords, answerWords};
+ghost use Rattle.rimecutter.specs.Answers.{Settled, TextWritten};
+use crate::calls::Response;
 use crate::calls::respond;
+use crate::calls::respond_few;
+use crate::calls::respond_full;
 use faults::Fault;
 use faults::number_of;
 use printing::write_answer;
 use printing::write_refusal;
+use reading::TEXT_BYTES;
 use rounds::ANSWER_WORDS;
 use rounds::WORK_WORDS;
+use rounds::few::FEW_LABELS;
 
 // Listed with the rounds and the number of labels; or refused: with 1, with a fault of a line, or with 7.
 pub enum Answer {
@@ -41,19 +46,61 @@ pub const TOO_LARGE: usize = 7;
 
 const NO_LINE: usize = 0;
 
-// The text of the answer, with areas of the call's own: whole, or not at all where it does not fit.
-pub fn alphabet_text(description: &[u8], text: &mut [u8]) -> usize
-    ensures { λ r. ⌜ Printed (textOf (call (now (description .entry)) workWords answerWords)) (now (text .entry)) (now (text .exit)) r ⌝ }
+// The text of a response, whose labels are the first words of an area.
+fn write_response(text: &mut [u8], response: Response, answer: &[u64]) -> usize
+    ensures { λ r. ⌜ TextWritten response (now (answer .entry)) (now (text .entry)) (now (text .exit)) r ⌝ }
 {
-    let mut work = [0u64; WORK_WORDS];
-    let mut answer = [0u64; ANSWER_WORDS];
-    let response = respond(description, &mut work, &mut answer);
     let said = response.answer;
     let names = response.names;
     match said {
-        Answer::Listed(rounds, labels) => write_answer(text, names, rounds, &answer[..labels]),
+        Answer::Listed(rounds, labels) => {
+            if answer.len() < labels {
+                return 0;
+            }
+            write_answer(text, names, rounds, &answer[..labels])
+        }
         Answer::TooLong => write_refusal(text, TOO_LONG, NO_LINE),
         Answer::Bad(fault, line) => write_refusal(text, number_of(fault), line),
         Answer::TooLarge => write_refusal(text, TOO_LARGE, NO_LINE),
     }
+}
+
+// The text of the answer, worked out in areas that are always enough.
+fn text_full(description: &[u8], text: &mut [u8]) -> usize
+    ensures { λ r. ⌜ Printed (textOf (ownCall (now (description .entry)))) (now (text .entry)) (now (text .exit)) r ⌝ }
+{
+    let mut work = [0u64; WORK_WORDS];
+    let mut answer = [0u64; ANSWER_WORDS];
+    let response = respond_full(description, &mut work, &mut answer);
+    write_response(text, response, &answer)
+}
+
+// The same, tried in small areas first. A function of its own makes the full ones, so that they are made only where they are needed.
+fn text_few(description: &[u8], text: &mut [u8]) -> usize
+    ensures { λ r. ⌜ Printed (textOf (ownCall (now (description .entry)))) (now (text .entry)) (now (text .exit)) r ⌝ }
+{
+    let mut answer = [0u64; FEW_LABELS];
+    let response = respond_few(description, &mut answer);
+    let said = response.answer;
+    let Answer::TooLarge = said else {
+        return write_response(text, response, &answer);
+    };
+    text_full(description, text)
+}
+
+// A text of more bytes mostly has more terms than small areas have room for.
+const MANY_BYTES: usize = 1024;
+
+// The text of the answer, with areas of the call's own: whole, or not at all where it does not fit. As two ways lead to the full areas,
+// the compiler keeps them in a frame of their own: in the frame of this function their pages would be touched by every call.
+pub fn alphabet_text(description: &[u8], text: &mut [u8]) -> usize
+    ensures { λ r. ⌜ Printed (textOf (call (now (description .entry)) workWords answerWords)) (now (text .entry)) (now (text .exit)) r ⌝ }
+{
+    if TEXT_BYTES < description.len() {
+        return write_refusal(text, TOO_LONG, NO_LINE);
+    }
+    if MANY_BYTES < description.len() {
+        return text_full(description, text);
+    }
+    text_few(description, text)
 }

@@ -1,7 +1,8 @@
--- Laws of the order's cut, in words as in labels, and of the call.
+-- Laws of the order's cut, in words as in labels, and of the calls.
 -- cut-number: the cut of words that are labels' numbers
 pub mod Answering
 -- cuts-to: the outcome under an order is the outcome under `all`, cut
 pub mod Orders
--- answered-short, -large, -listed: the promise of `rounds::alphabet`; answered-unique: it settles all; answered-rounds: its round count
+-- answered-short, -large, -listed: the promise of `alphabet`; answered-unique: it settles all; answered-rounds: its round count;
+-- few-large, few-listed: the promise of `alphabet_of_few`
 pub mod Listings

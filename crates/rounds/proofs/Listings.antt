@@ -4,7 +4,7 @@ use mathlib.Core.Path.{_≡_, refl, sym, ap, ap₂, subst, _∙_, _≡⟨_⟩_, 
 use mathlib.Core.Logic.{_⊎_, inl, inr}
 use mathlib.Core.Bool.{Bool}
 use mathlib.Core.List.{List, [], _∷_, _++_, map, append-assoc}
-use Prim.Native.Nat.{ℕ, zero, suc, _+_, _*_, _-_, _≤_, _<_}
+use Prim.Native.Nat.{ℕ, zero, suc, _+_, _-_, _≤_, _<_}
 use native.Mathlib.Nat.{mul-one, zero-add, suc-add}
 use native.Mathlib.Omega.{arith}
 use native.Mathlib.Decide.{decLt}
@@ -13,59 +13,44 @@ use lib.Dec.{T}
 use lib.ListN.{length, take, drop, replicate, length-map, length-append}
 use lib.Seq.{take-at, drop-at}
 use Rattle.meaning.specs.Labels.{Label, number}
-use Rattle.meaning.specs.Sets.{at}
 use Rattle.meaning.specs.Descriptions as D
-use Rattle.meaning.specs.Legal.{LegalOrder, Legal}
+use Rattle.meaning.specs.Legal.{Legal}
 use Rattle.meaning.specs.Rounds.{Rounds, roundSets}
-use Rattle.meaning.specs.Limits.{someOver, over}
 use Rattle.meaning.specs.Answers.{Outcome, tooLarge, listed, Answers, cut, answer}
 use Rattle.meaning.proofs.Alike.{alike}
-use Rattle.meaning.proofs.Limits.{over-one, over-some, rounds-bound}
+use Rattle.meaning.proofs.Limits.{rounds-bound}
 use Rattle.meaning.proofs.Lengths.{round-full}
 use Rattle.meaning.proofs.Answers.{answer-right}
 use Rattle.sets.proofs.Refinement.{AllPack}
-use Rattle.table.specs.declared.Table.{Table}
 use Rattle.table.specs.declared.Order.{Order}
 use Rattle.areas.specs.Areas.{zeroed}
-use Rattle.table.specs.Encoded.{storeOf, orderFor, tableOf}
-use Rattle.table.proofs.Stores.{order-words}
+use Rattle.table.specs.Encoded.{slotOf, orderWords, orderFor}
+use Rattle.table.specs.Holding.{rootIn, Holds, HoldsOrder}
+use Rattle.table.proofs.Holdings.{slots-held}
 use Rattle.areas.proofs.Zeroes.{zeroed-front}
 use Rattle.cutting.specs.Cutting.{put, cutWords, cutInto, whereRoom}
-use Rattle.deltas.proofs.Passing.{over-in, few-packs}
-use Rattle.stability.specs.declared.Found.{Found}
+use Rattle.deltas.specs.Deltas.{overIn}
+use Rattle.deltas.proofs.Passing.{over-in, few-labels, few-packs}
+use Rattle.extents.specs.Extents.{partAt, wordsIn}
+use Rattle.stability.specs.declared.Last.the-variants as L
+use Rattle.stability.specs.Running.{Ready, Ran}
+use Rattle.stability.proofs.Runs.{ready-zeros}
 use Rattle.stability.specs.declared.Found.the-variants as F
 use Rattle.keeping.specs.Settling.{whole, alone}
 use Rattle.stability.specs.Endings.{foundOf, labelsOf, Reached}
 use Rattle.rounds.specs.declared.Answer.{Answer}
 use Rattle.rounds.specs.declared.Answer.the-variants as A
-use Rattle.rounds.specs.Alphabets.{alphabetOf, answerArea, allIn, listIn, Answered, Listing}
+use Rattle.rounds.specs.Alphabets.{alphabetOf, answerArea, allIn, listIn, Answered, AnsweredFew, Listing}
 use Rattle.rounds.proofs.Answering.{isAll, listOf, cut-number}
 use Rattle.rounds.proofs.Orders.{Cuts, cuts-to}
-
--- Sets that pass no limit have at most 1,024 labels each.
-some-many : (sets : List (List Label)) (i : ℕ) → 1024 < length (at sets i) → T (someOver sets)
-some-many [] i h = absurd (omega arith)
-some-many (s ∷ sets) zero h = over-one s sets (inr (inl h))
-some-many (s ∷ sets) (suc i) h = over-one s sets (inr (inr (some-many sets i h)))
-
-few-labels : (sets : List (List Label)) (i : ℕ) → (T (over sets) → ⊥) → length (at sets i) ≤ 1024
-few-labels sets i h = elim (decLt 1024 (length (at sets i))) [
-  | yes l ↦ absurd (h (over-some sets (some-many sets i l)))
-  | no l ↦ omega arith
-]
 
 order-all : (o : D.Order) → allIn (orderFor o) ≡ isAll o
 order-all D.all = refl
 order-all (D.only ls) = refl
 
-order-list : (d : D.Description) (o : D.Order) → Legal d o → listIn (storeOf d o) (orderFor o) ≡ listOf o
-order-list d o l = listed-as o refl (l .order)
-  where
-    listed-as : (p : D.Order) → p ≡ o → LegalOrder (D.names d) p → listIn (storeOf d o) (orderFor p) ≡ listOf p
-    listed-as D.all e h = refl
-    listed-as (D.only ls) e h =
-        subst (λ (x : D.Order). take (length ls * 1) (drop 3072 (storeOf d x)) ≡ map number ls) e
-        (order-words d (D.only ls) (length ls * 1) (length-map ls number ∙ sym (mul-one (length ls))) (omega (arith, h .0)))
+order-list : (o : D.Order) (own : List ℕ) → take (length (orderWords o)) own ≡ orderWords o → listIn own (orderFor o) ≡ listOf o
+order-list D.all own e = refl
+order-list (D.only ls) own e = ap (λ (n : ℕ). take n own) (mul-one (length ls) ∙ sym (length-map ls number)) ∙ e
 
 -- The set at the start of the work area.
 abbrev zeros : ℕ → List ℕ
@@ -88,43 +73,50 @@ module _ (set work : List ℕ) (count : ℕ) (size : length set ≡ count) (few 
       (zeros count ++ zeros (whole - length set)) ++ drop whole work
       ≡⟨ ap (λ (l : List ℕ). l ++ drop whole work) (zeros-append count (whole - length set) ∙ ap zeros all) ⟩ alone [] work ∎
 
--- The set of a legal description, cut.
-module _ (d : D.Description) (o : D.Order) (k : ℕ) (labels : List Label) (l : Legal d o)
-    (root : labels ≡ at (roundSets d k) (d .root)) (few : T (over (roundSets d k)) → ⊥) where
+-- The root's set of a legal description, cut.
+module _ (d : D.Description) (o : D.Order) (k : ℕ) (labels : List Label) (l : Legal d o) (c : Cuts d o (listed k labels) (answer d o)) where
+  few : T (overIn 2048 (roundSets d k)) → ⊥
+  few t = c .2 (subst (λ (b : Bool). T b) (over-in (roundSets d k)) t)
+
   root-few : length labels ≤ 1024
-  root-few = rw root (few-labels (roundSets d k) (d .root) few)
+  root-few = rw (c .1) (few-labels 2048 (roundSets d k) few (d .root))
 
   root-packs : AllPack (D.names d) labels
-  root-packs =
-      rw root (few-packs 2048 (roundSets d k) (λ t. few (subst (λ (b : Bool). T b) (over-in (roundSets d k)) t)) (D.names d) (d .root)
-      (round-full d k (d .root)))
+  root-packs = rw (c .1) (few-packs 2048 (roundSets d k) few (D.names d) (d .root) (round-full d k (d .root)))
 
-  cut-words : (set area : List ℕ) → set ≡ map number labels → 1024 ≤ length area
-      → cutInto (allIn (orderFor o)) (listIn (storeOf d o) (orderFor o)) set area ≡ map number (cut o labels)
-  cut-words set area e room =
-      let fits : length set ≤ length area = omega (arith, root-few, ap length e, length-map labels number) in
-      let all = allIn (orderFor o) in
-      let list = listIn (storeOf d o) (orderFor o) in
-      cutInto all list set area
-      ≡⟨ ap (λ (t : Bool). whereRoom t (cutWords all list set)) (le-leb (length set) (length area) fits) ⟩ cutWords all list set
-      ≡⟨ ap₂ (λ (t : Bool) (v : List ℕ). cutWords t v set) (order-all o) (order-list d o l) ⟩ cutWords (isAll o) (listOf o) set
-      ≡⟨ ap (cutWords (isAll o) (listOf o)) e ⟩ cutWords (isAll o) (listOf o) (map number labels)
-      ≡⟨ cut-number (D.names d) o labels (l .order) root-packs ⟩ map number (cut o labels) ∎
+  module _ {order : Order} {own set : List ℕ} (area : List ℕ) (g : HoldsOrder o order own)
+      (e : set ≡ map number labels) (room : length labels ≤ length area) where
+    cut-words : cutInto (allIn order) (listIn own order) set area ≡ map number (cut o labels)
+    cut-words =
+        let fits : length set ≤ length area = omega (arith, ap length e, length-map labels number) in
+        let list = listIn own (orderFor o) in
+        rw (g .ordered)
+        (ap (λ (t : Bool). whereRoom t (cutWords (allIn (orderFor o)) list set)) (le-leb (length set) (length area) fits)
+        ∙ ap₂ (λ (t : Bool) (v : List ℕ). cutWords t v set) (order-all o) (order-list o own (g .labels))
+        ∙ ap (cutWords (isAll o) (listOf o)) e
+        ∙ cut-number (D.names d) o labels (l .order) root-packs)
+
+    listed-right : {area′ : List ℕ} {n : ℕ} → Listing set order own area area′ n
+        → (A.Listed k n ≡ alphabetOf (answer d o)) × (area′ ≡ answerArea (answer d o) area)
+    listed-right t = rw (c .0) (
+      ap (A.Listed k) (t .1 ∙ ap length cut-words ∙ length-map (cut o labels) number),
+      t .0 ∙ ap (λ (ws : List ℕ). put ws area) cut-words,
+    )
 
 -- The call: an area too short, a limit passed, an answer.
-module _ {table : Table} {store : List ℕ} {order : Order} {work area : List ℕ} where
-  pub answered-short : length area < 1024 → Answered table store order work area work area A.TooLarge
-  answered-short h = record { short = λ x. (refl, refl, refl); right = λ d o l e f g room most. absurd (omega arith) }
+module _ {table lists : List ℕ} {order : Order} {own work area : List ℕ} where
+  pub answered-short : length area < 1024 → Answered table lists order own work area work area A.TooLarge
+  answered-short h = record { short = λ x. (refl, refl, refl); right = λ d o l e g room m. absurd (omega arith) }
 
   module _ (most : 1024 ≤ length area) where
     pub answered-large : {work′ : List ℕ}
-        → Reached table store work work′ F.TooLarge
-        → Answered table store order work area work′ area A.TooLarge
+        → Reached table lists work work′ F.TooLarge
+        → Answered table lists order own work area work′ area A.TooLarge
     answered-large {work′} p =
         record {
           short = λ x. elim x [ inl h ↦ (refl, p .short h .1, refl) | inr h ↦ absurd (omega arith) ];
-          right = λ d o l e f g room m.
-              let r = p .right d o l e f room in by d o (answer d D.all) (cuts-to d o) (r .0) (r .1);
+          right = λ d o l e g room m.
+              let r = p .right d o l e room in by d o (answer d D.all) (cuts-to d o) (r .0) (r .1);
         }
       where
         by : (d : D.Description) (o : D.Order) (x : Outcome)
@@ -135,49 +127,80 @@ module _ {table : Table} {store : List ℕ} {order : Order} {work area : List �
         by d o tooLarge c e w = rw c (refl, refl, w)
         by d o (listed j labels) c e w = absurd (let z : _≡_ {A = ℕ} 0 1 = cc in omega arith)
 
-    pub answered-listed : {now work′ area′ : List ℕ} {k count n : ℕ}
-        → Reached table store work now (F.At k count)
-        → Listing count store order now area area′ n
+    pub answered-listed : {now set work′ area′ : List ℕ} {k count n : ℕ}
+        → Reached table lists work now (F.At k count)
+        → set ≡ wordsIn (record { from = 0; to = count }) now
+        → Listing set order own area area′ n
         → work′ ≡ zeroed count now
-        → Answered table store order work area work′ area′ (A.Listed k n)
-    answered-listed {now} {work′} {area′} {k} {count} {n} p q w =
+        → Answered table lists order own work area work′ area′ (A.Listed k n)
+    answered-listed {now} {set} {work′} {area′} {k} {count} {n} p taken q w =
         record {
           short = λ x. elim x [
             | inl h ↦ absurd (let s = p .short h .0 in let z : _≡_ {A = ℕ} 0 1 = cc in omega arith)
             | inr h ↦ absurd (omega arith)
           ];
-          right = λ d o l e f g room m.
-              let r = p .right d o l e f room in by d o l (rw (f, g) at q) (answer d D.all) (cuts-to d o) (r .0) (r .1);
+          right = λ d o l e g room m.
+              let r = p .right d o l e room in by d o l g (answer d D.all) (cuts-to d o) (r .0) (r .1);
         }
       where
         by : (d : D.Description) (o : D.Order)
             → Legal d o
-            → Listing count (storeOf d o) (orderFor o) now area area′ n
+            → HoldsOrder o order own
             → (x : Outcome)
             → Cuts d o x (answer d o)
             → F.At k count ≡ foundOf x
             → now ≡ alone (map number (labelsOf x)) work
             → (A.Listed k n ≡ alphabetOf (answer d o)) × (area′ ≡ answerArea (answer d o) area) × (work′ ≡ alone [] work)
-        by d o l s tooLarge c e v = absurd (let z : _≡_ {A = ℕ} 0 1 = cc in omega arith)
-        by d o l s (listed j labels) c e v =
-            let set = map number labels in
-            let rest = zeros (whole - length set) ++ drop whole work in
+        by d o l g tooLarge c e v = absurd (let z : _≡_ {A = ℕ} 0 1 = cc in omega arith)
+        by d o l g (listed j labels) c e v =
+            let found = map number labels in
             let same : k ≡ j = cc in
-            let size : length set ≡ count = length-map labels number ∙ (cc) in
-            let few : count ≤ whole = omega (arith, root-few d o j labels l (c .1) (c .2), length-map labels number) in
-            let long : count ≤ length now = omega (arith, ap length v, length-append set rest) in
-            let taken : take count now ≡ set = ap (take count) v ∙ take-at set rest count size in
-            let words = cut-words d o j labels l (c .1) (c .2) (take count now) area taken most in
-            let t = s long in
-            rw (c .0) (
-              ap₂ A.Listed same (t .1 ∙ ap length words ∙ length-map (cut o labels) number),
-              t .0 ∙ ap (λ (ws : List ℕ). put ws area) words,
-              w ∙ ap (zeroed count) v ∙ alone-cleared set work count size few,
+            let size : length found ≡ count = length-map labels number ∙ (cc) in
+            let small = root-few d o j labels l c in
+            let few : count ≤ whole = omega (arith, length-map labels number) in
+            let start : set ≡ found = taken ∙ ap (take count) v ∙ take-at found (zeros (whole - length found) ++ drop whole work) count size in
+            let right = listed-right d o j labels l c area g start (omega arith) q in (
+              ap (λ (i : ℕ). A.Listed i n) same ∙ right .0,
+              right .1,
+              w ∙ ap (zeroed count) v ∙ alone-cleared found work count size few,
             )
 
+-- The call in small areas: no room, or an answer.
+module _ {table lists : List ℕ} {order : Order} {own area : List ℕ} where
+  pub few-large : AnsweredFew table lists order own area area A.TooLarge
+  few-large = record { unchanged = λ e. refl; right = λ d o l h g k n e. absurd (let z : _≡_ {A = ℕ} 0 1 = cc in omega arith) }
+
+  pub few-listed : {slots sets news work log out set area′ : List ℕ} {k n : ℕ} {root : ℕ} → 96 ≤ length area
+      → Ran table lists (zeros 16) (zeros 34) (zeros 224) (zeros 192) (zeros 96) (zeros 96) slots sets news work log out (L.Stable k)
+      → root ≡ rootIn table → set ≡ wordsIn (partAt sets root) work → Listing set order own area area′ n
+      → AnsweredFew table lists order own area area′ (A.Listed k n)
+  few-listed {sets = sets} {work = work} {set = set} {k = k} room run e taken q = record {
+    unchanged = λ z. absurd (let y : _≡_ {A = ℕ} 0 1 = cc in omega arith);
+    right = λ d o l h g j m z.
+        let count = ap length (slots-held h (l .termsCount .1)) ∙ length-map (d .terms) slotOf in
+        let few = few-slots (D.termCount d) (λ x. run .short (omega (arith, count))) in
+        let x = run .right d o l h (few-ready (D.termCount d) few) in
+        let start : set ≡ map number (x .labels) = taken ∙ ap (λ (t : ℕ). wordsIn (partAt sets t) work) (e ∙ h .rooted) ∙ x .words in
+        let cuts = subst (λ (y : Outcome). Cuts d o y (answer d o)) (x .outcome) (cuts-to d o) in
+        let small = x .few in
+        let right = listed-right d o k (x .labels) l cuts area g start (omega arith) q in
+        (sym z ∙ right .0, right .1);
+  }
+    where
+      few-ready : (terms : ℕ) → terms ≤ 16 → Ready terms (zeros 16) (zeros 34) (zeros 224) (zeros 192) (zeros 96) (zeros 96)
+      few-ready terms h =
+          ready-zeros terms 34 224 96 96 (zeros 16) (zeros 192) (omega arith) (omega arith) (omega arith) (omega arith) (omega arith) (omega arith)
+
+      -- a table of more terms has no stable round here
+      few-slots : (terms : ℕ) → (16 < terms → L.Stable k ≡ L.TooLarge) → terms ≤ 16
+      few-slots terms short = elim (decLt 16 terms) [
+        | yes h ↦ absurd (let s = short h in let y : _≡_ {A = ℕ} 0 1 = cc in omega arith)
+        | no h ↦ omega arith
+      ]
+
 -- What is promised settles the answer and both areas; and the round count that is answered is the description's.
-module _ (table : Table) (store : List ℕ) (order : Order) (work area work₁ area₁ work₂ area₂ : List ℕ) (r₁ r₂ : Answer)
-    (p : Answered table store order work area work₁ area₁ r₁) (q : Answered table store order work area work₂ area₂ r₂) where
+module _ (table lists : List ℕ) (order : Order) (own work area work₁ area₁ work₂ area₂ : List ℕ) (r₁ r₂ : Answer)
+    (p : Answered table lists order own work area work₁ area₁ r₁) (q : Answered table lists order own work area work₂ area₂ r₂) where
   same : (s : Answer) (v w : List ℕ)
       → (r₁ ≡ s) × (area₁ ≡ v) × (work₁ ≡ w)
       → (r₂ ≡ s) × (area₂ ≡ v) × (work₂ ≡ w)
@@ -186,18 +209,17 @@ module _ (table : Table) (store : List ℕ) (order : Order) (work area work₁ a
 
   pub answered-unique : (d : D.Description) (o : D.Order)
       → Legal d o
-      → table ≡ tableOf d
-      → store ≡ storeOf d o
-      → order ≡ orderFor o
+      → Holds d table lists
+      → HoldsOrder o order own
       → (r₁ ≡ r₂) × (area₁ ≡ area₂) × (work₁ ≡ work₂)
-  answered-unique d o l e f g = elim (decLt (length work) whole) [
+  answered-unique d o l e g = elim (decLt (length work) whole) [
     | yes h ↦ too-short (inl h)
     | no h ↦ elim (decLt (length area) 1024) [
       | yes k ↦ too-short (inr k)
       | no k ↦
           same (alphabetOf (answer d o)) (answerArea (answer d o) area) (alone [] work)
-          (p .right d o l e f g (omega arith) (omega arith))
-          (q .right d o l e f g (omega arith) (omega arith))
+          (p .right d o l e g (omega arith) (omega arith))
+          (q .right d o l e g (omega arith) (omega arith))
     ]
   ]
     where
@@ -212,15 +234,14 @@ outcome-rounds d o tooLarge k n right e = absurd (let z : _≡_ {A = ℕ} 0 1 = 
 outcome-rounds d o (listed j labels) k n right e =
     let z : k ≡ j = cc in rw z (right .counted, rounds-bound d j (right .within) (right .counted))
 
-pub answered-rounds : (table : Table) (store : List ℕ) (order : Order) (work area work′ area′ : List ℕ) (k n : ℕ)
-    → Answered table store order work area work′ area′ (A.Listed k n)
+pub answered-rounds : (table lists : List ℕ) (order : Order) (own work area work′ area′ : List ℕ) (k n : ℕ)
+    → Answered table lists order own work area work′ area′ (A.Listed k n)
     → (d : D.Description) (o : D.Order)
     → Legal d o
-    → table ≡ tableOf d
-    → store ≡ storeOf d o
-    → order ≡ orderFor o
+    → Holds d table lists
+    → HoldsOrder o order own
     → whole ≤ length work
     → 1024 ≤ length area
     → Rounds d k × (k ≤ 2049)
-answered-rounds table store order work area work′ area′ k n p d o l e f g room most =
-    outcome-rounds d o (answer d o) k n (answer-right d o) (p .right d o l e f g room most .0)
+answered-rounds table lists order own work area work′ area′ k n p d o l e g room most =
+    outcome-rounds d o (answer d o) k n (answer-right d o) (p .right d o l e g room most .0)

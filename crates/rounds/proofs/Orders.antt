@@ -8,7 +8,7 @@ use lib.Dec.{T}
 use Rattle.meaning.specs.Labels.{Label}
 use Rattle.meaning.specs.Sets.{at}
 use Rattle.meaning.specs.Descriptions as D
-use Rattle.meaning.specs.Rounds.{bodySets, next, roundSets}
+use Rattle.meaning.specs.Rounds.{bodySets, roundSets}
 use Rattle.meaning.specs.Limits.{over}
 use Rattle.meaning.specs.Answers.{Outcome, tooLarge, listed, cut, sameSets, answerFrom, answer}
 use Rattle.stability.proofs.Rounding.{cut-all}

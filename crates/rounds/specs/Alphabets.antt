@@ -1,21 +1,20 @@
--- What the call promises: for the table, list store and order of a legal description its answer, in words; and what it does to
--- the areas.
+-- What the calls promise: for a table, lists and an order that hold a legal description its answer, in words; and what they do to the
+-- areas.
 -- Assumes nothing.
 use mathlib.Core.Path.{_≡_}
 use mathlib.Core.Logic.{_⊎_}
 use mathlib.Core.Bool.{Bool, true, false}
 use mathlib.Core.List.{List, [], map}
 use Prim.Native.Nat.{ℕ, _≤_, _<_}
-use lib.ListN.{length, take}
+use lib.ListN.{length}
 use Rattle.meaning.specs.Labels.{number}
 use Rattle.meaning.specs.Descriptions as D
 use Rattle.meaning.specs.Legal.{Legal}
 use Rattle.meaning.specs.Answers.{Outcome, tooLarge, listed, answer}
-use Rattle.table.specs.declared.Table.{Table}
 use Rattle.table.specs.declared.Order.{Order}
 use Rattle.table.specs.declared.Order.the-variants.{All, Only}
 use Rattle.table.specs.Decoded.{wordsAt}
-use Rattle.table.specs.Encoded.{storeOf, orderFor, tableOf}
+use Rattle.table.specs.Holding.{Holds, HoldsOrder}
 use Rattle.cutting.specs.Cutting.{put, cutInto}
 use Rattle.keeping.specs.Settling.{whole, alone}
 use Rattle.rounds.specs.declared.Answer.{Answer}
@@ -31,11 +30,17 @@ answerArea tooLarge area = area
 answerArea (listed rounds labels) area = put (map number labels) area
 
 -- The call. Nothing is left in the work area: what is used of it is 0.
-pub record Answered (table : Table) (store : List ℕ) (order : Order) (work area work′ area′ : List ℕ) (r : Answer) : Type 0 where
+pub record Answered (table lists : List ℕ) (order : Order) (own work area work′ area′ : List ℕ) (r : Answer) : Type 0 where
   pub short : (length work < whole) ⊎ (length area < 1024) → (r ≡ A.TooLarge) × (work′ ≡ work) × (area′ ≡ area)
-  pub right : (d : D.Description) (o : D.Order) → Legal d o → table ≡ tableOf d → store ≡ storeOf d o → order ≡ orderFor o
+  pub right : (d : D.Description) (o : D.Order) → Legal d o → Holds d table lists → HoldsOrder o order own
       → whole ≤ length work → 1024 ≤ length area
       → (r ≡ alphabetOf (answer d o)) × (area′ ≡ answerArea (answer d o) area) × (work′ ≡ alone [] work)
+
+-- The call in small areas: what is listed is right. Where there was no room nothing is written.
+pub record AnsweredFew (table lists : List ℕ) (order : Order) (own area area′ : List ℕ) (r : Answer) : Type 0 where
+  pub unchanged : r ≡ A.TooLarge → area′ ≡ area
+  pub right : (d : D.Description) (o : D.Order) → Legal d o → Holds d table lists → HoldsOrder o order own → (k n : ℕ) → r ≡ A.Listed k n
+      → (A.Listed k n ≡ alphabetOf (answer d o)) × (area′ ≡ answerArea (answer d o) area)
 
 -- The order as the code takes it: whether it is `all`, and the words of its list.
 abbrev pub allIn : Order → Bool
@@ -43,11 +48,10 @@ allIn All = true
 allIn (Only p) = false
 
 abbrev pub listIn : List ℕ → Order → List ℕ
-listIn store All = []
-listIn store (Only p) = wordsAt store p 1
+listIn own All = []
+listIn own (Only p) = wordsAt own p 1
 
--- The set at the start of the work area, cut to the order.
-abbrev pub Listing : (count : ℕ) (store : List ℕ) → Order → (work area area′ : List ℕ) (n : ℕ) → Type 0
-Listing count store order work area area′ n =
-    let words = cutInto (allIn order) (listIn store order) (take count work) area in
-    count ≤ length work → (area′ ≡ put words area) × (n ≡ length words)
+-- A set cut to the order.
+abbrev pub Listing : (set : List ℕ) → Order → (own area area′ : List ℕ) (n : ℕ) → Type 0
+Listing set order own area area′ n =
+    let words = cutInto (allIn order) (listIn own order) set area in (area′ ≡ put words area) × (n ≡ length words)

@@ -1,2 +1,2 @@
--- What the call of the rounds promises.
+-- What the calls of the rounds promise.
 pub mod Alphabets

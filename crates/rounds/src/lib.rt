@@ -1,12 +1,15 @@
 // The alphabet of a table: the root's set, worked out round by round in a lent work area, cut to the order.
+pub mod few;
+mod listing;
+
+use crate::listing::cut_to;
 use areas::clear;
-use cutting::cut;
+use extents::labels_of;
+use parts::Part;
 use stability::Found;
 use stability::until_stable;
 use table::Order;
-use table::Table;
-use table::lists::words_of;
-ghost use Rattle.rounds.specs.Alphabets.{Answered, Listing};
+ghost use Rattle.rounds.specs.Alphabets.{Answered};
 
 // The words that are used of the work area, and the words that the answer may take.
 pub const WORK_WORDS: usize = stability::WORK_WORDS;
@@ -19,41 +22,29 @@ pub enum Answer {
     Listed(usize, usize),
 }
 
-// The set at the start of the work area, cut to the order.
-fn listing(count: usize, store: &[u64], order: Order, work: &[u64], answer: &mut [u64]) -> usize
-    ensures { λ r. ⌜ Listing count (now (store .entry)) order (now (work .entry)) (now (answer .entry)) (now (answer .exit)) r ⌝ }
-{
-    if work.len() < count {
-        return 0;
-    }
-    let set = &work[..count];
-    match order {
-        Order::All => cut(true, &store[..0], set, answer),
-        Order::Only(place) => cut(false, words_of(store, place), set, answer),
-    }
-}
-
-// The alphabet of the description that a table and its list store stand for, cut to an order. A table that stands for no legal
-// description gets some answer: of it no more is promised than that there is one. The rounds leave the root's set alone in the work
-// area, so that clearing the set clears the area.
+// The alphabet of the description that a table and its lists hold, cut to an order whose labels are the first of words of its own. A
+// table that holds no legal description gets some answer: of it no more is promised than that there is one. The rounds leave the
+// root's set alone in the work area, so that clearing the set clears the area.
 pub fn alphabet(
-    table: Table,
-    store: &[u64],
+    table: &[u64],
+    lists: &[u64],
     order: Order,
+    listed: &[u64],
     work: &mut [u64],
     answer: &mut [u64],
 ) -> Answer
-    ensures { λ r. ⌜ Answered
-        table (now (store .entry)) order (now (work .entry)) (now (answer .entry)) (now (work .exit)) (now (answer .exit)) r ⌝ }
+    ensures { λ r. ⌜ Answered (now (table .entry)) (now (lists .entry)) order (now (listed .entry))
+        (now (work .entry)) (now (answer .entry)) (now (work .exit)) (now (answer .exit)) r ⌝ }
 {
     if answer.len() < ANSWER_WORDS {
         return Answer::TooLarge;
     }
-    let found = until_stable(table, store, work);
+    let found = until_stable(table, lists, work);
     let Found::At(rounds, count) = found else {
         return Answer::TooLarge;
     };
-    let labels = listing(count, store, order, work, answer);
+    let set = labels_of(work, Part { from: 0, to: count });
+    let labels = cut_to(order, listed, set, answer);
     clear(work, count);
     Answer::Listed(rounds, labels)
 }

@@ -1,55 +1,44 @@
--- Any two results that meet a promise of this crate are equal.
+-- What is promised of a section of lines settles its answer, and what it leaves where no line is bad.
 -- Assumes nothing.
-use mathlib.Core.Path.{_≡_, sym, ap, _∙_}
-use mathlib.Core.List.{List, map}
-use Prim.Native.Nat.{ℕ}
+use mathlib.Core.Path.{_≡_, ap}
+use Prim.Native.Nat.{ℕ, suc, _+_}
 use native.Mathlib.Omega.{arith}
-use lib.ListN.{take}
+use lib.ListN.{drop}
 use Rattle.meaning.specs.Bytes.{Text}
 use Rattle.meaning.proofs.Alike.{alike}
-use Rattle.table.specs.Decoded.{nameOf}
-use Rattle.table.specs.Encoded.{filled, wordOf}
-use Rattle.grammar.specs.Reading.{Walk}
-use Rattle.textlines.specs.Walks.{walkOf}
-use Rattle.textlines.specs.declared.Progress.{Progress}
-use Rattle.textlines.specs.declared.Progress.the-variants.{To, Bad}
-use Rattle.textlines.proofs.Uniqueness.{Telling, walk-unique}
-use Rattle.sections.specs.Arrays.{Laid, Section}
-use Rattle.sections.specs.Names.{NamesRead}
-use Rattle.sections.specs.Bodies.{BodiesRead}
-use Rattle.sections.proofs.NameLines.{words-back, taken-fit}
+use Rattle.grammar.specs.Reading.{Walk, reached, walk}
+use Rattle.keyed.specs.declared.Progress.{Progress}
+use Rattle.keyed.specs.declared.Progress.the-variants.{To, Bad}
+use Rattle.keyed.proofs.Uniqueness.{walk-unique}
+use Rattle.sections.specs.Sections.{Comes, Roomed}
 
--- A section with its array.
-zeros-tell : {A : Type 0} (f g : ℕ → A) (most n : ℕ) (xs ys : List ℕ) (r s : Progress) → Laid most n r xs → Laid most n s ys → Telling f g r s
-zeros-tell f g most n xs ys (To v t) (To w u) p q = λ e. p .0 ∙ sym (q .0)
-zeros-tell f g most n xs ys (To v t) (Bad y m) p q = tt
-zeros-tell f g most n xs ys (Bad x l) (To w u) p q = tt
-zeros-tell f g most n xs ys (Bad x l) (Bad y m) p q = tt
+-- Something that holds where no line is bad.
+abbrev pub Where : Progress → Type 0 → Type 0
+Where (To v took) P = P
+Where (Bad f line) P = Unit {0}
 
-module _ {A : Type 0} (value : List ℕ → A) (text : Text) (most n : ℕ) {xs ys : List ℕ}
-    (tells : value (take n xs) ≡ value (take n ys) → take n xs ≡ take n ys) where
-  same-laid : (r s : Progress) → walkOf (λ v. value (take n xs)) text n r ≡ walkOf (λ v. value (take n ys)) text n s → Laid most n r xs
-      → Laid most n s ys → xs ≡ ys
-  same-laid (To v t) (To w u) e p q =
-      let x : value (take n xs) ≡ value (take n ys) = cc in
-      p .1 .padded ∙ ap (filled most 0) (tells x) ∙ sym (q .1 .padded)
-  same-laid (To v t) (Bad y m) e p q = let z : _≡_ {A = ℕ} 0 1 = cc in absurd (omega arith)
-  same-laid (Bad x l) (To w u) e p q = let z : _≡_ {A = ℕ} 0 1 = cc in absurd (omega arith)
-  same-laid (Bad x l) (Bad y m) e p q = p ∙ sym q
+pub everywhere : {P : Type 0} (r : Progress) → P → Where r P
+everywhere (To v took) p = p
+everywhere (Bad f line) p = tt
 
-  section-unique : {due : Walk A} (r s : Progress) → Section value text most n r xs due → Section value text most n s ys due → (r ≡ s) × (xs ≡ ys)
-  section-unique r s p q =
-      let e = alike (p .walks .says) (q .walks .says) in (
-        walk-unique _ _ text n r s e (p .walks .within) (q .walks .within) (zeros-tell _ _ most n xs ys r s (p .laid) (q .laid)),
-        same-laid r s e (p .laid) (q .laid),
-      )
+-- The same number is returned with the same lines, and P holds of what these leave.
+pub comes-once : {A : Type 0} (text : Text) (due : Walk A) (next : A → ℕ) {Left₁ Left₂ : ℕ → A → Type 0} {P : Type 0}
+    → ((v w : ℕ) (a : A) → Left₁ v a → Left₂ w a → (v ≡ w) × P)
+    → (r s : Progress) → Comes text due next Left₁ r → Comes text due next Left₂ s → (r ≡ s) × Where r P
+comes-once text due next same (To v t) (To w u) p q =
+    let e = alike (p .says) (q .says) in
+    let x : p .read ≡ q .read = cc in
+    let k = same v w (q .read) (rw x at (p .left)) (q .left) in
+    let there : reached (p .read) 0 (drop t text) ≡ reached (q .read) 0 (drop u text) = cc in
+    (walk-unique (λ n. p .read) (λ n. q .read) text 0 (To v t) (To w u) there (p .within) (q .within) (λ h. k .0), k .1)
+comes-once text due next same (To v t) (Bad y m) p q = let e = alike (p .says) q in let z : _≡_ {A = ℕ} 0 1 = cc in absurd (omega arith)
+comes-once text due next same (Bad x l) (To w u) p q = let e = alike p (q .says) in let z : _≡_ {A = ℕ} 0 1 = cc in absurd (omega arith)
+comes-once text due next same (Bad x l) (Bad y m) p q =
+    let e = ap (λ d. walk {B = ℕ} d (λ a line s. reached 0 line s)) (alike p q) in
+    (walk-unique (λ n. 0) (λ n. 0) text (suc (l + m)) (Bad x l) (Bad y m) e (omega arith) (omega arith) tt, tt)
 
-pub names-unique : (text : Text) (named : ℕ) {xs ys : List ℕ} (r s : Progress) → NamesRead text named r xs → NamesRead text named s ys → (r ≡ s) × (xs ≡ ys)
-names-unique text named {xs} {ys} r s p q =
-    section-unique (map (nameOf 8)) text 12 named
-    (λ e. sym (words-back (take named xs) (taken-fit named xs (p .fits))) ∙ ap (map wordOf) e ∙ words-back (take named ys) (taken-fit named ys (q .fits)))
-    r s (p .section) (q .section)
-
-pub bodies-unique : (text : Text) (equations terms : ℕ) {xs ys : List ℕ} (r s : Progress) → BodiesRead text equations terms r xs
-    → BodiesRead text equations terms s ys → (r ≡ s) × (xs ≡ ys)
-bodies-unique text equations terms r s p q = section-unique (λ bs. bs) text 16 equations (λ e. e) r s p q
+-- Areas have the room that is needed, or they have not.
+pub given-once : {Room Read₁ Read₂ Else₁ Else₂ P : Type 0} → Dec Room → (Read₁ → Read₂ → P) → (Else₁ → Else₂ → P)
+    → Roomed Room Read₁ Else₁ → Roomed Room Read₂ Else₂ → P
+given-once (yes h) f g p q = f (p .roomy h) (q .roomy h)
+given-once (no h) f g p q = g (p .narrow h) (q .narrow h)

@@ -1,4 +1,5 @@
--- What the lines of names and of bodies give, in their arrays.
-pub mod Arrays
-pub mod Names
-pub mod Bodies
+-- Sections of lines, and what they leave in a table and its lists.
+-- laidAt, listsOver, tableAfter: words over part of an area
+pub mod Laying
+-- Section, Comes, Within, Roomed: what a section of lines comes to; faultFor: its faults
+pub mod Sections

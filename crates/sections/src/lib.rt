@@ -1,3 +1,2 @@
-// The lines of a description that are read alike, one after the other, into an array: those of names, and those of bodies.
-pub mod bodies;
-pub mod names;
+// What a section of lines comes to and leaves in a table. There is no code here: these are definitions and laws that the readers of sections
+// share.

@@ -6,7 +6,7 @@ use native.Mathlib.Omega.{arith}
 use Rattle.slots.specs.Packing.{packedTerm, kindTerm, wordTerm}
 
 -- The kind and the numbers of a packed word, and the term that they make.
-module _ (k t u entries : ℕ) (h : k < 32) where
+module _ (n k t u entries : ℕ) (h : k < 32) where
   kind-of : packedTerm k t u entries % 32 ≡ k
   unfolding packedTerm
   kind-of = omega arith
@@ -23,12 +23,12 @@ module _ (k t u entries : ℕ) (h : k < 32) where
   unfolding packedTerm
   third-of = omega arith
 
-  wordTerm-packed : wordTerm (packedTerm k t u entries) ≡ kindTerm k (t % 65536) (u % 65536) (entries % 65536)
+  wordTerm-packed : wordTerm n (packedTerm k t u entries) ≡ kindTerm n k (t % 65536) (u % 65536) (entries % 65536)
   unfolding wordTerm
   wordTerm-packed = rw (kind-of, first-of, second-of, third-of)
 
   -- numbers of 16 bits come back whole
-  pub wordTerm-small : t < 65536 → u < 65536 → entries < 65536 → wordTerm (packedTerm k t u entries) ≡ kindTerm k t u entries
+  pub wordTerm-small : t < 65536 → u < 65536 → entries < 65536 → wordTerm n (packedTerm k t u entries) ≡ kindTerm n k t u entries
   wordTerm-small a b c =
       let x : t % 65536 ≡ t = omega arith in
       let y : u % 65536 ≡ u = omega arith in

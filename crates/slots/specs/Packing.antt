@@ -13,13 +13,13 @@ use Rattle.slots.specs.declared.Term.the-variants.{Delta, Tau, Act, Ref,
 unfoldable pub packedTerm : ℕ → ℕ → ℕ → ℕ → ℕ
 packedTerm k t u entries = k + 32 * (t % 65536) + 2097152 * (u % 65536) + 137438953472 * (entries % 65536)
 
--- The word of a term.
+-- The word of a term. Where its list stands follows from the term's number and is not in the word.
 abbrev pub operatorWord : Operator → ℕ → ℕ
-operatorWord (Block p) u = packedTerm 12 (p .at) u (p .entries)
-operatorWord (Hide p) u = packedTerm 13 (p .at) u (p .entries)
-operatorWord (Rename p) u = packedTerm 14 (p .at) u (p .entries)
-operatorWord (Comm p) u = packedTerm 15 (p .at) u (p .entries)
-operatorWord (Allow p) u = packedTerm 16 (p .at) u (p .entries)
+operatorWord (Block p) u = packedTerm 12 0 u (p .entries)
+operatorWord (Hide p) u = packedTerm 13 0 u (p .entries)
+operatorWord (Rename p) u = packedTerm 14 0 u (p .entries)
+operatorWord (Comm p) u = packedTerm 15 0 u (p .entries)
+operatorWord (Allow p) u = packedTerm 16 0 u (p .entries)
 
 abbrev pub termWord : Term → ℕ
 termWord Delta = 0
@@ -45,8 +45,9 @@ plainOf k t u =
 abbrev pub operatorAt : ℕ → Place → Operator
 operatorAt k p = pick (eqb k 12) (Block p) (pick (eqb k 13) (Hide p) (pick (eqb k 14) (Rename p) (pick (eqb k 15) (Comm p) (Allow p))))
 
-abbrev pub kindTerm : (k t u entries : ℕ) → Term
-kindTerm k t u entries = pick (ltb k 12) (plainOf k t u) (Wrap (operatorAt k (record { at = t; entries = entries })) u)
+-- of the n-th term, whose list is the n-th
+abbrev pub kindTerm : (n k t u entries : ℕ) → Term
+kindTerm n k t u entries = pick (ltb k 12) (plainOf k t u) (Wrap (operatorAt k (record { at = n; entries = entries })) u)
 
-unfoldable pub wordTerm : ℕ → Term
-wordTerm w = kindTerm (w % 32) (w / 32 % 65536) (w / 2097152 % 65536) (w / 137438953472 % 65536)
+unfoldable pub wordTerm : ℕ → ℕ → Term
+wordTerm n w = kindTerm n (w % 32) (w / 32 % 65536) (w / 2097152 % 65536) (w / 137438953472 % 65536)

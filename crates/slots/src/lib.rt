@@ -1,10 +1,10 @@
 // A term of a description as the code looks at it, and the word in which a slot of the table keeps it.
 //
-// A term is an enum; the five operators with a list are an inner enum, each with the place of its list in a list store that
-// stands beside the table.
+// A term is an enum; the five operators with a list are an inner enum, each with the place of its list among the lists that stand
+// beside the table.
 pub mod packing;
 
-// Where a list stands in the store: its first word, and how many entries it has.
+// Where a list stands: it is the list of the term with this number, and has so many entries.
 pub struct Place {
     pub at: usize,
     pub entries: usize,

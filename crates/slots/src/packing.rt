@@ -1,5 +1,5 @@
-// A term packed in a word: its kind in the lowest five bits, then up to three numbers of 16 bits each. A number that takes more
-// than 16 bits is cut; a legal description has none.
+// A term packed in a word: its kind in the lowest five bits, then up to three numbers of 16 bits each, the third that of the entries of
+// its list. A number that takes more than 16 bits is cut; a legal description has none.
 //
 // A kind's number is its place in the list of kinds that a line is held to (`kinds` in `crates/grammar/specs/Forms.antt`). Delta
 // is 0, so that a slot which was never written is a deadlock.
@@ -21,16 +21,16 @@ fn packed(kind: u64, t: usize, u: usize, entries: usize) -> u64
     kind + 32 * first + 2097152 * second + 137438953472 * third
 }
 
-// The word of an operator with its operand: the list's place, then the operand, then how many entries the list has.
+// The word of an operator with its operand: the operand, and how many entries the list has. The list's place is that of the term.
 fn pack_operator(o: Operator, u: usize) -> u64
     ensures { λ r. ⌜ r ≡ operatorWord o u ⌝ }
 {
     match o {
-        Operator::Block(p) => packed(12, p.at, u, p.entries),
-        Operator::Hide(p) => packed(13, p.at, u, p.entries),
-        Operator::Rename(p) => packed(14, p.at, u, p.entries),
-        Operator::Comm(p) => packed(15, p.at, u, p.entries),
-        Operator::Allow(p) => packed(16, p.at, u, p.entries),
+        Operator::Block(p) => packed(12, 0, u, p.entries),
+        Operator::Hide(p) => packed(13, 0, u, p.entries),
+        Operator::Rename(p) => packed(14, 0, u, p.entries),
+        Operator::Comm(p) => packed(15, 0, u, p.entries),
+        Operator::Allow(p) => packed(16, 0, u, p.entries),
     }
 }
 
@@ -88,9 +88,9 @@ pub fn operator(k: usize, place: Place) -> Operator
     }
 }
 
-// The term of a word: its kind and numbers, wherever they come from.
-pub fn unpack(w: u64) -> Term
-    ensures { λ r. ⌜ r ≡ wordTerm w ⌝ }
+// The n-th term, by its word: its kind and numbers, wherever they come from.
+pub fn unpack(w: u64, n: usize) -> Term
+    ensures { λ r. ⌜ r ≡ wordTerm n w ⌝ }
 {
     let k = (w % 32) as usize;
     let t = (w / 32 % 65536) as usize;
@@ -99,7 +99,7 @@ pub fn unpack(w: u64) -> Term
         return plain(k, t, u);
     }
     let entries = (w / 137438953472 % 65536) as usize;
-    let place = Place { at: t, entries };
+    let place = Place { at: n, entries };
     let o = operator(k, place);
     Term::Wrap(o, u)
 }

@@ -6,7 +6,9 @@ pub mod Turning
 pub mod Rounding
 -- midway-start: what the first round begins with
 pub mod Starting
--- rounds-in: rounds in areas of any size; ran-stable, ran, ran-again: what is left of the last
-pub mod Remains
--- reached-unfit, reached-run: the promise of `until_stable`; reached-unique: it settles all
+-- copying-start, copying-step, copying-end: the loop of `copy`
+pub mod Copies
+-- copied-merged, ran-unready, ran-turned: the promise of `run`; ready-zeros: areas of zeros that are enough
+pub mod Runs
+-- reached-short, reached-run: the promise of `until_stable`; reached-unique: it settles all
 pub mod Reaches

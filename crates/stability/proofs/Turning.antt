@@ -11,7 +11,6 @@ use native.Mathlib.Omega.{arith}
 use borrow.Author.Tests.{le-leb}
 use lib.Dec.{T, ltb, ltb→lt}
 use lib.ListN.{length, getD}
-use lib.Seq.{getD-take}
 use Rattle.meaning.specs.Labels.{Label, number}
 use Rattle.meaning.specs.Sets.{at}
 use Rattle.meaning.specs.Descriptions.{Description, names, termCount, equations, bodyAt}
@@ -22,8 +21,7 @@ use Rattle.meaning.proofs.Members.{each-of, in-at}
 use Rattle.meaning.proofs.Growth.{round-length}
 use Rattle.meaning.proofs.Stability.{Stable}
 use Rattle.meaning.proofs.Limits.{someLong→long, over-cases}
-use Rattle.table.specs.Encoded.{tableOf}
-use Rattle.table.proofs.Stores.{body-of, bodies-of}
+use Rattle.table.proofs.Holdings.{body-of}
 use Rattle.parts.specs.declared.Part.{Part}
 use Rattle.extents.specs.Extents.{partAt, wordsIn, isEmpty}
 use Rattle.extents.proofs.Rows.{words-length, words-empty}
@@ -95,10 +93,6 @@ module _ {d : Description} {k : ℕ} {sets news work log out : List ℕ} {end : 
   bodies-few : equations d ≤ 16
   bodies-few = m .legal .equationCount
 
-  body-same : (e : ℕ) → e < equations d → getD (d .bodies) e 0 ≡ bodyAt d e
-  body-same e h =
-      ap (λ (bs : List ℕ). getD bs e 0) (sym (bodies-of d bodies-few)) ∙ getD-take (equations d) (tableOf d .bodies) e 0 h ∙ body-of d e h bodies-few
-
   body-below : (e : ℕ) → e < equations d → getD (d .bodies) e 0 < termCount d
   body-below e h = each-of (λ (b : ℕ). b < termCount d) (d .bodies) (m .legal .bodies) (getD (d .bodies) e 0) (in-at (d .bodies) e 0 h)
 
@@ -108,7 +102,7 @@ module _ {d : Description} {k : ℕ} {sets news work log out : List ℕ} {end : 
   -- what is new in a body stands in the log
   body-logged : (e : ℕ) → e < equations d → Logged log end (partAt news (getD (d .bodies) e 0)) (arrived d (suc k) (bodyAt d e))
   body-logged e h =
-      subst (λ (b : ℕ). Logged log end (partAt news (getD (d .bodies) e 0)) (arrived d (suc k) b)) (body-same e h)
+      subst (λ (b : ℕ). Logged log end (partAt news (getD (d .bodies) e 0)) (arrived d (suc k) b)) (body-of d e h)
       (m .fresh (getD (d .bodies) e 0) (body-below e h))
 
   module _ {news′ : List ℕ} where

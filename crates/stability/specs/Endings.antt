@@ -2,8 +2,6 @@
 -- behind it; or that a limit is passed, with 0 alone.
 -- Assumes nothing.
 use mathlib.Core.Path.{_≡_}
-use mathlib.Core.Logic.{_⊎_}
-use mathlib.Core.Bool.{Bool, true, false}
 use mathlib.Core.List.{List, [], map}
 use Prim.Native.Nat.{ℕ, _≤_, _<_}
 use lib.ListN.{length}
@@ -11,13 +9,10 @@ use Rattle.meaning.specs.Labels.{Label, number}
 use Rattle.meaning.specs.Descriptions.{Description, Order, all}
 use Rattle.meaning.specs.Legal.{Legal}
 use Rattle.meaning.specs.Answers.{Outcome, tooLarge, listed, answer}
-use Rattle.table.specs.declared.Table.{Table}
-use Rattle.table.specs.Encoded.{storeOf, tableOf}
-use Rattle.keeping.specs.Settling.{whole}
-use Rattle.keeping.specs.Settling.{alone}
+use Rattle.table.specs.Holding.{Holds}
+use Rattle.keeping.specs.Settling.{whole, alone}
 use Rattle.stability.specs.declared.Found.{Found}
 use Rattle.stability.specs.declared.Found.the-variants.{TooLarge, At}
-use Rattle.stability.specs.declared.Counts.{Counts}
 
 -- An outcome as the code finds it, and its labels.
 abbrev pub foundOf : Outcome → Found
@@ -28,17 +23,11 @@ abbrev pub labelsOf : Outcome → List Label
 labelsOf tooLarge = []
 labelsOf (listed rounds labels) = labels
 
--- Whether the areas and counts are within what is worked in.
-abbrev pub Fitting : (words : ℕ) → Counts → Bool → Type 0
-Fitting words counts true = (whole ≤ words) × (counts .terms ≤ 96) × (counts .equations ≤ 16)
-Fitting words counts false = (words < whole) ⊎ ((96 < counts .terms) ⊎ (16 < counts .equations))
-
 -- The order `all` cuts nothing away, so that its outcome has the root's whole set.
-pub record Reached (table : Table) (store work work′ : List ℕ) (r : Found) : Type 0 where
+pub record Reached (table lists work work′ : List ℕ) (r : Found) : Type 0 where
   pub short : length work < whole → (r ≡ TooLarge) × (work′ ≡ work)
   pub right : (d : Description) (o : Order)
       → Legal d o
-      → table ≡ tableOf d
-      → store ≡ storeOf d o
+      → Holds d table lists
       → whole ≤ length work
       → (r ≡ foundOf (answer d all)) × (work′ ≡ alone (map number (labelsOf (answer d all))) work)

@@ -1,7 +1,9 @@
 -- What round after round says of its areas.
--- the last round
+-- LastMade: round after round; Passing: a limit that is passed
 pub mod Stages
--- what the rounds of a description come to
+-- Ready, Ran: the rounds of a table in lent areas
+pub mod Running
+-- Reached: what the rounds of a table come to in areas that are always enough
 pub mod Endings
 -- what is left of the last round
 pub mod Settling

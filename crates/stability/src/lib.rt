@@ -1,17 +1,33 @@
-// The rounds of a description: the sets of all terms grow in a lent work area, round after round, until nothing is new in the bodies
-// of equations or a limit is passed.
+// The rounds of a description: the sets of all terms grow in lent areas, round after round, until nothing is new in the bodies of
+// equations or a limit is passed.
+pub mod running;
 mod settling;
 mod stages;
 
-use crate::settling::run_rounds;
-use syncs::merge_wholes;
-use table::EQUATIONS;
+use crate::running::run;
+use crate::settling::conclude;
+use parts::MOST_LABELS;
 use table::TERMS;
-use table::Table;
-ghost use Rattle.stability.specs.Endings.{Fitting, Reached};
+use table::root_of;
+ghost use Rattle.stability.specs.Endings.{Reached};
 
 // The words that are used of the work area.
 pub const WORK_WORDS: usize = 4096;
+
+// The numbers that say where the sets of 96 terms stand and where their half ends; and those that say where what is new in them and in
+// 16 equations does.
+const SETS_ROW: usize = 194;
+
+pub const NEWS_ROW: usize = 224;
+
+// How many labels all sets may have together.
+pub const TOTAL_LABELS: usize = 2048;
+
+// What the rounds come to: a limit is passed; or the number of the stable round.
+pub enum Last {
+    TooLarge,
+    Stable(usize),
+}
 
 // A limit is passed; or the number of the stable round, and how many labels the root's set has.
 pub enum Found {
@@ -19,50 +35,30 @@ pub enum Found {
     At(usize, usize),
 }
 
-// How many equations and terms a table has.
-pub struct Counts {
-    pub equations: usize,
-    pub terms: usize,
-}
-
-// Whether the work area is long enough and the table within what it was made for.
-fn fits(words: usize, counts: Counts) -> bool
-    ensures { λ r. ⌜ Fitting words counts r ⌝ }
-{
-    if words < WORK_WORDS {
-        return false;
-    }
-    if TERMS < counts.terms {
-        return false;
-    }
-    if EQUATIONS < counts.equations {
-        return false;
-    }
-    true
-}
-
-// The rounds of the description that a table and its list store stand for. The root's set is left at the start of the work area
-// and every other word that is used is 0. A table that stands for no legal description gets some answer: of it no more is promised
+// The rounds of the description that a table and its lists hold, in areas that are always enough: the log has room for as many labels
+// as all sets may have together, and what a term is given for as many as one set may. The root's set is left at the start of the work
+// area and every other word that is used is 0. A table that holds no legal description gets some answer: of it no more is promised
 // than that there is one.
-pub fn until_stable(table: Table, store: &[u64], work: &mut [u64]) -> Found
-    ensures { λ r. ⌜ Reached table (now (store .entry)) (now (work .entry)) (now (work .exit)) r ⌝ }
+pub fn until_stable(table: &[u64], lists: &[u64], work: &mut [u64]) -> Found
+    ensures { λ r. ⌜ Reached (now (table .entry)) (now (lists .entry)) (now (work .entry)) (now (work .exit)) r ⌝ }
 {
-    let counts = Counts {
-        equations: table.equations,
-        terms: table.terms,
-    };
-    if !fits(work.len(), counts) {
+    if work.len() < WORK_WORDS {
         return Found::TooLarge;
     }
-    let mut slots = table.slots;
-    merge_wholes(&mut slots);
-    let bodies = table.bodies;
-    run_rounds(
-        &slots,
-        store,
-        &bodies[..counts.equations],
-        counts.terms,
-        table.root,
-        work,
-    )
+    let mut slots = [0u64; TERMS];
+    let mut sets = [0usize; SETS_ROW];
+    let mut news = [0usize; NEWS_ROW];
+    let mut log = [0u64; TOTAL_LABELS];
+    let mut out = [0u64; MOST_LABELS];
+    let last = run(
+        table,
+        lists,
+        &mut slots,
+        &mut sets,
+        &mut news,
+        &mut work[..WORK_WORDS],
+        &mut log,
+        &mut out,
+    );
+    conclude(last, &sets, root_of(table), work)
 }

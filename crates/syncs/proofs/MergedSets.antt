@@ -1,23 +1,24 @@
 -- A description in which every sync of whole processes is a merge is legal where the first is, and has its sets in every round, its
--- answer and its list store; and every sync in it is one of multi-actions.
+-- answer and its lists; and every sync in it is one of multi-actions.
 -- Assumes nothing.
 use mathlib.Core.Path.{_≡_, refl, sym, ap, ap₂, subst, _∙_}
 use mathlib.Core.Bool.{Bool, true, false, _&&_}
-use mathlib.Core.List.{List, [], _∷_, _++_, map}
-use Prim.Native.Nat.{ℕ, suc, _<_}
-use lib.ListN.{length-map, List·getD-map}
+use mathlib.Core.List.{List, [], _∷_, map}
+use Prim.Native.Nat.{ℕ, suc, _*_, _<_}
+use lib.ListN.{length, take, drop, length-map, List·getD-map}
 use Rattle.meaning.specs.Labels.{Label}
 use Rattle.meaning.specs.Descriptions.{Term, act, tau, delta, ref, sum, cond, choice, ifelse, seq, merge, lmerge, sync, wrap, Order, Description}
 use Rattle.meaning.specs.Descriptions.{termCount, termAt}
 use Rattle.meaning.specs.Legal.{LegalTwo, LegalTerm, LegalTerms, Legal}
-use Rattle.meaning.specs.Rounds.{ofActions, isMultiAction, areMultiActions, syncShape, shape, next}
+use Rattle.meaning.specs.Rounds.{ofActions, isMultiAction, areMultiActions, syncShape, shape, next, roundSets}
 use Rattle.meaning.specs.Answers.{answer}
 use Rattle.meaning.proofs.SyncOrOther.{NoSync, SyncOrOther, is-sync, other, sync-or-other, built-other}
 use Rattle.meaning.proofs.Shapes.{shape-other}
 use Rattle.meaning.proofs.Actions.{multi-is, lines-agree}
 use Rattle.meaning.proofs.Least.{term-legal, legal-operands}
-use Rattle.meaning.proofs.ByShapes.{same-shapes, same-answer}
-use Rattle.table.specs.Encoded.{filled, termWords, orderWords, termsWords, storeOf}
+use Rattle.meaning.proofs.ByShapes.{same-shapes, same-rounds, same-answer}
+use Rattle.table.specs.Encoded.{termWords}
+use Rattle.table.specs.Holding.{HoldsLists}
 use Rattle.syncs.specs.Merges.{syncOr, asMerge, withMerges, SyncsJoin}
 
 -- Whether a term is an act, a tau, a delta or a sync, whatever its operands are.
@@ -144,10 +145,13 @@ module _ (d : Description) (o : Order) (legal : Legal d o) where
   merged-next =
       same-shapes d′ d refl (merged-count d) (λ n. ap (shape d′) (merged-at d n) ∙ line-shaped (sync-or-other (termAt d n)))
 
+  pub merged-rounds : (k : ℕ) → roundSets d′ k ≡ roundSets d k
+  merged-rounds = same-rounds d′ d refl refl merged-next
+
   pub merged-answer : (p : Order) → answer d′ p ≡ answer d p
   merged-answer = same-answer d′ d refl refl merged-next
 
--- No term with a list changes, so that the store stays.
+-- No term with a list changes, so that the lists stay.
 two-words : (t u : ℕ) (b : Bool) → termWords (syncOr b t u) ≡ []
 two-words t u true = refl
 two-words t u false = refl
@@ -156,11 +160,8 @@ line-words : (d : Description) {x : Term} → SyncOrOther x → termWords (asMer
 line-words d (is-sync t u) = two-words t u (areMultiActions d t u)
 line-words d (other x o) = ap termWords (as-other d x o)
 
-lines-words : (d : Description) (ts : List Term) → termsWords (map (asMerge d) ts) ≡ termsWords ts
-unfolding termsWords
-lines-words d [] = refl
-lines-words d (t ∷ ts) = ap₂ {C = List ℕ} (λ s r. filled 32 0 s ++ r) (line-words d (sync-or-other t)) (lines-words d ts)
-
-pub merged-store : (d : Description) (o : Order) → storeOf (withMerges d) o ≡ storeOf d o
-unfolding storeOf
-merged-store d o = ap (λ (ws : List ℕ). filled 3072 0 ws ++ filled 32 0 (orderWords o)) (lines-words d (d .terms))
+pub merged-lists : (d : Description) (lists : List ℕ) → HoldsLists d lists → HoldsLists (withMerges d) lists
+merged-lists d lists held n h =
+    let same : termWords (termAt (withMerges d) n) ≡ termWords (termAt d n) = ap termWords (merged-at d n) ∙ line-words d (sync-or-other (termAt d n)) in
+    let inside : n < termCount d = rw (merged-count d) at h in
+    subst (λ (ws : List ℕ). take (length ws) (drop (32 * n) lists) ≡ ws) (sym same) (held n inside)

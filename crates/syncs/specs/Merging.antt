@@ -26,7 +26,7 @@ multiKind (LMerge t u) = false
 multiKind (Wrap o t) = false
 
 abbrev pub multiAt : List ℕ → ℕ → Bool
-multiAt slots t = multiKind (wordTerm (getD slots t 0))
+multiAt slots t = multiKind (wordTerm 0 (getD slots t 0))
 
 -- A slot beside the others, by the term that it holds.
 abbrev pub mergeOf : List ℕ → ℕ → Term → ℕ
@@ -45,7 +45,7 @@ mergeOf slots w (LMerge t u) = w
 mergeOf slots w (Wrap o t) = w
 
 abbrev pub mergeIn : List ℕ → ℕ → ℕ
-mergeIn slots w = mergeOf slots w (wordTerm w)
+mergeIn slots w = mergeOf slots w (wordTerm 0 w)
 
 -- the first so many slots gone through
 unfoldable pub mergedTo : ℕ → List ℕ → List ℕ

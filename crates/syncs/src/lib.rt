@@ -10,11 +10,12 @@ ghost use mathlib.Core.Path.{_≡_};
 ghost use lib.ListN.{length};
 ghost use Rattle.syncs.specs.Merging.{multiAt, mergeIn, mergedTo};
 
-// Whether the term at a number is an act, a tau, a delta or a sync; past the slots there is a deadlock.
+// Whether the term at a number is an act, a tau, a delta or a sync; past the slots there is a deadlock. The number of a term says only
+// where its list is, so that any will do.
 fn is_multi(slots: &[u64], t: usize) -> bool
     ensures { λ r. ⌜ r ≡ multiAt (now (slots .entry)) t ⌝ }
 {
-    match unpack(word_at(slots, t)) {
+    match unpack(word_at(slots, t), 0) {
         Term::Delta | Term::Tau | Term::Act(_) | Term::Sync(_, _) => true,
         _ => false,
     }
@@ -24,7 +25,7 @@ fn is_multi(slots: &[u64], t: usize) -> bool
 fn merge_in(slots: &[u64], slot: u64) -> u64
     ensures { λ r. ⌜ r ≡ mergeIn (now (slots .entry)) slot ⌝ }
 {
-    let Term::Sync(t, u) = unpack(slot) else {
+    let Term::Sync(t, u) = unpack(slot, 0) else {
         return slot;
     };
     if is_multi(slots, t) && is_multi(slots, u) {

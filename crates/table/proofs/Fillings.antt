@@ -1,16 +1,14 @@
--- One entry more in the table and in the list store: what is filled up stays so.
+-- A list that is filled up to a length: one entry more, and its start.
 -- Assumes nothing.
 use mathlib.Core.Path.{_≡_, refl, sym, ap, _∙_}
-use mathlib.Core.List.{List, [], _∷_, _++_, append-nil, append-assoc}
-use Prim.Native.Nat.{ℕ, zero, suc, _+_, _*_, _≤_}
+use mathlib.Core.List.{List, [], _∷_, _++_, append-nil}
+use Prim.Native.Nat.{ℕ, zero, suc, _+_, _≤_}
 use native.Mathlib.Nat.{not-suc-le-zero, le-of-suc-le-suc}
 use native.Mathlib.Omega.{arith}
-use lib.ListN.{length, take, drop, set, replicate, length-append}
-use lib.Seq.{take-at, drop-at}
-use Rattle.meaning.specs.Descriptions as D
+use lib.ListN.{length, getD, take, drop, set, replicate}
+use lib.Seq.{take-nil}
 use Rattle.areas.specs.Areas.{zeroed}
-use Rattle.table.specs.Encoded.{filled, termWords, termsWords, termFor, slotsFrom}
-use Rattle.slots.specs.Packing.{termWord}
+use Rattle.table.specs.Encoded.{filled}
 
 module _ {A : Type 0} (x : A) where
   pub length-filled : (n : ℕ) (ys : List A) → length (filled n x ys) ≡ n
@@ -29,6 +27,22 @@ module _ {A : Type 0} (x : A) where
   filled-more zero ys y = refl
   filled-more (suc n) [] y = refl
   filled-more (suc n) (z ∷ ys) y = ap {B = List A} (λ l. z ∷ l) (filled-more n ys y)
+
+  -- the next entry of a list, or the filler past its end
+  pub filled-next : (n i : ℕ) (ys : List A) → set (filled n x (take i ys)) i (getD ys i x) ≡ filled n x (take (suc i) ys)
+  unfolding filled
+  filled-next zero i ys = refl
+  filled-next (suc n) zero [] = refl
+  filled-next (suc n) zero (y ∷ ys) = refl
+  filled-next (suc n) (suc i) [] = let ih = filled-next n i [] in ap {B = List A} (λ l. x ∷ l) (rw (take-nil i) at ih)
+  filled-next (suc n) (suc i) (y ∷ ys) = ap {B = List A} (λ l. y ∷ l) (filled-next n i ys)
+
+  -- the entries past its length are not looked at
+  pub filled-take : (n : ℕ) (ys : List A) → filled n x (take n ys) ≡ filled n x ys
+  unfolding filled
+  filled-take zero ys = refl
+  filled-take (suc n) [] = refl
+  filled-take (suc n) (y ∷ ys) = ap {B = List A} (λ l. y ∷ l) (filled-take n ys)
 
   -- what stands before, and the filler after it
   pub filled-past : (n k : ℕ) (ys zs : List A) → n ≡ length ys + k → filled n x (ys ++ zs) ≡ ys ++ filled k x zs
@@ -61,66 +75,3 @@ zeroed-filled zero [] h = refl
 zeroed-filled zero (w ∷ ws) h = absurd (omega arith)
 zeroed-filled (suc n) [] h = refl
 zeroed-filled (suc n) (w ∷ ws) h = ap (λ (r : List ℕ). 0 ∷ r) (zeroed-filled n ws (le-of-suc-le-suc h))
-
--- The slots.
-pub length-slots : (n : ℕ) (ts : List D.Term) → length (slotsFrom n ts) ≡ length ts
-unfolding slotsFrom
-length-slots n [] = refl
-length-slots n (t ∷ ts) = ap suc (length-slots (suc n) ts)
-
-slots-append : (n : ℕ) (ts : List D.Term) (t : D.Term) → slotsFrom n (ts ++ (t ∷ [])) ≡ slotsFrom n ts ++ (termWord (termFor (n + length ts) t) ∷ [])
-unfolding slotsFrom
-slots-append n [] t = let h : n + 0 ≡ n = omega arith in rw h
-slots-append n (u ∷ ts) t =
-    let h : suc n + length ts ≡ n + suc (length ts) = omega arith in
-    let ih = slots-append (suc n) ts t in
-    ap {B = List ℕ} (λ l. termWord (termFor n u) ∷ l) (rw h at ih)
-
-pub slots-more : (size x : ℕ) (ts : List D.Term) (t : D.Term)
-    → set (filled size x (slotsFrom 0 ts)) (length ts) (termWord (termFor (length ts) t)) ≡ filled size x (slotsFrom 0 (ts ++ (t ∷ [])))
-slots-more size x ts t =
-    let h : 0 + length ts ≡ length ts = omega arith in
-    rw (slots-append 0 ts t, h, ← filled-more x size (slotsFrom 0 ts) (termWord (termFor (length ts) t)), length-slots)
-
--- The store: the terms' lists one after the other, 32 words each.
-pub length-termsWords : (ts : List D.Term) → length (termsWords ts) ≡ 32 * length ts
-unfolding termsWords
-length-termsWords [] = refl
-length-termsWords (t ∷ ts) = rw (length-append, length-filled, length-termsWords ts) (omega arith)
-
-words-append : (ts : List D.Term) (t : D.Term) → termsWords (ts ++ (t ∷ [])) ≡ termsWords ts ++ filled 32 0 (termWords t)
-unfolding termsWords
-words-append [] t = append-nil (filled 32 0 (termWords t))
-words-append (u ∷ ts) t = rw (words-append ts t, append-assoc)
-
-module _ (size at k : ℕ) (ts : List D.Term) (a : at ≡ 32 * length ts) (e : size ≡ at + (32 + k)) where
-  abbrev store : List ℕ
-  store = filled size 0 (termsWords ts)
-
-  free : store ≡ termsWords ts ++ (filled 32 0 [] ++ filled k 0 [])
-  free =
-      let l = length-termsWords ts in
-      filled-after 0 size (32 + k) (termsWords ts) (omega arith) ∙ ap (λ r. termsWords ts ++ r) (filled-two 0 (32 + k) 32 k refl)
-
-  after-terms : drop at store ≡ filled 32 0 [] ++ filled k 0 []
-  after-terms = let l = length-termsWords ts in rw free (drop-at (termsWords ts) (filled 32 0 [] ++ filled k 0 []) at (omega arith))
-
-  -- the part of the next term
-  pub part-free : take 32 (drop at store) ≡ filled 32 0 []
-  part-free = rw after-terms (take-at (filled 32 0 []) (filled k 0 []) 32 (length-filled 0 32 []))
-
-  before : take at store ≡ termsWords ts
-  before = let l = length-termsWords ts in rw free (take-at (termsWords ts) (filled 32 0 [] ++ filled k 0 []) at (omega arith))
-
-  behind : drop 32 (drop at store) ≡ filled k 0 []
-  behind = rw after-terms (drop-at (filled 32 0 []) (filled k 0 []) 32 (length-filled 0 32 []))
-
-  with-part : (t : D.Term) → filled size 0 (termsWords ts ++ filled 32 0 (termWords t)) ≡ termsWords ts ++ (filled 32 0 (termWords t) ++ filled k 0 [])
-  with-part t =
-      let l = length-termsWords ts in
-      let f = length-filled 0 32 (termWords t) in
-      filled-past 0 size (32 + k) (termsWords ts) (filled 32 0 (termWords t)) (omega arith)
-      ∙ ap (λ r. termsWords ts ++ r) (filled-after 0 (32 + k) k (filled 32 0 (termWords t)) (omega arith))
-
-  pub part-more : (t : D.Term) → take at store ++ (filled 32 0 (termWords t) ++ drop 32 (drop at store)) ≡ filled size 0 (termsWords (ts ++ (t ∷ [])))
-  part-more t = rw (before, behind, words-append ts t) (sym (with-part t))

@@ -2,14 +2,14 @@
 -- Assumes nothing.
 use mathlib.Core.Path.{_≡_, refl}
 use mathlib.Core.List.{List, [], _∷_, map}
-use Prim.Native.Nat.{ℕ, suc, _+_, _*_, _≤_, _<_, zero-le}
+use Prim.Native.Nat.{ℕ, suc, _+_, _≤_, _<_, zero-le}
 use native.Mathlib.Omega.{arith}
 use lib.ListN.{length, length-map}
 use Rattle.meaning.specs.Sets.{Rising}
 use Rattle.meaning.specs.Descriptions as D
 use Rattle.meaning.specs.Legal.{Each, LegalPair, LegalOperator, LegalTerm}
-use Rattle.table.specs.Encoded.{termFor}
-use Rattle.slots.specs.Packing.{packedTerm, termWord, kindTerm, wordTerm}
+use Rattle.table.specs.Encoded.{termFor, slotOf}
+use Rattle.slots.specs.Packing.{packedTerm, kindTerm, wordTerm}
 use Rattle.slots.proofs.PackedKinds.{wordTerm-small}
 
 -- Strictly ascending numbers below m are at most m.
@@ -28,26 +28,25 @@ lefts m (p ∷ ps) h = (h .0 .0, lefts m ps (h .1))
 pub rising-pairs : (m : ℕ) (ps : List D.Pair) → Each (LegalPair m) ps → Rising (map (λ p. p .left) ps) → length ps ≤ m
 rising-pairs m ps low up = omega (arith, rising-few m (map (λ p. p .left) ps) up (lefts m ps low), length-map ps (λ (p : D.Pair). p .left))
 
--- The terms of a legal description: every number of theirs is small.
-module _ (d : D.Description) (narrow : D.names d ≤ 12) (few : D.equations d ≤ 16) (n : ℕ) (h : n < 96) where
-  listed-back : (k u entries : ℕ) → k < 32 → u < n → entries ≤ 32 → wordTerm (packedTerm k (32 * n) u entries) ≡ kindTerm k (32 * n) u entries
-  listed-back k u entries s b e = wordTerm-small k (32 * n) u entries s (omega arith) (omega arith) (omega arith)
+-- The terms of a legal description: every number of theirs is small. The list is that of the number asked for.
+module _ (d : D.Description) (narrow : D.names d ≤ 12) (few : D.equations d ≤ 16) (n : ℕ) (h : n < 96) (m : ℕ) where
+  listed-back : (k u entries : ℕ) → k < 32 → u < n → entries ≤ 32 → wordTerm m (packedTerm k 0 u entries) ≡ kindTerm m k 0 u entries
+  listed-back k u entries s b e = wordTerm-small m k 0 u entries s (omega arith) (omega arith) (omega arith)
 
-  wrap-back : (o : D.Operator) (u : ℕ) → u < n → LegalOperator (D.names d) o
-      → wordTerm (termWord (termFor n (D.wrap o u))) ≡ termFor n (D.wrap o u)
+  wrap-back : (o : D.Operator) (u : ℕ) → u < n → LegalOperator (D.names d) o → wordTerm m (slotOf (D.wrap o u)) ≡ termFor m (D.wrap o u)
   wrap-back (D.block ns) u b l = listed-back 12 u (length ns) (omega arith) b (omega (arith, rising-few (D.names d) ns (l .2) (l .1)))
   wrap-back (D.hide ns) u b l = listed-back 13 u (length ns) (omega arith) b (omega (arith, rising-few (D.names d) ns (l .2) (l .1)))
   wrap-back (D.rename ps) u b l = listed-back 14 u (length ps) (omega arith) b (omega (arith, rising-pairs (D.names d) ps (l .1) (l .2)))
   wrap-back (D.comm rs) u b l = listed-back 15 u (length rs) (omega arith) b (omega (arith, l .1))
   wrap-back (D.allow ls) u b l = listed-back 16 u (length ls) (omega arith) b (omega (arith, l .0))
 
-  two-back : (k t u : ℕ) → k < 32 → (t < n) × (u < n) → wordTerm (packedTerm k t u 0) ≡ kindTerm k t u 0
-  two-back k t u s b = wordTerm-small k t u 0 s (omega (arith, b .0)) (omega (arith, b .1)) (omega arith)
+  two-back : (k t u : ℕ) → k < 32 → (t < n) × (u < n) → wordTerm m (packedTerm k t u 0) ≡ kindTerm m k t u 0
+  two-back k t u s b = wordTerm-small m k t u 0 s (omega (arith, b .0)) (omega (arith, b .1)) (omega arith)
 
-  one-back : (k u : ℕ) → k < 32 → u < 96 → wordTerm (packedTerm k 0 u 0) ≡ kindTerm k 0 u 0
-  one-back k u s b = wordTerm-small k 0 u 0 s (omega arith) (omega arith) (omega arith)
+  one-back : (k u : ℕ) → k < 32 → u < 96 → wordTerm m (packedTerm k 0 u 0) ≡ kindTerm m k 0 u 0
+  one-back k u s b = wordTerm-small m k 0 u 0 s (omega arith) (omega arith) (omega arith)
 
-  pub term-back : (t : D.Term) → LegalTerm d n t → wordTerm (termWord (termFor n t)) ≡ termFor n t
+  pub term-back : (t : D.Term) → LegalTerm d n t → wordTerm m (slotOf t) ≡ termFor m t
   unfolding wordTerm
   term-back (D.act a) l = one-back 2 a (omega arith) (omega arith)
   term-back D.tau l = refl

@@ -1,4 +1,4 @@
--- Which description a table and its list store stand for.
+-- What the words of a table and its lists say.
 -- Assumes nothing.
 use mathlib.Core.List.{List, [], _∷_, map}
 use mathlib.Core.Bool.{true, false}
@@ -20,18 +20,18 @@ unfoldable pub nameOf : ℕ → ℕ → Text
 nameOf zero w = []
 nameOf (suc more) w = elim (eqb w 0) [ true ↦ [] | false ↦ w % 256 ∷ nameOf more (w / 256) ]
 
--- Lists in the store: a name is one word and a label one word; the pair a>b is the word a + 32 b; a rule is two words, the left
--- label first.
+-- Lists, 32 words for each term: a name is one word and a label one word; the pair a>b is the word a + 32 b; a rule is two words, the
+-- left label first.
 abbrev pub wordsAt : List ℕ → Place → ℕ → List ℕ
-wordsAt store p size = take (p .entries * size) (drop (p .at) store)
+wordsAt lists p size = take (p .entries * size) (drop (32 * p .at) lists)
 
 -- the words of an operator's list
 abbrev pub listIn : List ℕ → Operator → List ℕ
-listIn store (Block p) = wordsAt store p 1
-listIn store (Hide p) = wordsAt store p 1
-listIn store (Rename p) = wordsAt store p 1
-listIn store (Comm p) = wordsAt store p 2
-listIn store (Allow p) = wordsAt store p 1
+listIn lists (Block p) = wordsAt lists p 1
+listIn lists (Hide p) = wordsAt lists p 1
+listIn lists (Rename p) = wordsAt lists p 1
+listIn lists (Comm p) = wordsAt lists p 2
+listIn lists (Allow p) = wordsAt lists p 1
 
 unfoldable pub rulesOf : ℕ → List ℕ → List D.Rule
 rulesOf names [] = []
@@ -39,23 +39,23 @@ rulesOf names (a ∷ []) = []
 rulesOf names (a ∷ b ∷ ws) = record { left = labelOf names a; right = b } ∷ rulesOf names ws
 
 abbrev pub operatorOf : ℕ → List ℕ → Operator → D.Operator
-operatorOf names store (Block p) = D.block (wordsAt store p 1)
-operatorOf names store (Hide p) = D.hide (wordsAt store p 1)
-operatorOf names store (Rename p) = D.rename (pairsIn (wordsAt store p 1))
-operatorOf names store (Comm p) = D.comm (rulesOf names (wordsAt store p 2))
-operatorOf names store (Allow p) = D.allow (map (labelOf names) (wordsAt store p 1))
+operatorOf names lists (Block p) = D.block (wordsAt lists p 1)
+operatorOf names lists (Hide p) = D.hide (wordsAt lists p 1)
+operatorOf names lists (Rename p) = D.rename (pairsIn (wordsAt lists p 1))
+operatorOf names lists (Comm p) = D.comm (rulesOf names (wordsAt lists p 2))
+operatorOf names lists (Allow p) = D.allow (map (labelOf names) (wordsAt lists p 1))
 
 abbrev pub termOf : ℕ → List ℕ → Term → D.Term
-termOf names store Delta = D.delta
-termOf names store Tau = D.tau
-termOf names store (Act n) = D.act n
-termOf names store (Ref e) = D.ref e
-termOf names store (Sum t) = D.sum t
-termOf names store (Cond t) = D.cond t
-termOf names store (Choice t u) = D.choice t u
-termOf names store (IfElse t u) = D.ifelse t u
-termOf names store (Seq t u) = D.seq t u
-termOf names store (Merge t u) = D.merge t u
-termOf names store (LMerge t u) = D.lmerge t u
-termOf names store (Sync t u) = D.sync t u
-termOf names store (Wrap o t) = D.wrap (operatorOf names store o) t
+termOf names lists Delta = D.delta
+termOf names lists Tau = D.tau
+termOf names lists (Act n) = D.act n
+termOf names lists (Ref e) = D.ref e
+termOf names lists (Sum t) = D.sum t
+termOf names lists (Cond t) = D.cond t
+termOf names lists (Choice t u) = D.choice t u
+termOf names lists (IfElse t u) = D.ifelse t u
+termOf names lists (Seq t u) = D.seq t u
+termOf names lists (Merge t u) = D.merge t u
+termOf names lists (LMerge t u) = D.lmerge t u
+termOf names lists (Sync t u) = D.sync t u
+termOf names lists (Wrap o t) = D.wrap (operatorOf names lists o) t

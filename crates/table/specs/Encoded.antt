@@ -1,7 +1,6 @@
--- Which table and list store stand for a description, as reading makes them: the list of term t from word 32 t on, the order's
--- from word 3,072 on, 3,104 words in all, and everything that is not used 0 or deadlock.
+-- The words of a description's names, terms and lists.
 -- Assumes nothing.
-use mathlib.Core.List.{List, [], _∷_, _++_, map}
+use mathlib.Core.List.{List, [], _∷_, map}
 use Prim.Native.Nat.{ℕ, zero, suc, _+_, _*_}
 use lib.ListN.{length}
 use Rattle.slots.specs.declared.Place.{Place}
@@ -11,7 +10,6 @@ use Rattle.slots.specs.declared.Term.{Term}
 use Rattle.slots.specs.declared.Term.the-variants.{Delta, Tau, Act, Ref, Sum, Cond, Choice, IfElse, Seq, Merge, LMerge, Sync, Wrap}
 use Rattle.table.specs.declared.Order.{Order}
 use Rattle.table.specs.declared.Order.the-variants.{All, Only}
-use Rattle.table.specs.declared.Table.{Table}
 use Rattle.slots.specs.Packing.{termWord}
 use Rattle.meaning.specs.Bytes.{Text}
 use Rattle.meaning.specs.Labels.{number}
@@ -59,16 +57,9 @@ abbrev pub orderWords : D.Order → List ℕ
 orderWords D.all = []
 orderWords (D.only ls) = map number ls
 
-unfoldable pub termsWords : List D.Term → List ℕ
-termsWords [] = []
-termsWords (t ∷ ts) = filled 32 0 (termWords t) ++ termsWords ts
-
-unfoldable pub storeOf : D.Description → D.Order → List ℕ
-storeOf d o = filled 3072 0 (termsWords (d .terms)) ++ filled 32 0 (orderWords o)
-
--- The table.
+-- A term as the code looks at it, by its number: its list is the one of that number.
 abbrev pub listPlace : {A : Type 0} → ℕ → List A → Place
-listPlace n xs = record { at = 32 * n; entries = length xs }
+listPlace n xs = record { at = n; entries = length xs }
 
 abbrev pub operatorFor : ℕ → D.Operator → Operator
 operatorFor n (D.block ns) = Block (listPlace n ns)
@@ -92,26 +83,11 @@ termFor n (D.lmerge t u) = LMerge t u
 termFor n (D.sync t u) = Sync t u
 termFor n (D.wrap o t) = Wrap (operatorFor n o) t
 
-unfoldable pub slotsFrom : ℕ → List D.Term → List ℕ
-slotsFrom n [] = []
-slotsFrom n (t ∷ ts) = termWord (termFor n t) ∷ slotsFrom (suc n) ts
+-- its word, in which its number is not
+abbrev pub slotOf : D.Term → ℕ
+slotOf t = termWord (termFor 0 t)
 
+-- The order, whose list is the first of its own words.
 abbrev pub orderFor : D.Order → Order
 orderFor D.all = All
-orderFor (D.only ls) = Only (listPlace 96 ls)
-
-unfoldable pub tableOf : D.Description → Table
-tableOf d =
-    record {
-      names = filled 12 0 (map wordOf (d .words));
-      named = length (d .words);
-      bodies = filled 16 0 (d .bodies);
-      equations = length (d .bodies);
-      slots = filled 96 0 (slotsFrom 0 (d .terms));
-      terms = length (d .terms);
-      root = d .root;
-    }
-
--- nothing described: what stands in the table after a refusal
-abbrev pub blank : D.Description
-blank = record { words = []; terms = []; bodies = []; root = 0 }
+orderFor (D.only ls) = Only (listPlace 0 ls)

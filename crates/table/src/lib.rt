@@ -1,12 +1,17 @@
 // The table of a description: what reading makes of a text, and what the sets are worked out from.
 //
-// Terms stand in slots, each packed in a word as the crate `slots` says. Their lists stand in a list store beside the table. The
-// order is kept beside the table too.
+// A table is a lent slice of words, and its lists are another: docs/FORMAT.md has the layout, the constants below give it. Words that are
+// not used may be anything. A name is at most eight bytes, packed in a word, the first byte lowest. A term is packed in a word as the
+// crate `slots` says. The order is kept in words of its own.
 pub mod lists;
 
+use crate::lists::part_of;
+use areas::word_at;
 use slots::Place;
 ghost use mathlib.Core.Path.{_≡_};
-ghost use Rattle.table.specs.Encoded.{blank, tableOf};
+ghost use Prim.Native.Nat.{min};
+ghost use Rattle.table.specs.Encoded.{filled};
+ghost use Rattle.table.specs.Holding.{entriesIn, namesIn, bodiesIn, slotsIn, rootIn};
 
 pub const NAMES: usize = 12;
 
@@ -14,8 +19,28 @@ pub const EQUATIONS: usize = 16;
 
 pub const TERMS: usize = 96;
 
-// The words of the list store: 32 for each term, and as many for the order.
-pub const STORE_WORDS: usize = 3104;
+// The words in which the numbers of names, equations and terms and the root stand.
+pub const NAMED_AT: usize = 0;
+
+pub const EQUATED_AT: usize = 1;
+
+pub const COUNTED_AT: usize = 2;
+
+pub const ROOT_AT: usize = 3;
+
+// The first words of the names, the bodies and the terms.
+pub const NAMES_AT: usize = 4;
+
+pub const BODIES_AT: usize = 16;
+
+pub const TERMS_AT: usize = 32;
+
+// The words of a table, those of the list of a term or an order, and those of the lists of as many terms as a table has room for.
+pub const TABLE_WORDS: usize = 128;
+
+pub const LIST_WORDS: usize = 32;
+
+pub const LISTS_WORDS: usize = 3072;
 
 // What is asked for: all labels, or only those of a list.
 pub enum Order {
@@ -23,29 +48,58 @@ pub enum Order {
     Only(Place),
 }
 
-// A name is at most eight bytes, packed in a word: the first byte lowest. A term is packed in a word too, since a table is moved
-// by value.
-pub struct Table {
-    pub names: [u64; 12],
-    pub named: usize,
-    pub bodies: [usize; 16],
-    pub equations: usize,
-    pub slots: [u64; 96],
-    pub terms: usize,
-    pub root: usize,
+fn least(a: usize, b: usize) -> usize
+    ensures { λ r. ⌜ r ≡ min a b ⌝ }
+{
+    if a <= b { a } else { b }
 }
 
-// The table of a description without names, equations and terms.
-pub fn empty() -> Table
-    ensures { λ r. ⌜ r ≡ tableOf blank ⌝ }
+// So many entries as one of the first words says, from a place on, and never more than there is room for.
+fn entries_in(table: &[u64], count: usize, from: usize, most: usize) -> &[u64]
+    ensures { λ r. ⌜ now r ≡ entriesIn count from most (now (table .entry)) ⌝ }
 {
-    Table {
-        names: [0u64; 12],
-        named: 0,
-        bodies: [0usize; 16],
-        equations: 0,
-        slots: [0u64; 96],
-        terms: 0,
-        root: 0,
+    let entries = word_at(table, count) as usize;
+    part_of(table, from, least(entries, most))
+}
+
+// The names, packed.
+pub fn names_of(table: &[u64]) -> &[u64]
+    ensures { λ r. ⌜ now r ≡ namesIn (now (table .entry)) ⌝ }
+{
+    entries_in(table, NAMED_AT, NAMES_AT, NAMES)
+}
+
+// The numbers of the terms that are the bodies of equations.
+pub fn bodies_of(table: &[u64]) -> &[u64]
+    ensures { λ r. ⌜ now r ≡ bodiesIn (now (table .entry)) ⌝ }
+{
+    entries_in(table, EQUATED_AT, BODIES_AT, EQUATIONS)
+}
+
+// The packed terms.
+pub fn slots_of(table: &[u64]) -> &[u64]
+    ensures { λ r. ⌜ now r ≡ slotsIn (now (table .entry)) ⌝ }
+{
+    entries_in(table, COUNTED_AT, TERMS_AT, TERMS)
+}
+
+// The number of the term whose set is asked for.
+pub fn root_of(table: &[u64]) -> usize
+    ensures { λ r. ⌜ r ≡ rootIn (now (table .entry)) ⌝ }
+{
+    word_at(table, ROOT_AT) as usize
+}
+
+// The names with 0 behind them, as an answer is printed with them.
+pub fn names_by_value(table: &[u64]) -> [u64; NAMES]
+    ensures { λ r. ⌜ r ≡ filled 12 0 (namesIn (now (table .entry))) ⌝ }
+{
+    let given = names_of(table);
+    let mut names = [0u64; NAMES];
+    let mut i = 0;
+    while i < NAMES {
+        names[i] = word_at(given, i);
+        i += 1;
     }
+    names
 }

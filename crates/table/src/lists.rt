@@ -1,37 +1,50 @@
-// The lists of terms and orders, in the list store beside the table.
+// The lists of terms and orders.
+use crate::LIST_WORDS;
 use slots::Place;
 ghost use mathlib.Core.Path.{_≡_};
+ghost use Prim.Native.Nat.{_*_};
 ghost use lib.ListN.{take, drop};
 ghost use Rattle.table.specs.Decoded.{wordsAt};
 
-// So many words from a place on, as far as they lie in the store.
-fn part_of(store: &[u64], at: usize, count: usize) -> &[u64]
-    ensures { λ r. ⌜ now r ≡ take count (drop at (now (store .entry))) ⌝ }
+// So many words from a place on, as far as they reach.
+pub(crate) fn part_of(words: &[u64], at: usize, count: usize) -> &[u64]
+    ensures { λ r. ⌜ now r ≡ take count (drop at (now (words .entry))) ⌝ }
 {
-    if store.len() <= at {
-        return &store[..0];
+    if words.len() <= at {
+        return &words[..0];
     }
-    if count <= store.len() - at {
+    if count <= words.len() - at {
         let end = at + count;
-        return &store[at..end];
+        return &words[at..end];
     }
-    &store[at..]
+    &words[at..]
+}
+
+// So many words of a list, by its number. A list that would start past the end is empty, and its place is not worked out: the product
+// might not fit.
+fn list_part(lists: &[u64], number: usize, count: usize) -> &[u64]
+    ensures { λ r. ⌜ now r ≡ take count (drop (32 * number) (now (lists .entry))) ⌝ }
+{
+    if lists.len() / LIST_WORDS < number {
+        return &lists[..0];
+    }
+    part_of(lists, LIST_WORDS * number, count)
 }
 
 // A list whose entries are names, pairs or labels: a word each.
-pub fn words_of(store: &[u64], place: Place) -> &[u64]
-    ensures { λ r. ⌜ now r ≡ wordsAt (now (store .entry)) place 1 ⌝ }
+pub fn words_of(lists: &[u64], place: Place) -> &[u64]
+    ensures { λ r. ⌜ now r ≡ wordsAt (now (lists .entry)) place 1 ⌝ }
 {
-    part_of(store, place.at, place.entries)
+    list_part(lists, place.at, place.entries)
 }
 
-// A list of rules: two words each. A list that could not lie in any store takes all there is.
-pub fn rule_words_of(store: &[u64], place: Place) -> &[u64]
-    ensures { λ r. ⌜ now r ≡ wordsAt (now (store .entry)) place 2 ⌝ }
+// A list of rules: two words each. A list that could not lie in any words takes all there is.
+pub fn rule_words_of(lists: &[u64], place: Place) -> &[u64]
+    ensures { λ r. ⌜ now r ≡ wordsAt (now (lists .entry)) place 2 ⌝ }
 {
     let entries = place.entries;
-    if entries <= store.len() {
-        return part_of(store, place.at, entries * 2);
+    if entries <= lists.len() {
+        return list_part(lists, place.at, entries * 2);
     }
-    part_of(store, place.at, store.len())
+    list_part(lists, place.at, lists.len())
 }

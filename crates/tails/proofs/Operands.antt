@@ -3,10 +3,10 @@
 use mathlib.Core.Path.{_≡_, refl, ap, subst, _∙_}
 use mathlib.Core.List.{List, [], _∷_}
 use mathlib.Core.Bool.{Bool, true, false}
-use Prim.Native.Nat.{ℕ, _≤_, _<_}
+use Prim.Native.Nat.{ℕ, _+_, _≤_, _<_}
 use native.Mathlib.Omega.{arith}
-use lib.Dec.{eqb, ltb}
-use lib.ListN.{length, drop, drop-of-length-le}
+use lib.Dec.{eqb}
+use lib.ListN.{drop}
 use borrow.Author.Tests.{lt-ltb, le-ltb}
 use Rattle.meaning.specs.Bytes.{Text}
 use Rattle.meaning.specs.Descriptions as D
@@ -16,28 +16,28 @@ use Rattle.slots.specs.declared.Term.the-variants.{Delta, Tau, Act, Ref, Sum, C
 use Rattle.table.specs.Terms.{IsPlain, bareTerm}
 use Rattle.table.specs.Encoded.{termWords, termFor}
 use Rattle.slots.specs.Packing.{plainOf}
-use Rattle.grammar.specs.Text.{Past, past, stuck, onward, ended, starts, literal, number, word}
+use Rattle.grammar.specs.Text.{Past, past, stuck, onward, lf, ended, starts, literal, number, word}
 use Rattle.grammar.specs.Forms.{Line, plain, acts, space, alone, ofName, ofOne, ofTwo}
 use Rattle.grammar.specs.Faults.{wordsOfFault}
 use Rattle.faults.specs.CodedFaults.{foundOf}
 use Rattle.words.specs.Steps.{Stands}
-use Rattle.words.proofs.Rests.{rest-cons, literal-other, literal-more}
+use Rattle.words.proofs.Rests.{sign-within, literal-other, literal-more}
 use Rattle.words.proofs.Steps.{onward-assoc, back-stuck, back-past}
-use Rattle.entries.specs.Entries.{saidOf, seen, nameEntry}
-use Rattle.entries.specs.declared.Said as C
+use Rattle.lists.specs.Entries.{saidOf, seen, nameEntry}
+use Rattle.lists.specs.declared.Said as C
 use Rattle.lists.specs.Lists.{overlaid}
 use Rattle.tails.specs.Lines.{LineTerm, LineRead, Storeless}
 use Rattle.tails.specs.Plains.{PlainRead, madeOf, plainTail}
 use Rattle.tails.specs.declared.TermStep.{TermStep}
 use Rattle.tails.specs.declared.TermStep.the-variants as T
 
-pub ended-none : (line : Text) (at : ℕ) → length line ≤ at → past tt [] ≡ ended (drop at line)
-unfolding ended
-ended-none line at h = rw (drop-of-length-le line h)
+-- The LF that ends the line, or anything else.
+pub ended-here : (text : Text) (at : ℕ) → starts lf (drop at text) ≡ true → past tt (drop (at + 1) text) ≡ ended (drop at text)
+unfolding literal
+ended-here text at f = literal-more lf [] text at f
 
-pub ended-some : (line : Text) (at : ℕ) → at < length line → stuck (drop at line) ≡ ended (drop at line)
-unfolding ended
-ended-some line at h = rw (rest-cons line at h)
+pub ended-not : (text : Text) (at : ℕ) → starts lf (drop at text) ≡ false → stuck (drop at text) ≡ ended (drop at text)
+ended-not text at f = literal-other lf [] (drop at text) f
 
 -- the kinds without a list are plain
 pick-plain : (b : Bool) (x y : Term) → IsPlain x → IsPlain y → IsPlain (pick b x y)
@@ -95,10 +95,11 @@ over-nothing store = refl
 
 plain-line : (words : List Text) (line : Text) (due : Past Line) (r : TermStep) → PlainRead line due r → Storeless words line due r
 unfolding wordsOfFault
-plain-line words line due (T.To x f) h n store =
+plain-line words line due (T.To x f took) h n store =
     record {
       line = plain (bareTerm x);
       says = h .says;
+      within = h .within;
       term = plain-bare n x (h .plainly) .0;
       faults = ap foundOf (h .fault-free);
       stored = λ _. rw (plain-bare n x (h .plainly) .1) (over-nothing store);
@@ -159,15 +160,17 @@ module _ (words : List Text) (line : Text) where
       ends : {x : Past (Unit {0})} → x ≡ ended (drop next line) → onward x (λ _ p. past (acts (name .0)) p) ≡ ofName line
       ends k = beyond (ap (λ d. onward d (λ _ p. past (acts (name .0)) p)) k ∙ ap (λ d. onward d after-name) (name .1))
 
-      pub act-no-end : next < length line → Stands line next (stuck (drop next line)) (ofName line)
-      act-no-end k = record { says = ends (ended-some line next k); within = s .within }
+      pub act-no-end : starts lf (drop next line) ≡ false → Stands line next (stuck (drop next line)) (ofName line)
+      act-no-end k = record { says = ends (ended-not line next k); within = s .within }
 
-      pub act-line : (n : ℕ) (store : List ℕ) → length line ≤ next → LineTerm words n (ofName line) store store (Act (e .first)) (e .fault)
+      pub act-line : (n : ℕ) (store : List ℕ) → starts lf (drop next line) ≡ true
+          → LineTerm words n line (ofName line) store store (Act (e .first)) (e .fault) (next + 1)
       unfolding wordsOfFault
       act-line n store k =
           record {
             line = acts (name .0);
-            says = ends (ended-none line next k);
+            says = ends (ended-here line next k);
+            within = omega (arith, sign-within lf line next k);
             term = ap (λ d. Act (d .first)) (name .2);
             faults = ap (λ d. d .found) (name .2);
             stored = λ _. over-nothing store;

@@ -3,7 +3,8 @@
 use mathlib.Core.Path.{_≡_, refl, sym, ap, _∙_}
 use mathlib.Core.Bool.{Bool, true, false}
 use mathlib.Core.List.{List, [], _∷_, map}
-use Prim.Native.Nat.{ℕ, suc, _+_, _*_, _≤_, _<_}
+use Prim.Native.Nat.{ℕ, suc, _+_, _≤_}
+use native.Mathlib.Omega.{arith}
 use lib.Dec.{eqb}
 use lib.ListN.{length, drop, length-map}
 use borrow.Author.Tests.{ne-eqb}
@@ -15,27 +16,27 @@ use Rattle.slots.specs.declared.Term.the-variants.{Wrap}
 use Rattle.table.specs.Encoded.{operatorWords, operatorFor}
 use Rattle.meaning.specs.Rounds.{pick}
 use Rattle.slots.specs.Packing.{operatorAt}
-use Rattle.grammar.specs.Text.{Past, past, stuck, onward, sameText, ended, starts, literal, word}
+use Rattle.grammar.specs.Text.{Past, past, stuck, onward, isRest, lf, ended, starts, literal, word}
 use Rattle.grammar.specs.Forms.{Line, wraps, Parts, comma, space, pair, rule, label, labelList, ofList}
 use Rattle.grammar.specs.Faults.{fine, worst, wordsOfFault, labelFault, ruleFault, rulesFault, labelsFault, listFault}
 use Rattle.grammar.specs.Faults.{operatorSaid, nameNumber, pairSaid, ruleSaid, labelSaid}
-use Rattle.entries.specs.Tallies.{Said}
+use Rattle.lists.specs.Tallies.{Said}
 use Rattle.words.specs.Steps.{Stands}
-use Rattle.entries.specs.Entries.{saidPlace, saidOf, nameEntry, pairEntry, ruleEntry, labelEntry}
+use Rattle.lists.specs.Entries.{saidPlace, saidOf, nameEntry, pairEntry, ruleEntry, labelEntry}
 use Rattle.lists.specs.Lists.{listFaults, listEntry, listWords, listOf, unlessNone, wholeList, overlaid, ListRead}
 use Rattle.tails.specs.Lines.{LineTerm}
 use Rattle.tails.specs.Wraps.{WrapKind, Block, Hide, Rename, Comm, Allow, wrapOf, listKind, ContentsOf, contents, wrapListed}
-use Rattle.entries.specs.declared.Said as C
-use Rattle.entries.specs.declared.SaidStep.{SaidStep}
-use Rattle.entries.specs.declared.SaidStep.the-variants as S
-use Rattle.entries.specs.declared.ListKind.{ListKind}
-use Rattle.entries.specs.declared.ListKind.the-variants.{Labels}
-use Rattle.words.proofs.Rests.{literal-other, literal-more}
+use Rattle.lists.specs.declared.Said as C
+use Rattle.lists.specs.declared.SaidStep.{SaidStep}
+use Rattle.lists.specs.declared.SaidStep.the-variants as S
+use Rattle.lists.specs.declared.ListKind.{ListKind}
+use Rattle.lists.specs.declared.ListKind.the-variants.{Labels}
+use Rattle.words.proofs.Rests.{sign-within, literal-other, literal-more}
 use Rattle.words.proofs.Steps.{onward-assoc, shifted, stops, goes, become, back-stuck, back-past}
-use Rattle.entries.proofs.Seen.{carried, said-went, said-stays, said-within}
-use Rattle.entries.proofs.Gathered.{all-too}
-use Rattle.entries.proofs.Parts.{worse-none}
-use Rattle.tails.proofs.Operands.{ended-none, ended-some, operand}
+use Rattle.lists.proofs.Seen.{carried, said-went, said-stays, said-within}
+use Rattle.lists.proofs.Gathered.{all-too}
+use Rattle.lists.proofs.Parts.{worse-none}
+use Rattle.tails.proofs.Operands.{ended-here, ended-not, operand}
 use Rattle.lists.proofs.Contents.{names-faults, pairs-faults, rules-faults, labels-faults, names-words, pairs-words, rules-words, labels-words}
 
 -- the operator of a kind with its list's place
@@ -65,8 +66,8 @@ entries Rename words ps = map (pairEntry words) ps
 entries Comm words rs = map (ruleEntry words) rs
 entries Allow words ls = map (labelEntry words) ls
 
-labels-too : (words : List Text) (s : Text) (t : Bool) → sameText s (ascii "none") ≡ t
-    → unlessNone t (listOf words Labels s) ≡ onward (labelList s) (λ ls o. past (map (labelEntry words) ls) o)
+labels-too : (words : List Text) (s : Text) (t : Bool) → isRest (ascii "none") s ≡ t
+    → unlessNone t s (listOf words Labels s) ≡ onward (labelList s) (λ ls o. past (map (labelEntry words) ls) o)
 unfolding labelList
 labels-too words s true e = rw (e, labelList)
 labels-too words s false e = rw (e, labelList) (all-too (labelEntry words) comma label (suc (length s)) s)
@@ -76,7 +77,7 @@ listed-entries Block words s = all-too (nameEntry words) comma word (suc (length
 listed-entries Hide words s = all-too (nameEntry words) comma word (suc (length s)) s
 listed-entries Rename words s = all-too (pairEntry words) comma pair (suc (length s)) s
 listed-entries Comm words s = all-too (ruleEntry words) comma rule (suc (length s)) s
-listed-entries Allow words s = labels-too words s (sameText s (ascii "none")) refl
+listed-entries Allow words s = labels-too words s (isRest (ascii "none") s) refl
 
 pub listed-faults : (w : WrapKind) (words : List Text) (c : ContentsOf w) → listFaults (listKind w) (entries w words c) ≡ listFault words (wrapListed w c)
 listed-faults Block words c = sym (names-faults words c)
@@ -105,7 +106,7 @@ same-length : {A B D : Type 0} (f : A → B) (g : A → D) (xs : List A) → len
 same-length f g xs = length-map xs f ∙ sym (length-map xs g)
 
 pub listed-operator : (w : WrapKind) (words : List Text) (n : ℕ) (c : ContentsOf w)
-    → wrappedOf w (record { at = 32 * n; entries = length (entries w words c) }) ≡ operatorFor n (operatorSaid words (wrapListed w c))
+    → wrappedOf w (record { at = n; entries = length (entries w words c) }) ≡ operatorFor n (operatorSaid words (wrapListed w c))
 listed-operator Block words n c = rw (same-length (nameEntry words) (nameNumber words) c)
 listed-operator Hide words n c = rw (same-length (nameEntry words) (nameNumber words) c)
 listed-operator Rename words n c = rw (same-length (pairEntry words) (pairSaid words) c)
@@ -184,24 +185,26 @@ module _ (w : WrapKind) (words : List Text) (line : Text) where
         abbrev end : ContentsOf w → Unit {0} → Text → Past Line
         end c u m = past (wraps (wrapListed w c) t) m
 
-        pub no-end : from + 1 + n < length line → Stands line (from + 1 + n) (stuck (drop (from + 1 + n) line)) Due
+        pub no-end : starts lf (drop (from + 1 + n) line) ≡ false → Stands line (from + 1 + n) (stuck (drop (from + 1 + n) line)) Due
         no-end k =
             let c = wrap-went w words line (from + 1) i list g in
-            beyond (ap (λ d. onward d (end (c .0))) (ended-some line (from + 1 + n) k) ∙ ap (λ d. onward d (after-list w t)) (c .1))
+            beyond (ap (λ d. onward d (end (c .0))) (ended-not line (from + 1 + n) k) ∙ ap (λ d. onward d (after-list w t)) (c .1))
             (inside (sym (ap saidPlace g)))
 
-        pub wrap-line : (number : ℕ) {o : Operator} → length line ≤ from + 1 + n → o ≡ wrappedOf w (record { at = 32 * number; entries = said .first })
-            → LineTerm words number Due before after (Wrap o t) (said .fault)
+        pub wrap-line : (number : ℕ) {o : Operator} → starts lf (drop (from + 1 + n) line) ≡ true
+            → o ≡ wrappedOf w (record { at = number; entries = said .first })
+            → LineTerm words number line Due before after (Wrap o t) (said .fault) (from + 1 + n + 1)
         unfolding wordsOfFault
         wrap-line number k o =
             let c = wrap-went w words line (from + 1) i list g in
-            let ending = ap (λ d. onward d (end (c .0))) (ended-none line (from + 1 + n) k) ∙ ap (λ d. onward d (after-list w t)) (c .1) in
+            let ending = ap (λ d. onward d (end (c .0))) (ended-here line (from + 1 + n) k) ∙ ap (λ d. onward d (after-list w t)) (c .1) in
             record {
               line = wraps (wrapListed w (c .0)) t;
               says = beyond ending (inside (sym (ap saidPlace g))) .says;
+              within = omega (arith, sign-within lf line (from + 1 + n) k);
               term =
                   ap (λ p. Wrap p t)
-                  (o ∙ ap (λ i. wrappedOf w (record { at = 32 * number; entries = i })) (ap (λ d. d .first) (c .2)) ∙ listed-operator w words number (c .0));
+                  (o ∙ ap (λ i. wrappedOf w (record { at = number; entries = i })) (ap (λ d. d .first) (c .2)) ∙ listed-operator w words number (c .0));
               faults = ap (λ d. d .found) (c .2) ∙ listed-faults w words (c .0);
               stored = λ z. c .3 ∙ ap (λ ws. overlaid ws before) (listed-words w words (c .0) z);
             }

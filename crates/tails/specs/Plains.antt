@@ -1,10 +1,9 @@
 -- The kinds without a list.
 -- Assumes nothing.
 use mathlib.Core.Path.{_≡_}
-use mathlib.Core.List.{[]}
-use Prim.Native.Nat.{ℕ}
+use Prim.Native.Nat.{ℕ, _≤_}
 use lib.Dec.{ltb}
-use lib.ListN.{drop}
+use lib.ListN.{length, drop}
 use Rattle.meaning.specs.Bytes.{Text}
 use Rattle.meaning.specs.Descriptions as D
 use Rattle.meaning.specs.Rounds.{pick}
@@ -20,14 +19,15 @@ use Rattle.tails.specs.declared.TermStep.{TermStep}
 use Rattle.tails.specs.declared.TermStep.the-variants as T
 
 -- A term of numbers alone: there is no name and no list in it that could have a fault.
-pub record PlainTerm (due : Past Line) (x : Term) (f : G.Found) : Type 0 where
-  pub says : past (plain (bareTerm x)) [] ≡ due
+pub record PlainTerm (text : Text) (due : Past Line) (x : Term) (f : G.Found) (took : ℕ) : Type 0 where
+  pub says : past (plain (bareTerm x)) (drop took text) ≡ due
+  pub within : took ≤ length text
   pub fault-free : f ≡ Fine
   pub plainly : IsPlain x
 
 abbrev pub PlainRead : Text → Past Line → TermStep → Type 0
-PlainRead line due (T.To x f) = PlainTerm due x f
-PlainRead line due (T.Stuck p) = Stands line p (stuck (drop p line)) due
+PlainRead text due (T.To x f took) = PlainTerm text due x f took
+PlainRead text due (T.Stuck p) = Stands text p (stuck (drop p text)) due
 
 -- The kinds with one number and with two, which the table counts by their places among all kinds: by the last number, and one
 -- before it for the kinds with two.

@@ -1,7 +1,7 @@
 -- The kinds with a list.
 -- Assumes nothing.
 use mathlib.Core.List.{List}
-use Prim.Native.Nat.{ℕ, _*_}
+use Prim.Native.Nat.{ℕ}
 use lib.Dec.{eqb}
 use Rattle.meaning.specs.Bytes.{Text}
 use Rattle.meaning.specs.Rounds.{pick}
@@ -10,9 +10,9 @@ use Rattle.slots.specs.declared.Term.the-variants.{Wrap}
 use Rattle.grammar.specs.Text.{Past, separated}
 use Rattle.grammar.specs.Forms as F
 use Rattle.grammar.specs.Forms.{Listed, Parts, WordPair, WordRule, comma, wordList, pair, rule, labelList}
-use Rattle.entries.specs.declared.Said.{Said}
-use Rattle.entries.specs.declared.ListKind.{ListKind}
-use Rattle.entries.specs.declared.ListKind.the-variants.{Names, Pairs, Rules, Labels}
+use Rattle.lists.specs.declared.Said.{Said}
+use Rattle.lists.specs.declared.ListKind.{ListKind}
+use Rattle.lists.specs.declared.ListKind.the-variants.{Names, Pairs, Rules, Labels}
 use Rattle.tails.specs.declared.TermStep.{TermStep}
 use Rattle.tails.specs.declared.TermStep.the-variants as T
 
@@ -52,5 +52,5 @@ wrapListed Comm rs = F.comm rs
 wrapListed Allow ls = F.allow ls
 
 -- the term of a kind with a list, at its number, with the list's fault
-abbrev pub wrapStep : ℕ → ℕ → ℕ → Said → TermStep
-wrapStep k t n said = T.To (Wrap (operatorAt k (record { at = 32 * n; entries = said .first })) t) (said .fault)
+abbrev pub wrapStep : ℕ → ℕ → ℕ → Said → ℕ → TermStep
+wrapStep k t n said took = T.To (Wrap (operatorAt k (record { at = n; entries = said .first })) t) (said .fault) took

@@ -1,6 +1,6 @@
-// The tails of term lines: what follows the word of a kind, up to the end of the line.
+// The tails of term lines: what follows the word of a kind, with the LF that ends the line.
 //
-// As in `words`, what is lent is the rest of a line, and an answer that is stuck says after how many bytes.
+// As in `words`, what is lent is the rest of the text, and an answer says how many bytes it took or after how many it is stuck.
 mod plains;
 mod wraps;
 
@@ -10,23 +10,19 @@ use crate::wraps::read_wrap;
 use faults::Found;
 use slots::Term;
 use table::NAMES;
-use table::TERMS;
 
-// A term with its fault, or the place where the line is stuck.
+// A term with its fault and how many bytes its line took, the LF included; or after how many bytes the line was stuck.
 pub enum TermStep {
-    To(Term, Found),
+    To(Term, Found, usize),
     Stuck(usize),
 }
 
 // What follows the word of the kind at a place among the kinds: the term at a number, its list's words put into the store.
-// With more names than a description has, or at a number that no term has, nothing is read.
+// With more names than a description has nothing is read.
 pub fn read_tail(k: usize, rest: &[u8], names: &[u64], n: usize, store: &mut [u64]) -> TermStep
     ensures { λ r. ⌜ TailRead (now (names .entry)) n k (now (rest .entry)) (now (store .entry)) (now (store .exit)) r ⌝ }
 {
     if NAMES < names.len() {
-        return TermStep::Stuck(0);
-    }
-    if TERMS <= n {
         return TermStep::Stuck(0);
     }
     if k < 12 {

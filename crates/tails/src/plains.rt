@@ -10,10 +10,10 @@ ghost use Rattle.words.specs.Steps.{Steps};
 ghost use Rattle.tails.specs.Lines.{Storeless};
 ghost use Rattle.tails.specs.Plains.{PlainRead, madeOf, plainTail};
 use crate::TermStep;
-use entries::SaidStep;
-use entries::read_name;
-use entries::said_stuck_at;
 use faults::Found;
+use lists::SaidStep;
+use lists::read_name;
+use lists::said_stuck_at;
 use slots::Term;
 use slots::packing::plain;
 use words::Step;
@@ -22,22 +22,22 @@ use words::numbers::number_after;
 use words::stuck_at;
 
 // A term with nothing after it.
-fn finish(line: &[u8], at: usize, x: Term) -> TermStep
-    requires { ⌜ (at ≤ length (now line)) × IsPlain x ⌝ }
-    ensures { λ r. ⌜ PlainRead (now (line .entry)) (onward (ended (drop at (now (line .entry)))) (λ _ s. past (plain (bareTerm x)) s)) r ⌝ }
+fn finish(rest: &[u8], at: usize, x: Term) -> TermStep
+    requires { ⌜ (at ≤ length (now rest)) × IsPlain x ⌝ }
+    ensures { λ r. ⌜ PlainRead (now (rest .entry)) (onward (ended (drop at (now (rest .entry)))) (λ _ s. past (plain (bareTerm x)) s)) r ⌝ }
 {
-    if at < line.len() {
+    if !sign_at(rest, at, b'\n') {
         return TermStep::Stuck(at);
     }
-    TermStep::To(x, Found::Fine)
+    TermStep::To(x, Found::Fine, at + 1)
 }
 
-// A number after a space, at a place of the line; the answer's place is one of the line too.
-fn read_operand(line: &[u8], at: usize) -> Step
-    requires { ⌜ at ≤ length (now line) ⌝ }
-    ensures { λ r. ⌜ Steps (λ n. n) (now (line .entry)) r (onward (byte space (drop at (now (line .entry)))) (λ _ s. number s)) ⌝ }
+// A number after a space, at a place of what is lent; the answer's place is one of that too.
+fn read_operand(rest: &[u8], at: usize) -> Step
+    requires { ⌜ at ≤ length (now rest) ⌝ }
+    ensures { λ r. ⌜ Steps (λ n. n) (now (rest .entry)) r (onward (byte space (drop at (now (rest .entry)))) (λ _ s. number s)) ⌝ }
 {
-    let read = number_after(&line[at..], b' ');
+    let read = number_after(&rest[at..], b' ');
     let Step::To(n, bytes) = read else {
         return Step::Stuck(at + stuck_at(read));
     };
@@ -45,15 +45,15 @@ fn read_operand(line: &[u8], at: usize) -> Step
 }
 
 // The last number of a line, or the only one. A kind has the same number here, by its word's place, as in the table.
-fn read_last(k: usize, t: usize, line: &[u8], at: usize) -> TermStep
-    requires { ⌜ at ≤ length (now line) ⌝ }
-    ensures { λ r. ⌜ PlainRead (now (line .entry)) (ofOne (madeOf k t) (drop at (now (line .entry)))) r ⌝ }
+fn read_last(k: usize, t: usize, rest: &[u8], at: usize) -> TermStep
+    requires { ⌜ at ≤ length (now rest) ⌝ }
+    ensures { λ r. ⌜ PlainRead (now (rest .entry)) (ofOne (madeOf k t) (drop at (now (rest .entry)))) r ⌝ }
 {
-    let last = read_operand(line, at);
+    let last = read_operand(rest, at);
     let Step::To(u, next) = last else {
         return TermStep::Stuck(stuck_at(last));
     };
-    finish(line, next, plain(k, t, u as usize))
+    finish(rest, next, plain(k, t, u as usize))
 }
 
 // Two numbers.
@@ -79,11 +79,11 @@ fn read_act(rest: &[u8], names: &[u64]) -> TermStep
         return TermStep::Stuck(1 + said_stuck_at(name));
     };
     let next = 1 + bytes;
-    if next < rest.len() {
+    if !sign_at(rest, next, b'\n') {
         return TermStep::Stuck(next);
     }
     let fault = said.fault;
-    TermStep::To(Term::Act(said.first as usize), fault)
+    TermStep::To(Term::Act(said.first as usize), fault, next + 1)
 }
 
 // What follows the word of the kind at a place before those with a list.

@@ -1,5 +1,5 @@
 // The kinds with a list: an operand, the list and the end of the line.
-ghost use Prim.Native.Nat.{_≤_, _<_};
+ghost use Prim.Native.Nat.{_≤_};
 ghost use mathlib.Core.Path.{_≡_};
 ghost use mathlib.Core.List.{map};
 ghost use lib.ListN.{length};
@@ -8,11 +8,11 @@ ghost use Rattle.grammar.specs.Forms.{ofList};
 ghost use Rattle.tails.specs.Lines.{LineRead};
 ghost use Rattle.tails.specs.Wraps.{wrapOf, listKind, contents, wrapListed, wrapStep};
 use crate::TermStep;
-use entries::ListKind;
-use entries::Said;
-use entries::SaidStep;
-use entries::said_stuck_at;
+use lists::ListKind;
+use lists::Said;
+use lists::SaidStep;
 use lists::read_whole;
+use lists::said_stuck_at;
 use slots::Place;
 use slots::Term;
 use slots::packing::operator;
@@ -34,24 +34,22 @@ fn list_kind(k: usize) -> ListKind
     }
 }
 
-// The term of a kind with a list, at its number: the list has the words at 32 times the number.
-fn wrapped(k: usize, t: usize, n: usize, said: Said) -> TermStep
-    requires { ⌜ n < 96 ⌝ }
-    ensures { λ r. ⌜ r ≡ wrapStep k t n said ⌝ }
+// The term of a kind with a list, at its number, which is the list's too.
+fn wrapped(k: usize, t: usize, n: usize, said: Said, took: usize) -> TermStep
+    ensures { λ r. ⌜ r ≡ wrapStep k t n said took ⌝ }
 {
-    let first = 32 * n;
     let place = Place {
-        at: first,
+        at: n,
         entries: said.first as usize,
     };
     let fault = said.fault;
     let with_list = operator(k, place);
-    TermStep::To(Term::Wrap(with_list, t), fault)
+    TermStep::To(Term::Wrap(with_list, t), fault, took)
 }
 
 // What follows the word of a kind with a list.
 pub fn read_wrap(k: usize, rest: &[u8], names: &[u64], n: usize, store: &mut [u64]) -> TermStep
-    requires { ⌜ (length (now names) ≤ 12) × (n < 96) ⌝ }
+    requires { ⌜ length (now names) ≤ 12 ⌝ }
     ensures { λ r. ⌜ LineRead (map (nameOf 8) (now (names .entry))) n (now (rest .entry))
         (ofList (contents (wrapOf k)) (wrapListed (wrapOf k)) (now (rest .entry))) (now (store .entry)) (now (store .exit)) r ⌝ }
 {
@@ -69,8 +67,8 @@ pub fn read_wrap(k: usize, rest: &[u8], names: &[u64], n: usize, store: &mut [u6
         return TermStep::Stuck(behind + said_stuck_at(list));
     };
     let next = behind + taken;
-    if next < rest.len() {
+    if !sign_at(rest, next, b'\n') {
         return TermStep::Stuck(next);
     }
-    wrapped(k, t as usize, n, said)
+    wrapped(k, t as usize, n, said, next + 1)
 }

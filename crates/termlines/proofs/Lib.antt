@@ -1,7 +1,7 @@
--- The laws that the proofs of this crate's functions cite, and those of whoever reads on; each file after those that it cites.
--- term-stuck, term-fine, term-faulty, store-more, slot-more, one-more, over-free: a term's line, and one term more in its places
-pub mod Lines
--- store-short, line-in-store, terms-over, terms-start, terms-step, terms-halt, terms-end: line after line of terms
-pub mod TermsSoFar
--- terms-unique: any two results that meet the promise are equal
+-- The laws of the lines of terms; each file after those that it cites.
+-- line-stuck, line-faulty, line-fine: a term's line, by what its reader came to
+pub mod TermLines
+-- TermsSoFar, terms-start, terms-step, terms-halt, terms-end: the terms so far
+pub mod StoredTerms
+-- terms-once: any two answers that meet the promise are equal, and so are the areas where no line is bad
 pub mod Uniqueness

@@ -1,33 +1,31 @@
--- Any two results that meet the promise of `take_terms` are equal, within its limits; and so are the stores, where no line is bad.
+-- What is promised of the lines of terms settles the answer, and both areas where no line is bad.
 -- Assumes nothing.
-use mathlib.Core.Path.{_≡_, sym, ap, _∙_}
-use mathlib.Core.List.{List, []}
-use Prim.Native.Nat.{ℕ}
-use native.Mathlib.Omega.{arith}
+use mathlib.Core.Path.{_≡_, refl}
+use mathlib.Core.List.{List, [], map}
+use mathlib.Core.Logic.{Dec·and}
+use Prim.Native.Nat.{ℕ, _+_, _*_}
+use native.Mathlib.Decide.{map-dec, decLe}
+use lib.ListN.{length}
 use Rattle.meaning.specs.Bytes.{Text}
-use Rattle.meaning.specs.Descriptions as D
 use Rattle.meaning.proofs.Alike.{alike}
-use Rattle.table.specs.Encoded.{filled, termsWords, slotsFrom}
-use Rattle.grammar.specs.Reading.{Walk}
-use Rattle.textlines.specs.declared.Progress.{Progress}
-use Rattle.textlines.specs.declared.Progress.the-variants.{To, Bad}
-use Rattle.textlines.proofs.Uniqueness.{walk-unique, Where}
-use Rattle.termlines.specs.Terms.{TermsWalk}
+use Rattle.table.specs.Decoded.{nameOf}
+use Rattle.table.specs.Holding.{namesIn}
+use Rattle.grammar.specs.Reading.{takeTerm, lines}
+use Rattle.keyed.specs.declared.Progress.{Progress}
+use Rattle.sections.proofs.Uniqueness.{Where, everywhere, comes-once, given-once}
+use Rattle.termlines.specs.Terms.{TermsRoom, TermsGiven}
 
-module _ (text : Text) (due : Walk (List D.Term)) (count : ℕ) (after₁ after₂ slots₁ slots₂ : List ℕ) where
-  pub terms-unique : (r s : Progress) → TermsWalk text due count after₁ slots₁ r → TermsWalk text due count after₂ slots₂ s
-      → (r ≡ s) × (slots₁ ≡ slots₂) × Where r (after₁ ≡ after₂)
-  terms-unique (To v t) (To w u) p q =
-      let e = alike (p .says) (q .says) in
-      let x : p .terms ≡ q .terms = cc in (
-        walk-unique (λ n. p .terms) (λ n. q .terms) text count (To v t) (To w u) e (p .within) (q .within) (λ h. p .plain ∙ sym (q .plain)),
-        p .termed .kept ∙ ap (λ ts. filled 96 0 (slotsFrom 0 ts)) x ∙ sym (q .termed .kept),
-        p .termed .stored ∙ ap (λ ts. filled 3072 0 (termsWords ts)) x ∙ sym (q .termed .stored),
-      )
-  terms-unique (To v t) (Bad y m) p q = let e = alike (p .says) (q .says) in let z : _≡_ {A = ℕ} 0 1 = cc in absurd (omega arith)
-  terms-unique (Bad x l) (To w u) p q = let e = alike (p .says) (q .says) in let z : _≡_ {A = ℕ} 0 1 = cc in absurd (omega arith)
-  terms-unique (Bad x l) (Bad y m) p q = (
-    walk-unique (λ n. []) (λ n. []) text count (Bad x l) (Bad y m) (alike (p .says) (q .says)) (p .within) (q .within) tt,
-    p .cleared ∙ sym (q .cleared),
-    tt,
-  )
+room-decided : (line count : ℕ) (table lists : List ℕ) → Dec (TermsRoom line count table lists)
+room-decided line count table lists =
+    map-dec (λ x. (x .0, x .1 .0, x .1 .1 .0, x .1 .1 .1)) (λ x. (x .0, (x .1, (x .2, x .3))))
+    (Dec·and (decLe line 16) (Dec·and (decLe count 96) (Dec·and (decLe 128 (length table)) (decLe (32 * count) (length lists)))))
+
+pub terms-once : {text : Text} {line equations count : ℕ} {table lists table₁ lists₁ table₂ lists₂ : List ℕ} (r s : Progress)
+    → TermsGiven text line equations count table lists table₁ lists₁ r → TermsGiven text line equations count table lists table₂ lists₂ s
+    → (r ≡ s) × Where r ((table₁ ≡ table₂) × (lists₁ ≡ lists₂))
+terms-once {text} {line} {equations} {count} {table} {lists} r s p q =
+    let words = map (nameOf 8) (namesIn table) in
+    given-once (room-decided line count table lists)
+    (λ a b. comes-once text (lines (takeTerm words equations) count [] line text) (λ terms. line + count)
+    (λ v w ts k l. (alike (k .plain) (l .plain), (alike (k .laid) (l .laid), alike (k .listed) (l .listed)))) r s (a .came words refl) (b .came words refl))
+    (λ a b. (alike (a .answered) (b .answered), everywhere r (alike (a .tabled) (b .tabled), alike (a .listing) (b .listing)))) p q

@@ -1,2 +1,3 @@
--- What the lines of terms give, in the table and in its list store.
+-- What the lines of terms leave in a table and its lists.
+-- TermRead, TermsRead: the lines of terms; TermsRoom, TermsGiven: what is promised for areas of any lengths
 pub mod Terms

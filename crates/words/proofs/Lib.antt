@@ -5,7 +5,7 @@ pub mod Rests
 pub mod WordReading
 -- stops, goes, shifted, steps-to, steps-stuck, went-on, stays-on, onward-assoc, back-past: steps one after the other, and of the rest of a line
 pub mod Steps
--- word-name, number-here, number-later, same-literal, packed-split: names looked up by their words
+-- word-name, number-here, number-later, rest-literal, packed-split: names looked up by their words
 pub mod Looked
 -- count-unique, name-unique, passes-unique: any two results that meet a promise are equal
 pub mod Uniqueness

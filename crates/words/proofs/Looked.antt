@@ -2,19 +2,20 @@
 -- Assumes nothing.
 use mathlib.Core.Path.{_≡_, refl, sym, ap, ap₂, _∙_}
 use mathlib.Core.Bool.{Bool, true, false, _&&_, false≢true}
-use mathlib.Core.List.{List, [], _∷_, map}
+use mathlib.Core.List.{List, [], _∷_}
 use Prim.Native.Nat.{ℕ, zero, suc, _+_, _/_, _%_, _^_, _≤_, _<_}
-use native.Mathlib.Nat.{pow-suc, div-lt-iff-lt-mul, not-suc-le-zero, le-of-suc-le-suc}
+use native.Mathlib.Nat.{pow-suc, div-lt-iff-lt-mul}
 use native.Mathlib.Omega.{arith}
-use lib.Dec.{T, eqb, eqb→eq, lit<, eqb·zero-suc, eqb·suc-suc}
-use lib.ListN.{length, getD, drop, drop-of-length-le}
-use borrow.Author.Tests.{eqb-true, eqb-false, eq-eqb, ne-eqb}
+use lib.Dec.{T, eqb, eqb→eq, lit<}
+use lib.ListN.{length, getD, drop-of-length-le}
+use borrow.Author.Tests.{eqb-true, eq-eqb, ne-eqb}
 use Rattle.meaning.specs.Bytes.{Text}
 use Rattle.meaning.proofs.Tests.{and-left, and-right}
 use Rattle.table.specs.Decoded.{nameOf}
 use Rattle.table.specs.Encoded.{wordOf}
-use Rattle.grammar.specs.Text.{Past, past, stuck, sameText, literal}
+use Rattle.grammar.specs.Text.{Past, past, stuck, sameText, starts, lf, literal, isRest}
 use Rattle.grammar.specs.Faults.{nameNumber}
+use Rattle.words.specs.Searches.{numberFrom}
 use Rattle.words.proofs.Rests.{rest-cons}
 
 is-true : (b : Bool) → T b → b ≡ true
@@ -53,41 +54,32 @@ same-not v w p q d = cases (sameText (nameOf 8 v) (nameOf 8 w)) refl
     cases false e = refl
 
 module _ (names : List ℕ) (i w : ℕ) where
-  pub number-here : i < length names → getD names i 0 ≡ w → i ≡ i + nameNumber (map (nameOf 8) (drop i names)) (nameOf 8 w)
+  pub number-here : i < length names → getD names i 0 ≡ w → i ≡ numberFrom names i w
   unfolding nameNumber
   number-here h e = rw (rest-cons names i h, e, same-self (nameOf 8 w), nameNumber) (omega arith)
 
-  pub number-later : i < length names → getD names i 0 < 2 ^ 64 → w < 2 ^ 64 → (getD names i 0 ≡ w → ⊥)
-      → i + 1 + nameNumber (map (nameOf 8) (drop (i + 1) names)) (nameOf 8 w) ≡ i + nameNumber (map (nameOf 8) (drop i names)) (nameOf 8 w)
+  pub number-later : i < length names → getD names i 0 < 2 ^ 64 → w < 2 ^ 64 → (getD names i 0 ≡ w → ⊥) → numberFrom names (i + 1) w ≡ numberFrom names i w
   unfolding nameNumber
   number-later h p q d = rw (rest-cons names i h, same-not (getD names i 0) w p q d, nameNumber) (omega arith)
 
-  pub number-none : length names ≤ i → i ≡ i + nameNumber (map (nameOf 8) (drop i names)) (nameOf 8 w)
+  pub number-none : length names ≤ i → i ≡ numberFrom names i w
   unfolding nameNumber
   number-none h = rw (drop-of-length-le names h) (omega arith)
 
--- A word that is the whole rest.
-abbrev pub reachesEnd : Past (Unit {0}) → Bool
-reachesEnd (past u []) = true
-reachesEnd (past u (b ∷ s)) = false
-reachesEnd (stuck s) = false
+-- A word that is all that is left of the line.
+abbrev pub endsThere : Past (Unit {0}) → Bool
+endsThere (past u s) = starts lf s
+endsThere (stuck s) = false
 
-pub same-literal : (w s : Text) → sameText s w ≡ reachesEnd (literal w s)
-unfolding sameText literal
-same-literal [] [] = refl
-same-literal [] (b ∷ s) = refl
-same-literal (c ∷ w) [] = refl
-same-literal (c ∷ w) (b ∷ s) = cases (eqb c b) refl (same-literal w s)
+pub rest-literal : (w s : Text) → endsThere (literal w s) ≡ isRest w s
+unfolding isRest literal
+rest-literal [] s = refl
+rest-literal (c ∷ w) [] = refl
+rest-literal (c ∷ w) (b ∷ s) = cases (eqb c b) refl (rest-literal w s)
   where
-    cases : (t : Bool) → eqb c b ≡ t → sameText s w ≡ reachesEnd (literal w s) → (eqb b c && sameText s w) ≡ reachesEnd (literal (c ∷ w) (b ∷ s))
-    cases true e ih = rw (eq-eqb b c (sym (eqb-true c b e)), e, literal) ih
-    cases false e ih = rw (ne-eqb b c (λ h. eqb-false c b e (sym h)), e, literal)
-
-pub end-reached : (line : Text) (next : ℕ) → next ≤ length line → eqb next (length line) ≡ reachesEnd (past tt (drop next line))
-end-reached [] zero h = refl
-end-reached [] (suc next) h = absurd (not-suc-le-zero h)
-end-reached (b ∷ line) zero h = eqb·zero-suc (length line)
-end-reached (b ∷ line) (suc next) h = eqb·suc-suc next (length line) ∙ end-reached line next (le-of-suc-le-suc h)
+    cases : (t : Bool) → eqb c b ≡ t → endsThere (literal w s) ≡ isRest w s → endsThere (literal (c ∷ w) (b ∷ s)) ≡ (eqb c b && isRest w s)
+    cases true e ih = rw (e, literal) ih
+    cases false e ih = rw (e, literal)
 
 -- A packed word, byte by byte.
 pub packed-split : (left k : ℕ) → 0 < left → left < 256 ^ k → (m : ℕ) × (left / 256 < 256 ^ m) × (nameOf k left ≡ left % 256 ∷ nameOf m (left / 256))

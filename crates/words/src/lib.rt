@@ -1,6 +1,6 @@
 // The forms at the bottom of every line: words that stand as they are, numbers and names.
 //
-// A form is read from the start of what is lent, the rest of a line. The answer says what was read and how many bytes it took, or
+// A form is read from the start of what is lent, the rest of the text. The answer says what was read and how many bytes it took, or
 // after how many bytes nothing that is due there goes on.
 pub mod literals;
 pub mod names;

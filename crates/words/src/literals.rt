@@ -2,7 +2,7 @@
 ghost use mathlib.Core.Path.{_≡_};
 ghost use lib.ListN.{drop};
 ghost use Rattle.table.specs.Decoded.{nameOf};
-ghost use Rattle.grammar.specs.Text.{literal, starts, sameText};
+ghost use Rattle.grammar.specs.Text.{literal, starts, isRest};
 ghost use Rattle.words.specs.Steps.{Passes};
 use crate::Step;
 
@@ -47,13 +47,13 @@ pub fn read_packed(rest: &[u8], due: u64) -> Step
     Step::To(0, next)
 }
 
-// Whether the rest is this word and nothing more.
-pub fn same_text(rest: &[u8], due: &[u8]) -> bool
-    ensures { λ r. ⌜ r ≡ sameText (now (rest .entry)) (now (due .entry)) ⌝ }
+// Whether this word is all that is left of the line: LF follows it.
+pub fn is_rest(rest: &[u8], due: &[u8]) -> bool
+    ensures { λ r. ⌜ r ≡ isRest (now (due .entry)) (now (rest .entry)) ⌝ }
 {
     let p = read_literal(rest, due);
     let Step::To(_, next) = p else {
         return false;
     };
-    next == rest.len()
+    sign_at(rest, next, b'\n')
 }

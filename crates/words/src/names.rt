@@ -5,6 +5,7 @@ ghost use mathlib.Core.Path.{_≡_};
 ghost use Rattle.table.specs.Decoded.{nameOf};
 ghost use Rattle.grammar.specs.Text.{isLower, isDigit, word};
 ghost use Rattle.grammar.specs.Faults.{nameNumber};
+ghost use Rattle.words.specs.Searches.{numberFrom};
 ghost use Rattle.words.specs.Steps.{Steps};
 use crate::Step;
 use crate::between;
@@ -44,11 +45,11 @@ pub fn read_word(rest: &[u8]) -> Step
     Step::To(w, next)
 }
 
-// The number of a name among those given; a name that is not there has the number after the last.
-pub fn find_name(names: &[u64], w: u64) -> usize
-    ensures { λ r. ⌜ r ≡ nameNumber (map (nameOf 8) (now (names .entry))) (nameOf 8 w) ⌝ }
+// The number of a name among those given, where none before `start` is that name; a name that is not there has the number after the last.
+pub fn find_from(names: &[u64], start: usize, w: u64) -> usize
+    ensures { λ r. ⌜ r ≡ numberFrom (now (names .entry)) start w ⌝ }
 {
-    let mut i = 0;
+    let mut i = start;
     while i < names.len() {
         if names[i] == w {
             return i;
@@ -56,4 +57,11 @@ pub fn find_name(names: &[u64], w: u64) -> usize
         i += 1;
     }
     i
+}
+
+// The same, looked for from the first name on.
+pub fn find_name(names: &[u64], w: u64) -> usize
+    ensures { λ r. ⌜ r ≡ nameNumber (map (nameOf 8) (now (names .entry))) (nameOf 8 w) ⌝ }
+{
+    find_from(names, 0, w)
 }

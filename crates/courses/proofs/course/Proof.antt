@@ -1,25 +1,29 @@
 -- `courses::course` meets its contract. The loop's invariant: so many terms are done. Assumes nothing.
 use Prim.Native.Nat.{_-_}
 use native.Mathlib.Omega.{arith}
+use lib.ListN.{length}
 use borrow.Author.Needs.{needs}
 use Rattle.courses.proofs.Coursing.{Coursing, coursing-start, coursing-step, coursing-large, coursing-end}
 use Rattle.courses.proofs.course.Statement.{statement}
 use Rattle.courses.proofs.course.Tie as tie
 
 abbrev Inv-loop : tie.InvT-loop
-Inv-loop slots store terms sets₀ news₀ work₀ log₀ end out₀ to₀ n₀ sets news work log out to n =
-    Coursing slots store terms end sets₀ news₀ work₀ log₀ out₀ sets news work log out to n
+Inv-loop slots lists sets₀ news₀ work₀ log₀ end out₀ to₀ n₀ sets news work log out to n =
+    Coursing slots lists end sets₀ news₀ work₀ log₀ out₀ sets news work log out to n
 
 abbrev μ-loop : tie.MeasureT-loop
-μ-loop slots store terms sets₀ news₀ work₀ log₀ end out₀ to₀ n₀ sets news work log out to n = terms - n
+μ-loop slots lists sets₀ news₀ work₀ log₀ end out₀ to₀ n₀ sets news work log out to n = length slots - n
 
 loop-holds : tie.Need-loop-holds Inv-loop μ-loop
 loop-holds c =
     let a = c .before .before .before .before .before .before .before .args in
-    coursing-start (a .slots .now) (a .store .now) (a .terms) (a .end) (a .sets .now) (a .news .now) (a .work .now) (a .log .now) (a .out .now)
+    coursing-start (a .slots .now) (a .lists .now) (a .end) (a .sets .now) (a .news .now) (a .work .now) (a .log .now) (a .out .now)
 
-word-at-requires : tie.Need-word-at-requires Inv-loop μ-loop
-word-at-requires c κs = tt
+mul-slot : tie.Need-mul-slot Inv-loop μ-loop
+mul-slot c = omega (arith, c .before .before .before .before .before .before .before .before .before .good .0)
+
+shared-slice-read-slot : tie.Need-shared-slice-read-slot Inv-loop μ-loop
+shared-slice-read-slot c = omega arith
 
 advance-requires : tie.Need-advance-requires Inv-loop μ-loop
 advance-requires c κs = tt
@@ -33,9 +37,8 @@ enum-told c = search needs
 returns : tie.Need-returns Inv-loop μ-loop
 returns c =
     let advanced = c .before .before .before .before .before .before .before .before .before .before .before .before in
-    let read = advanced .before .before .before .before .before .before in
-    let looped = read .before in
-    coursing-large (looped .before .loop .inv) (looped .loop-test .taken) (read .word-at .ensures)
+    let looped = advanced .before .before .before .before .before .before .before in
+    coursing-large (looped .before .loop .inv) (looped .loop-test .taken)
     (rw (c .enum-told .given .1) at (advanced .advance .ensures))
 
 same-length : tie.Need-same-length Inv-loop μ-loop
@@ -57,7 +60,7 @@ add-n : tie.Need-add-n Inv-loop μ-loop
 add-n c =
     let advanced = c .before .before .before .before .before .before .before .before .before .before .before .before .before in
     let looped = advanced .before .before .before .before .before .before .before in
-    omega (arith, looped .loop-test .taken, looped .before .before .before .before .before .before .before .before .before .fits .terms)
+    omega (arith, looped .loop-test .taken, looped .before .before .before .before .before .before .before .before .before .good .0)
 
 loop-less : tie.Need-loop-less Inv-loop μ-loop
 loop-less c =
@@ -68,9 +71,8 @@ loop-less c =
 loop-again : tie.Need-loop-again Inv-loop μ-loop
 loop-again c =
     let advanced = c .before .before .before .before .before .before .before .before .before .before .before .before .before in
-    let read = advanced .before .before .before .before .before .before in
-    let looped = read .before in
-    coursing-step (looped .before .loop .inv) (looped .loop-test .taken) (read .word-at .ensures)
+    let looped = advanced .before .before .before .before .before .before .before in
+    coursing-step (looped .before .loop .inv) (looped .loop-test .taken)
     (rw (c .before .step .given .1) at (advanced .advance .ensures))
 
 same-length-6 : tie.Need-same-length-6 Inv-loop μ-loop
@@ -98,7 +100,8 @@ course-spec =
     Inv-loop
     μ-loop
     loop-holds
-    word-at-requires
+    mul-slot
+    shared-slice-read-slot
     advance-requires
     enum-known-step
     enum-told

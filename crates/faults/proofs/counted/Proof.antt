@@ -8,23 +8,12 @@ use Rattle.faults.proofs.counted.Tie as tie
 returns : tie.Need-returns
 returns c =
     let joined = c .before .before .before in
-    let tested = joined .before .before in
-    let summed = tested .before .before .before in
+    let summed = joined .before in
     record {
-      faults =
-          joined .worse-of3 .ensures
-          ∙ rw (
-            tested .before .before .worse-of .ensures,
-            joined .before .worse-of2 .ensures,
-            tested .before .amount-unless .ensures,
-            tested .amount-unless2 .ensures,
-            summed .plus .ensures,
-          );
+      faults = joined .joined .ensures ∙ rw (summed .plus .ensures);
       floors = c .before .before .plus2 .ensures;
       totals = rw (c .least .ensures, c .before .plus3 .ensures, summed .plus .ensures);
     }
 
 pub counted-spec : {M : Type 1} → statement M
-counted-spec =
-    tie.close
-    (tie.spec asks-nothing asks-nothing asks-nothing asks-nothing asks-nothing asks-nothing asks-nothing asks-nothing asks-nothing returns)
+counted-spec = tie.close (tie.spec asks-nothing asks-nothing asks-nothing asks-nothing asks-nothing returns)

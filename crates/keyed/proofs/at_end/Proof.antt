@@ -1,11 +1,12 @@
--- `keyed::at_end` meets its contract: by whether something was read, and whether more follows.
+-- `keyed::at_end` meets its contract: by whether something was read, and whether LF follows.
 -- Assumes nothing.
+use mathlib.Core.Path.{ap, sym, _∙_}
 use Prim.Native.Nat.{_+_}
 use native.Mathlib.Omega.{arith}
-use mathlib.Core.Path.{ap, sym}
-use lib.ListN.{length}
-use borrow.Author.Tests.{lt-ltb, le-ltb}
+use borrow.Author.Tests.{not-true, not-false}
+use Rattle.grammar.specs.Text.{lf}
 use Rattle.faults.proofs.Calls.{asks-nothing}
+use Rattle.words.proofs.Rests.{sign-within}
 use Rattle.words.proofs.Steps.{stuck-there}
 use Rattle.words.specs.Steps.{stepPlace}
 use Rattle.keyed.proofs.at_end.Statement.{statement}
@@ -28,15 +29,20 @@ add-next c = omega (arith, ap stepPlace (c .before .s .given .1))
 
 returns-2 : tie.Need-returns-2
 returns-2 c =
-    let s = c .before .before .s .given in
-    let a = c .before .before .before .before .before .args in
-    rw (s .1, lt-ltb (a .at + s .0 .1 .0) (length (a .line .now)) (c .if1 .taken))
+    let s = c .before .before .before .s .given in
+    rw (s .1, sym (c .before .sign-at .ensures) ∙ not-true _ (c .if1 .taken))
+
+add-t11 : tie.Need-add-t11
+add-t11 c =
+    let s = c .before .before .before .s .given in
+    let a = c .before .before .before .before .before .before .args in
+    let w = sign-within lf (a .text .now) (a .at + s .0 .1 .0) (sym (c .before .sign-at .ensures) ∙ not-false _ (c .if1 .left)) in
+    omega arith
 
 returns-3 : tie.Need-returns-3
 returns-3 c =
-    let s = c .before .before .s .given in
-    let a = c .before .before .before .before .before .args in
-    rw (s .1, le-ltb (a .at + s .0 .1 .0) (length (a .line .now)) (c .if1 .left))
+    let s = c .before .before .before .s .given in
+    rw (s .1, sym (c .before .sign-at .ensures) ∙ not-false _ (c .if1 .left))
 
 pub at-end-spec : {M : Type 1} → statement M
-at-end-spec = tie.close (tie.spec enum-known-s enum-told asks-nothing add-t8 returns add-next returns-2 returns-3)
+at-end-spec = tie.close (tie.spec enum-known-s enum-told asks-nothing add-t8 returns add-next asks-nothing returns-2 add-t11 returns-3)

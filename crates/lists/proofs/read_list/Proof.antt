@@ -1,9 +1,10 @@
 -- `lists::read_list` meets its contract: entry after entry, what was read and what is to come are the list.
 -- Assumes nothing.
 use borrow.Author.Needs.{needs}
-use mathlib.Core.Path.{_≡_, refl, sym, ap, _∙_}
+use mathlib.Core.Logic.{⊎-elim}
+use mathlib.Core.Path.{_≡_, refl, sym, ap, subst, _∙_}
 use mathlib.Core.List.{List, [], _∷_, _++_, map}
-use Prim.Native.Nat.{_+_, _*_, _-_, _≤_, _<_, _^_}
+use Prim.Native.Nat.{_+_, _-_, _≤_, _<_, _^_}
 use native.Mathlib.Omega.{arith}
 use borrow.Author.Tests.{not-true, not-false}
 use lib.ListN.{length, drop, length-map}
@@ -13,12 +14,14 @@ use Rattle.grammar.specs.Forms.{comma}
 use Rattle.faults.proofs.Calls.{asks-nothing}
 use Rattle.words.specs.Steps.{Stands}
 use Rattle.words.proofs.Steps.{otherwise}
-use Rattle.entries.specs.Tallies.{Said}
-use Rattle.entries.specs.Entries.{saidOf, entryOf}
+use Rattle.lists.specs.Tallies.{Said}
+use Rattle.lists.specs.Entries.{saidOf, entryOf}
+use Rattle.lists.specs.Starts.{Starting}
 use Rattle.lists.specs.Lists.{weightFor, limitFor, wordCount, entryWord, entryStored, listEntry, listWords, overlaid}
-use Rattle.entries.proofs.Seen.{said-stuck-there, said-went-on, said-stays-on, said-same, said-few}
-use Rattle.entries.proofs.Tallied.{Tallied, tallied-none, tallied-more}
-use Rattle.entries.proofs.Gathered.{Progress, begun, list-stuck, list-ends, list-goes-on, ended-with, stuck-with}
+use Rattle.lists.proofs.Seen.{said-stuck-there, said-went-on, said-stays-on, said-same}
+use Rattle.lists.proofs.Tallied.{Tallied, counted-as, tallied-none, tallied-more}
+use Rattle.lists.proofs.Gathered.{Progress, begun, list-stuck, list-ends, list-goes-on, ended-with, stuck-with}
+use Rattle.lists.proofs.Starts.{starts-alike}
 use Rattle.lists.proofs.Listed.{Filled, filled-none, filled-more, length-over, not-read, as-read}
 use Rattle.lists.proofs.Listed.{entry-small, entry-within, count-most, weight-most, limit-most}
 use Rattle.lists.proofs.read_list.Statement.{statement}
@@ -26,34 +29,49 @@ use Rattle.lists.proofs.read_list.Tie as tie
 
 -- Some entries were read; the tally, the count and the store are theirs. (Each took two bytes at least, with its comma.)
 abbrev Inv-loop : tie.InvT-loop
-Inv-loop kind rest names store₀ shape tally₀ entries₀ index₀ from₀ store tally entries index from =
+Inv-loop kind rest names store₀ shape tally₀ entries₀ index₀ from₀ starts₀ store tally entries index from starts =
     (es : List Said) × Progress comma (entryOf (map (nameOf 8) names) kind) rest from es × Tallied (λ e. weightFor kind) (limitFor kind) es tally
     × Filled kind store₀ es entries index store × (entries ≤ from) × (shape .size ≡ wordCount kind) × (shape .weight ≡ weightFor kind)
-    × (shape .limit ≡ limitFor kind)
+    × (shape .limit ≡ limitFor kind) × Starting names starts
 
 abbrev μ-loop : tie.MeasureT-loop
-μ-loop kind rest names store₀ shape tally₀ entries₀ index₀ from₀ store tally entries index from = length rest - from
+μ-loop kind rest names store₀ shape tally₀ entries₀ index₀ from₀ starts₀ store tally entries index from starts = length rest - from
 
--- the turn in which an entry was read, and the start of the function
+-- where the starts are known, the turn in which an entry was read, and the start of the function
+abbrev begins : tie.After-known-told Inv-loop μ-loop → tie.Joined1 Inv-loop μ-loop
+begins c = c .before .before .before .before .before .before
+
 abbrev turn : tie.After-known-told Inv-loop μ-loop → tie.At-loop Inv-loop μ-loop
-turn c = c .before .before .before .before .before
+turn c = begins c .before
 
 abbrev entry : tie.At-loop Inv-loop μ-loop → tie.Start Inv-loop μ-loop
-entry l = l .before .before .before .before .before
+entry l = l .before .before .before .before .before .before
 
 loop-holds : tie.Need-loop-holds Inv-loop μ-loop
 loop-holds c =
-    let shape = c .shape-of .ensures in
-    ([], begun _ _ _, tallied-none _ _, filled-none _ _, omega arith, shape .0, shape .1, shape .2)
+    let shape = c .before .shape-of .ensures in
+    ([], begun _ _ _, tallied-none _ _ (c .empty-tally .ensures), filled-none _ _, omega arith, shape .0, shape .1, shape .2, starts-alike _ 0)
+
+starts-of-requires : tie.Need-starts-of-requires Inv-loop μ-loop
+starts-of-requires c κs = entry (c .before) .pre
+
+-- the starts, made anew for the fourth entry
+started : (c : tie.Joined1 Inv-loop μ-loop) → Starting (entry (c .before) .args .names .now) (c .if1 .starts)
+started c =
+    let known = Starting (entry (c .before) .args .names .now) in
+    ⊎-elim (λ w. subst known (sym (w .2)) (w .1 .ensures)) (λ w. subst known (sym (w .1)) (c .before .loop .inv .8)) (c .if1 .came)
 
 sub-read-entry : tie.Need-sub-read-entry Inv-loop μ-loop
-sub-read-entry c = omega (arith, c .loop .inv .1 .within)
+sub-read-entry c = omega (arith, c .before .loop .inv .1 .within)
 
 part-read-entry-start : tie.Need-part-read-entry-start Inv-loop μ-loop
-part-read-entry-start c = c .loop .inv .1 .within
+part-read-entry-start c = c .before .loop .inv .1 .within
 
 part-read-entry-end : tie.Need-part-read-entry-end Inv-loop μ-loop
 part-read-entry-end c = search needs
+
+read-entry-requires : tie.Need-read-entry-requires Inv-loop μ-loop
+read-entry-requires c κs = (entry (c .before .before .before) .pre, started (c .before .before))
 
 enum-known-entry : tie.Need-enum-known-entry Inv-loop μ-loop
 enum-known-entry c = c .match .keys1
@@ -62,39 +80,39 @@ enum-told : tie.Need-enum-told Inv-loop μ-loop
 enum-told c = c .match .keys2
 
 same-length : tie.Need-same-length Inv-loop μ-loop
-same-length c = ap length (c .before .before .before .before .before .loop .inv .3 .store-is) ∙ length-over _ _
+same-length c = ap length (c .before .before .before .before .before .before .before .loop .inv .3 .store-is) ∙ length-over _ _
 
 returns : tie.Need-returns Inv-loop μ-loop
 returns c =
     let read = c .before .before .before in
-    let loop = read .before .before .loop in
-    let start = entry (read .before .before) in
+    let loop = read .before .before .before .before .loop in
+    let start = entry (read .before .before .before .before) in
     let a = start .args in
     let s =
     list-stuck (loop .inv .1)
     (said-stays-on (entryOf (map (nameOf 8) (a .names .now)) (a .kind)) (a .rest .now) (loop .from) (loop .inv .1 .within)
-    (said-few (a .names .now) (start .pre) (read .read-entry .ensures))
+    (read .read-entry .ensures)
     (said-stuck-there (c .before .enum-told .given .1) (c .said-stuck-at .ensures))) in
     record { read = record { stands = stuck-with (listEntry (a .kind)) s }; stored = λ es p h. absurd (not-read (s .says) h) }
 
-add-t24 : tie.Need-add-t24 Inv-loop μ-loop
-add-t24 c = let s = returns c .read .stands .within in omega arith
+add-t27 : tie.Need-add-t27 Inv-loop μ-loop
+add-t27 c = let s = returns c .read .stands .within in omega arith
 
 -- the entry that was read, in the line
 went : (c : tie.After-known-told Inv-loop μ-loop)
     → let read = c .before .before .before in
-    let from = read .before .before .loop .from in
-    let a = entry (read .before .before) .args in
+    let from = read .before .before .before .before .loop .from in
+    let a = entry (read .before .before .before .before) .args in
     let next = from + c .before .entry .given .0 .1 .0 in
     Stands (a .rest .now) next (past (saidOf (c .before .entry .given .0 .0)) (drop next (a .rest .now)))
     (entryOf (map (nameOf 8) (a .names .now)) (a .kind) (drop from (a .rest .now)))
 went c =
     let read = c .before .before .before in
-    let loop = read .before .before .loop in
-    let start = entry (read .before .before) in
+    let loop = read .before .before .before .before .loop in
+    let start = entry (read .before .before .before .before) in
     let a = start .args in
     said-went-on (entryOf (map (nameOf 8) (a .names .now)) (a .kind)) (a .rest .now) (loop .from) (loop .inv .1 .within)
-    (said-few (a .names .now) (start .pre) (read .read-entry .ensures))
+    (read .read-entry .ensures)
     (c .before .entry .given .1)
 
 add-next : tie.Need-add-next Inv-loop μ-loop
@@ -116,14 +134,14 @@ tallied : (c : tie.After-counted Inv-loop μ-loop)
     let kind = entry l .args .kind in
     Tallied (λ e. weightFor kind) (limitFor kind) (l .loop .inv .0 ++ (saidOf (c .before .before .entry .given .0 .0) ∷ [])) (c .counted .result)
 tallied c =
-    let l = c .before .before .before .before .before .before in
-    let kind = l .before .before .before .before .before .args .kind in
+    let l = turn (c .before) in
+    let kind = entry l .args .kind in
     let i = l .loop .inv in
-    let k = c .counted .ensures in
     let w = weight-most kind in
     let m = limit-most kind in
     tallied-more (λ e. weightFor kind) (limitFor kind) (saidOf (c .before .before .entry .given .0 .0)) (i .2)
-    (record { keys = entered (c .before) .0; totals = omega (arith, i .2 .totals); weights = omega arith; limits = omega arith }) (rw (i .6, i .7) at k)
+    (record { keys = entered (c .before) .0; totals = omega (arith, i .2 .totals); weights = omega arith; limits = omega arith })
+    (counted-as (i .6) (i .7) (c .counted .ensures))
 
 -- There are fewer entries before this one than bytes, so that twice as many words can be counted.
 counts : (c : tie.After-known-told Inv-loop μ-loop)
@@ -144,14 +162,15 @@ filled : (c : tie.After-put-entry Inv-loop μ-loop)
     → let l = turn (c .before .before .before .before) in
     let a = entry l .args in
     Filled (a .kind) (a .store .now) (l .loop .inv .0 ++ (saidOf (c .before .before .before .before .before .entry .given .0 .0) ∷ [])) (l .loop .entries + 1)
-    (l .loop .index + l .before .shape-of .result .size) (c .put-entry .last .0)
+    (l .loop .index + l .before .before .shape-of .result .size) (c .put-entry .last .0)
 filled c =
     let l = turn (c .before .before .before .before) in
     let a = entry l .args in
     let e = c .before .before .before .before .before .entry .given .0 .0 in
+    let size = l .before .before .shape-of .result .size in
     filled-more (a .kind) (a .store .now) (saidOf e) (l .loop .inv .3) (l .loop .inv .5)
     (c .put-entry .ensures
-    ∙ ap (λ w. entryStored (l .before .shape-of .result .size) (l .loop .store) (l .loop .index) w (e .second)) (c .before .before .entry-word .ensures))
+    ∙ ap (λ w. entryStored size (l .loop .store) (l .loop .index) w (e .second)) (c .before .before .entry-word .ensures))
 
 add-index : tie.Need-add-index Inv-loop μ-loop
 add-index c =
@@ -173,7 +192,7 @@ returns-2 c =
     let known = put .before .before .before .before in
     let l = turn known in
     let a = entry l .args in
-    let s = list-ends (l .loop .inv .1) (went known) (sym (c .before .sign-at .ensures) ∙ not-true _ (c .if1 .taken)) in
+    let s = list-ends (l .loop .inv .1) (went known) (sym (c .before .sign-at .ensures) ∙ not-true _ (c .if2 .taken)) in
     let f = filled put in
     record {
       read =
@@ -187,7 +206,7 @@ loop-again c =
     let put = c .before .before .before .before .before in
     let known = put .before .before .before .before in
     let i = turn known .loop .inv in
-    let p = list-goes-on (i .1) (went known) (omega arith) (sym (c .before .sign-at .ensures) ∙ not-false _ (c .if1 .left)) in (
+    let p = list-goes-on (i .1) (went known) (omega arith) (sym (c .before .sign-at .ensures) ∙ not-false _ (c .if2 .left)) in (
       i .0 ++ (saidOf (known .before .entry .given .0 .0) ∷ []),
       p,
       tallied (put .before .before .before),
@@ -196,6 +215,7 @@ loop-again c =
       i .5,
       i .6,
       i .7,
+      started (begins known),
     )
 
 add-from : tie.Need-add-from Inv-loop μ-loop
@@ -211,6 +231,6 @@ loop-less c = let p = loop-again c .1 .within in omega arith
 pub read-list-spec : {M : Type 1} → statement M
 read-list-spec =
     tie.close
-    (tie.spec Inv-loop μ-loop asks-nothing loop-holds sub-read-entry part-read-entry-start part-read-entry-end asks-nothing enum-known-entry
-    enum-told asks-nothing add-t24 same-length returns add-next asks-nothing entry-word-requires put-entry-requires add-index add-entries asks-nothing
-    same-length-2 returns-2 add-from loop-less loop-again)
+    (tie.spec Inv-loop μ-loop asks-nothing asks-nothing loop-holds starts-of-requires sub-read-entry part-read-entry-start part-read-entry-end
+    read-entry-requires enum-known-entry enum-told asks-nothing add-t27 same-length returns add-next asks-nothing entry-word-requires put-entry-requires
+    add-index add-entries asks-nothing same-length-2 returns-2 add-from loop-less loop-again)

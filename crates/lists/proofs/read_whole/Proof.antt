@@ -19,8 +19,8 @@ returns-2 : tie.Need-returns-2
 returns-2 c =
     let tested = c .before .before in
     let a = tested .before .before .before .before .args in
-    rw (le-leb (length (a .names .now)) 12 (tested .if1 .left), sym (c .before .is-none .ensures) ∙ c .if2 .taken)
-    (none-read (a .kind) (a .rest .now) (a .store .now))
+    let none = sym (c .before .is-none .ensures) ∙ c .if2 .taken in
+    rw (le-leb (length (a .names .now)) 12 (tested .if1 .left), none) (none-read (a .kind) (a .rest .now) (a .store .now) none)
 
 read-list-requires : tie.Need-read-list-requires
 read-list-requires c κs = omega arith

@@ -15,12 +15,12 @@ use Rattle.operators.proofs.through.Statement.{statement}
 use Rattle.operators.proofs.through.Tie as tie
 
 -- the list of every operator but comm has a word an entry
-plain : (store labels : List ℕ) (o : Operator) → OneOf (0 ∷ 1 ∷ 2 ∷ 4 ∷ []) (tagOf the-type o) → wordsAt store (placeFor o) 1 ≡ wordsFor store labels o
-plain store labels (Block p) h = refl
-plain store labels (Hide p) h = refl
-plain store labels (Rename p) h = refl
-plain store labels (Comm p) h = absurd (miss (0 ∷ 1 ∷ 2 ∷ 4 ∷ []) 3 tt h)
-plain store labels (Allow p) h = refl
+plain : (lists labels : List ℕ) (o : Operator) → OneOf (0 ∷ 1 ∷ 2 ∷ 4 ∷ []) (tagOf the-type o) → wordsAt lists (placeFor o) 1 ≡ wordsFor lists labels o
+plain lists labels (Block p) h = refl
+plain lists labels (Hide p) h = refl
+plain lists labels (Rename p) h = refl
+plain lists labels (Comm p) h = absurd (miss (0 ∷ 1 ∷ 2 ∷ 4 ∷ []) 3 tt h)
+plain lists labels (Allow p) h = refl
 
 list-place-requires : tie.Need-list-place-requires
 list-place-requires c κs = tt
@@ -67,7 +67,7 @@ returns-2 c =
       listed .before .way-of .ensures,
       listed .words-of .ensures,
       other .before .list-place .ensures,
-      plain (a .store .now) (a .labels .now) (a .operator) (other .match .keys2),
+      plain (a .lists .now) (a .labels .now) (a .operator) (other .match .keys2),
     ) at (added .add-image .ensures)
 
 pub through-spec : {M : Type 1} → statement M

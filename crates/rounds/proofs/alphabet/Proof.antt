@@ -1,6 +1,5 @@
 -- `rounds::alphabet` meets its contract: the rounds, the listing, and the work area set to 0.
 -- Assumes nothing.
-use native.Mathlib.Omega.{arith}
 use borrow.Author.Needs.{needs}
 use Rattle.rounds.proofs.Listings.{answered-short, answered-large, answered-listed}
 use Rattle.rounds.proofs.alphabet.Statement.{statement}
@@ -10,7 +9,7 @@ returns : tie.Need-returns
 returns c = answered-short (c .if1 .taken)
 
 until-stable-requires : tie.Need-until-stable-requires
-until-stable-requires c κs = search needs
+until-stable-requires c κs = tt
 
 enum-known-found : tie.Need-enum-known-found
 enum-known-found c = search needs
@@ -22,13 +21,18 @@ same-length : tie.Need-same-length
 same-length c = search needs
 
 returns-2 : tie.Need-returns-2
-returns-2 c = answered-large (omega arith) (rw (c .enum-told .given .1) at (c .before .before .before .before .until-stable .ensures))
+returns-2 c =
+    let run = c .before .before .before .before in
+    answered-large (run .before .before .if1 .left) (rw (c .enum-told .given .1) at (run .until-stable .ensures))
 
-listing-requires : tie.Need-listing-requires
-listing-requires c κs = search needs
+labels-of-requires : tie.Need-labels-of-requires
+labels-of-requires c κs = tt
+
+cut-to-requires : tie.Need-cut-to-requires
+cut-to-requires c κs = tt
 
 clear-requires : tie.Need-clear-requires
-clear-requires c κs = search needs
+clear-requires c κs = tt
 
 same-length-2 : tie.Need-same-length-2
 same-length-2 c = search needs
@@ -38,13 +42,16 @@ same-length-3 c = search needs
 
 returns-3 : tie.Need-returns-3
 returns-3 c =
-    let after = c .before .before .before .before .before .before .before .before .before .before in
-    let most = after .before .before .before .before .before .before .if1 .left in
-    let reached = rw (after .found .given .1) at (after .before .before .before .before .until-stable .ensures) in
-    answered-listed most reached (c .before .before .before .before .before .before .listing .ensures) (c .before .before .clear .ensures)
+    let cleared = c .before .before in
+    let cut = cleared .before .before .before .before in
+    let shown = cut .before .before in
+    let found = shown .before .before .before in
+    let run = found .before .before .before .before in
+    answered-listed (run .before .before .if1 .left) (rw (found .found .given .1) at (run .until-stable .ensures)) (shown .labels-of .ensures)
+    (cut .cut-to .ensures) (cleared .clear .ensures)
 
 pub alphabet-spec : {M : Type 1} → statement M
 alphabet-spec =
     tie.close
-    (tie.spec returns until-stable-requires enum-known-found enum-told same-length returns-2 listing-requires clear-requires same-length-2
-    same-length-3 returns-3)
+    (tie.spec returns until-stable-requires enum-known-found enum-told same-length returns-2 labels-of-requires cut-to-requires clear-requires
+    same-length-2 same-length-3 returns-3)

@@ -1,63 +1,64 @@
--- `stability::until_stable` meets its contract: the test of the areas, the syncs of whole processes as merges, and the rounds.
+-- `stability::until_stable` meets its contract: the test of the work area, all rounds in areas that are always enough, and what is left.
 -- Assumes nothing.
-use mathlib.Core.Path.{_≡_, sym, _∙_}
+use mathlib.Core.Path.{refl, sym, _∙_}
 use native.Mathlib.Nat.{min-eq-left}
-use native.Mathlib.Omega.{arith}
 use borrow.Author.Needs.{needs}
-use borrow.Author.Tests.{not-true, not-false}
-use lib.ListN.{length, length-take}
-use Rattle.stability.proofs.Reaches.{reached-unfit, reached-run}
+use lib.ListN.{length-take}
+use Rattle.stability.proofs.Reaches.{reached-short, reached-run}
 use Rattle.stability.proofs.until_stable.Statement.{statement}
 use Rattle.stability.proofs.until_stable.Tie as tie
 
-fits-requires : tie.Need-fits-requires
-fits-requires c κs = tt
-
 returns : tie.Need-returns
-returns c = let tested = c .before .fits2 in reached-unfit (rw (not-true (tested .result) (c .if1 .taken)) at (tested .ensures))
+returns c = reached-short (c .if1 .taken)
 
-slice-aggregate-merge-wholes : tie.Need-slice-aggregate-merge-wholes
-slice-aggregate-merge-wholes c = search needs
+slice-aggregate-run : tie.Need-slice-aggregate-run
+slice-aggregate-run c = refl
 
-merge-wholes-requires : tie.Need-merge-wholes-requires
-merge-wholes-requires c κs = tt
+slice-aggregate-run-2 : tie.Need-slice-aggregate-run-2
+slice-aggregate-run-2 c = refl
 
-slice-aggregate-run-rounds : tie.Need-slice-aggregate-run-rounds
-slice-aggregate-run-rounds c = search needs
+slice-aggregate-run-3 : tie.Need-slice-aggregate-run-3
+slice-aggregate-run-3 c = refl
 
-array-share-prefix-bodies : tie.Need-array-share-prefix-bodies
-array-share-prefix-bodies c =
-    let start = c .before .before .before .before .before .before in
-    let tested = start .before .fits2 in
-    let fits = rw (not-false (tested .result) (start .if1 .left)) at (tested .ensures) in
-    let sixteen : length (start .before .before .before .before .args .table .bodies) ≡ 16 = search needs in
-    omega (arith, fits .2)
+slice-relend-prefix-run : tie.Need-slice-relend-prefix-run
+slice-relend-prefix-run c = c .before .before .before .if1 .left
 
-slice-aggregate-run-rounds-2 : tie.Need-slice-aggregate-run-rounds-2
-slice-aggregate-run-rounds-2 c =
-    let table = c .before .before .before .before .before .before .before .before .before .before .before .args .table in
-    sym (length-take (table .equations) (table .bodies) ∙ min-eq-left (array-share-prefix-bodies (c .before)))
+slice-aggregate-run-4 : tie.Need-slice-aggregate-run-4
+slice-aggregate-run-4 c =
+    let tested = c .before .before .before .before in
+    sym (length-take 4096 (tested .before .before .before .before .args .work .now) ∙ min-eq-left (tested .if1 .left))
 
-run-rounds-requires : tie.Need-run-rounds-requires
-run-rounds-requires c κs =
-    let start = c .before .before .before .before .before .before .before .before in
-    let tested = start .before .fits2 in
-    (rw (not-false (tested .result) (start .if1 .left)) at (tested .ensures)) .0
+slice-aggregate-run-5 : tie.Need-slice-aggregate-run-5
+slice-aggregate-run-5 c = refl
+
+slice-aggregate-run-6 : tie.Need-slice-aggregate-run-6
+slice-aggregate-run-6 c = refl
+
+run-requires : tie.Need-run-requires
+run-requires c κs = tt
+
+slice-aggregate-conclude : tie.Need-slice-aggregate-conclude
+slice-aggregate-conclude c = search needs
+
+root-of-requires : tie.Need-root-of-requires
+root-of-requires c κs = tt
+
+conclude-requires : tie.Need-conclude-requires
+conclude-requires c κs = search needs
 
 same-length : tie.Need-same-length
 same-length c = search needs
 
 returns-2 : tie.Need-returns-2
 returns-2 c =
-    let run = c .before .before in
-    let merged = run .before .before .before .before .before .before in
-    let start = merged .before .before .before in
-    let tested = start .before .fits2 in
-    let fits = rw (not-false (tested .result) (start .if1 .left)) at (tested .ensures) in
-    reached-run (fits .0) (rw (merged .merge-wholes .ensures) at (run .run-rounds .ensures))
+    let left = c .before .before in
+    let rooted = left .before .before in
+    let run = rooted .before .before .before .before .before .before .before .before .before in
+    let tested = run .before .before .before .before .before .before .before in
+    reached-run (tested .if1 .left) (run .run .ensures) (rooted .root-of .ensures) (left .conclude .ensures)
 
 pub until-stable-spec : {M : Type 1} → statement M
 until-stable-spec =
     tie.close
-    (tie.spec fits-requires returns slice-aggregate-merge-wholes merge-wholes-requires slice-aggregate-run-rounds array-share-prefix-bodies
-    slice-aggregate-run-rounds-2 run-rounds-requires same-length returns-2)
+    (tie.spec returns slice-aggregate-run slice-aggregate-run-2 slice-aggregate-run-3 slice-relend-prefix-run slice-aggregate-run-4
+    slice-aggregate-run-5 slice-aggregate-run-6 run-requires slice-aggregate-conclude root-of-requires conclude-requires same-length returns-2)

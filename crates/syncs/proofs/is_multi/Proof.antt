@@ -17,12 +17,12 @@ unpack-requires c κs = search needs
 returns : tie.Need-returns
 returns c =
     is-kind (c .before .unpack .result) (c .match .keys1)
-    ∙ ap multiKind (c .before .unpack .ensures ∙ ap wordTerm (c .before .before .word-at .ensures))
+    ∙ ap multiKind (c .before .unpack .ensures ∙ ap (wordTerm 0) (c .before .before .word-at .ensures))
 
 returns-2 : tie.Need-returns-2
 returns-2 c =
     no-kind (c .before .unpack .result) (c .match .keys2)
-    ∙ ap multiKind (c .before .unpack .ensures ∙ ap wordTerm (c .before .before .word-at .ensures))
+    ∙ ap multiKind (c .before .unpack .ensures ∙ ap (wordTerm 0) (c .before .before .word-at .ensures))
 
 pub is-multi-spec : {M : Type 1} → statement M
 is-multi-spec = tie.close (tie.spec word-at-requires unpack-requires returns returns-2)

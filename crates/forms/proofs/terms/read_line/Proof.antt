@@ -1,21 +1,19 @@
 -- `forms::terms::read_line` meets its contract: the key, the kind, and what follows it.
 -- Assumes nothing.
 use borrow.Author.Needs.{needs}
-use mathlib.Core.Path.{_≡_, refl, ap, _∙_}
+use mathlib.Core.Path.{_≡_, refl, ap}
 use mathlib.Core.List.{map}
 use native.Mathlib.Omega.{arith}
 use lib.ListN.{drop}
-use Rattle.meaning.specs.Bytes.{ascii}
 use Rattle.table.specs.Decoded.{nameOf}
 use Rattle.grammar.specs.Text.{onward}
 use Rattle.grammar.specs.Forms.{kinds, ofKind, termLine}
 use Rattle.faults.proofs.Calls.{asks-nothing}
 use Rattle.words.proofs.Steps.{stuck-there, steps-to, steps-stuck, stops, become}
-use Rattle.tails.specs.Tails.{TailRead}
 use Rattle.tails.proofs.Operands.{line-become}
-use Rattle.forms.specs.Kinds.{fartherStep, KindFound}
-use Rattle.forms.proofs.Farthest.{key-passed, line-farther, tail-within}
-use Rattle.forms.proofs.Kinded.{tail-at, tail-there, kind-stuck-there, kind-to, kind-stays}
+use Rattle.forms.specs.Kinds.{KindFound}
+use Rattle.forms.specs.Terms.{shiftedStep}
+use Rattle.forms.proofs.Kinded.{kind-stuck-there, kind-to, kind-stays, line-there, tail-within}
 use Rattle.forms.proofs.terms.read_line.Statement.{statement}
 use Rattle.forms.proofs.terms.read_line.Tie as tie
 
@@ -30,23 +28,20 @@ enum-told c = c .match .keys2
 
 returns : tie.Need-returns
 unfolding termLine
-returns c few fits =
+returns c =
     stops (λ _ r. ofKind kinds r)
     (steps-stuck (c .before .before .before .read-literal .ensures .steps) (stuck-there (c .before .enum-told .given .1) (c .stuck-at .ensures)))
 
 find-kind-requires : tie.Need-find-kind-requires
-find-kind-requires c κs =
-    let read = c .before .before .before in
-    let s = steps-to (read .read-literal .ensures .steps) (c .before .key .given .1) in
-    (omega (arith, key-passed (ascii "term=") (read .before .before .before .before .before .args .line .now) _ (s .within) (s .says)), s .within)
+find-kind-requires c κs = steps-to (c .before .before .before .read-literal .ensures .steps) (c .before .key .given .1) .within
 
 abbrev entry : tie.After-find-kind → tie.Start
 entry c = c .before .before .before .before .before .before .before .before .before
 
--- the rest of the line, after its key
+-- the rest of the text, after the key
 passed : (c : tie.After-find-kind)
-    → let line = entry c .args .line .now in
-    ofKind kinds (drop (c .before .before .key .given .0 .1 .0) line) ≡ termLine line
+    → let text = entry c .args .text .now in
+    ofKind kinds (drop (c .before .before .key .given .0 .1 .0) text) ≡ termLine text
 unfolding termLine
 passed c =
     let told = c .before .before in
@@ -60,16 +55,18 @@ enum-told-2 c = c .match2 .keys2
 
 found : (c : tie.After-known-told2)
     → let search = c .before .before .before in
-    let line = entry search .args .line .now in
     let kind = c .before .kind .given .0 in
-    KindFound line (ofKind kinds (drop (search .before .before .key .given .0 .1 .0) line)) (kind .0) (kind .1 .0) (kind .1 .1 .0)
-found c = let find = c .before .before .before .find-kind in kind-to (find .result) (find .ensures) (c .before .kind .given .1)
+    KindFound (entry search .args .text .now) (search .before .before .key .given .0 .1 .0) (kind .0) (kind .1 .0)
+found c =
+    let search = c .before .before .before in
+    kind-to (search .before .before .key .given .0 .1 .0) (search .find-kind .result) (search .find-kind .ensures) (c .before .kind .given .1)
 
 returns-2 : tie.Need-returns-2
-returns-2 c few fits =
+returns-2 c =
     let search = c .before .before .before in
     become (passed search)
-    (kind-stays (search .find-kind .result) (search .find-kind .ensures) (kind-stuck-there (c .before .enum-told2 .given .1) (c .kind-stuck-at .ensures)))
+    (kind-stays (search .before .before .key .given .0 .1 .0) (search .find-kind .result) (search .find-kind .ensures)
+    (kind-stuck-there (c .before .enum-told2 .given .1) (c .kind-stuck-at .ensures)))
 
 sub-read-tail : tie.Need-sub-read-tail
 sub-read-tail c = found c .within
@@ -80,54 +77,36 @@ part-read-tail-start c = found c .within
 part-read-tail-end : tie.Need-part-read-tail-end
 part-read-tail-end c = search needs
 
--- what follows the kind's word, in the line
-tailed : (c : tie.After-read-tail)
-    → let known = c .before .before .before in
-    let a = entry (known .before .before .before) .args in
-    let kind = known .before .kind .given .0 in
-    TailRead (a .names .now) (a .n) (kind .0) (drop (kind .1 .0) (a .line .now)) (a .store .now) (c .read-tail .last .1 .1 .1 .1 .0) (c .read-tail .result)
-tailed c =
-    let known = c .before .before .before in
-    let a = entry (known .before .before .before) .args in
-    let kind = known .before .kind .given .0 in
-    tail-at (a .names .now) (a .n) (kind .0) (a .line .now) (kind .1 .0) (a .store .now) (c .read-tail .last .1 .1 .1 .1 .0) (c .read-tail .result)
-    (found known .within) (c .read-tail .ensures)
-
-farthest-requires : tie.Need-farthest-requires
-farthest-requires c κs =
+shifted-requires : tie.Need-shifted-requires
+shifted-requires c κs =
     let read = c .before .before in
     let known = read .before .before .before in
     let start = entry (known .before .before .before) in
     let a = start .args in
-    let kind = known .before .kind .given .0 in
-    let f = found known in
     let w =
-    tail-within (map (nameOf 8) (a .names .now)) (a .n) (a .line .now) (a .store .now) (read .read-tail .last .1 .1 .1 .1 .0) (kind .1 .0) (kind .1 .1 .0)
-    (f .within) (f .reached) _ (read .read-tail .result) (tailed read) in
+    tail-within (found known) (a .names .now) (a .n) (a .list .now) (read .read-tail .last .1 .1 .1 .1 .0) (read .read-tail .result)
+    (read .read-tail .ensures) in
     omega (arith, start .good .1 .0)
 
 same-length : tie.Need-same-length
 same-length c = search needs
 
 returns-3 : tie.Need-returns-3
-returns-3 c few fits =
+returns-3 c =
     let read = c .before .before .before in
     let known = read .before .before .before in
-    let a = entry (known .before .before .before) .args in
-    let kind = known .before .kind .given .0 in
-    let f = found known in
-    let words = map (nameOf 8) (a .names .now) in
+    let start = entry (known .before .before .before) in
+    let a = start .args in
     let after = read .read-tail .last .1 .1 .1 .1 .0 in
-    rw (c .farthest .ensures)
-    (line-become words (a .n) (a .line .now) (a .store .now) after (fartherStep (kind .1 .0) (kind .1 .1 .0) (read .read-tail .result))
-    (f .says ∙ passed (known .before .before .before))
-    (line-farther words (a .n) (a .line .now) (a .store .now) after (kind .1 .0) (kind .1 .1 .0) (f .within) (f .reached) _ (read .read-tail .result)
-    (tail-there (a .names .now) (a .n) (kind .0) (a .line .now) (kind .1 .0) (a .store .now) after (read .read-tail .result) few fits (f .known)
-    (tailed read))))
+    let next = known .before .kind .given .0 .1 .0 in
+    rw (c .shifted .ensures)
+    (line-become (map (nameOf 8) (a .names .now)) (a .n) (a .text .now) (a .list .now) after (shiftedStep next (read .read-tail .result))
+    (passed (known .before .before .before))
+    (line-there (found known) (a .names .now) (a .n) (a .list .now) after (read .read-tail .result) (read .read-tail .ensures) (start .pre)))
 
 pub read-line-spec : {M : Type 1} → statement M
 read-line-spec =
     tie.close
     (tie.spec slice-aggregate-read-literal asks-nothing enum-known-key enum-told asks-nothing returns find-kind-requires
-    enum-known-kind enum-told-2 asks-nothing returns-2 sub-read-tail part-read-tail-start part-read-tail-end asks-nothing farthest-requires same-length
+    enum-known-kind enum-told-2 asks-nothing returns-2 sub-read-tail part-read-tail-start part-read-tail-end asks-nothing shifted-requires same-length
     returns-3)

@@ -6,10 +6,10 @@ use Prim.Native.Nat.{ℕ, _+_, _*_, _^_, _<_}
 use native.Mathlib.Omega.{arith}
 use types.Run.{OneOf, miss}
 use denote.Enum.Declared.{tagOf}
-use Rattle.entries.specs.declared.ListKind.{ListKind}
-use Rattle.entries.specs.declared.ListKind.the-variants.{Names, Pairs, Rules, Labels}
+use Rattle.lists.specs.declared.ListKind.{ListKind}
+use Rattle.lists.specs.declared.ListKind.the-variants.{Names, Pairs, Rules, Labels}
 use Rattle.lists.specs.Lists.{entryWord}
-use Rattle.entries.proofs.ListKind.{the-type}
+use Rattle.lists.proofs.ListKind.{the-type}
 use Rattle.lists.proofs.stores.entry_word.Statement.{statement}
 use Rattle.lists.proofs.stores.entry_word.Tie as tie
 

@@ -1,57 +1,82 @@
--- `reading::whole::read_lines` meets its contract: the lines before the terms, and those from them on.
+-- `reading::whole::read_lines` meets its contract: the lines before the terms, and those from them on, where there is room for the lists.
 -- Assumes nothing.
 use borrow.Author.Needs.{needs}
+use mathlib.Core.Path.{refl}
 use native.Mathlib.Omega.{arith}
 use Rattle.faults.proofs.Calls.{asks-nothing}
-use Rattle.textlines.proofs.Walks.{rest-lent}
-use Rattle.reading.proofs.Wholes.{ends-bad, ends-on, by-head}
+use Rattle.words.proofs.Steps.{rest-drop}
+use Rattle.reading.proofs.Sequels.{head-refused, head-within, head-few, head-long, head-crowded, head-read}
 use Rattle.reading.proofs.whole.read_lines.Statement.{statement}
 use Rattle.reading.proofs.whole.read_lines.Tie as tie
 
-enum-known-progress : tie.Need-enum-known-progress
-enum-known-progress c = c .match .keys1
+enum-known-head : tie.Need-enum-known-head
+enum-known-head c = c .match .keys1
 
 enum-told : tie.Need-enum-told
 enum-told c = c .match .keys2
 
-bad-requires : tie.Need-bad-requires
-bad-requires c κs = λ f line e. let k = rw e at (c .before .before .take-head .ensures .came) in omega (arith, k .low)
-
-returns : tie.Need-returns
-returns c =
-    let told = c .before .enum-told .given .1 in
-    let k = rw told at (c .before .before .before .take-head .ensures .came) in
-    by-head (c .before .before .before .before .before .before .args .text .now) (ends-bad _ 0 told (omega arith) (k .says) (c .bad .ensures))
-
-sub-read-terms : tie.Need-sub-read-terms
-sub-read-terms c = let k = rw (c .before .progress .given .1) at (c .before .before .before .take-head .ensures .came) in k .within
-
-part-read-terms-start : tie.Need-part-read-terms-start
-part-read-terms-start c = sub-read-terms c
-
-part-read-terms-end : tie.Need-part-read-terms-end
-part-read-terms-end c = omega arith
-
-read-terms-requires : tie.Need-read-terms-requires
-read-terms-requires c κs =
-    let start = c .before .before .before .before .before .before .before .before in
-    let to = c .before .before .before .progress .given in
-    let k = rw (to .1) at (c .before .before .before .before .before .take-head .ensures .came) in
-    (record { held = k .held; equated = k .equated; counted = k .counted }, start .pre)
-
 same-length : tie.Need-same-length
 same-length c = search needs
 
+returns : tie.Need-returns
+returns c =
+    let part = c .before .before .before .before .before in
+    let start = part .before .before .before .before .before .before in
+    let a = start .args in
+    head-refused (start .pre .0) (part .read-head .ensures) (a .lists .now) (a .listed .now) (c .before .enum-told .given .1) (c .told .ensures)
+
+same-length-2 : tie.Need-same-length-2
+same-length-2 c = search needs
+
 returns-2 : tie.Need-returns-2
 returns-2 c =
-    let text = c .before .before .before .before .before .before .before .before .before .before .before .args .text .now in
-    let to = c .before .before .before .before .before .before .progress .given in
-    let k = rw (to .1) at (c .before .before .before .before .before .before .before .before .take-head .ensures .came) in
-    let h = c .before .before .read-terms .ensures in
-    by-head text (ends-on _ (k .says) (rw (rest-lent text (to .0 .1 .0)) at h))
+    let part = c .before .before .before .before .before .before in
+    let start = part .before .before .before .before .before .before in
+    let a = start .args in
+    head-crowded (start .pre .0) (part .read-head .ensures) (c .before .before .head .given .1) (a .lists .now) (a .listed .now)
+    (omega (arith, c .if1 .taken)) refl
+
+sub-from-terms : tie.Need-sub-from-terms
+sub-from-terms c =
+    let part = c .before .before .before .before .before .before in
+    head-within (part .before .before .before .before .before .before .pre .0) (part .read-head .ensures) (c .before .before .head .given .1)
+
+part-from-terms-start : tie.Need-part-from-terms-start
+part-from-terms-start c = sub-from-terms c
+
+part-from-terms-end : tie.Need-part-from-terms-end
+part-from-terms-end c = search needs
+
+from-terms-requires : tie.Need-from-terms-requires
+from-terms-requires c κs =
+    let fits = c .before .before .before .before in
+    let part = fits .before .before .before .before .before .before in
+    let long = part .before .before .before .before .before .before .pre .0 in
+    let to = fits .before .before .head .given .1 in
+    (head-few long (part .read-head .ensures) to, head-long long (part .read-head .ensures) to, omega (arith, fits .if1 .left))
+
+same-length-3 : tie.Need-same-length-3
+same-length-3 c = search needs
+
+same-length-4 : tie.Need-same-length-4
+same-length-4 c = search needs
+
+same-length-5 : tie.Need-same-length-5
+same-length-5 c = search needs
+
+returns-3 : tie.Need-returns-3
+returns-3 c =
+    let fits = c .before .before .before .before .before .before .before .before .before .before .before .before in
+    let part = fits .before .before .before .before .before .before in
+    let start = part .before .before .before .before .before .before in
+    let a = start .args in
+    let to = fits .before .before .head .given in
+    head-read (start .pre .0) (part .read-head .ensures) (to .1) (a .lists .now) (a .listed .now) (omega (arith, fits .if1 .left))
+    (rest-drop (a .text .now) (to .0 .1 .0) (sub-from-terms fits)) (c .before .before .before .before .before .before .before .from-terms .ensures)
+    (c .told2 .ensures)
 
 pub read-lines-spec : {M : Type 1} → statement M
 read-lines-spec =
     tie.close
-    (tie.spec asks-nothing enum-known-progress enum-told bad-requires returns sub-read-terms part-read-terms-start part-read-terms-end
-    read-terms-requires same-length returns-2)
+    (tie.spec asks-nothing enum-known-head enum-told asks-nothing same-length returns same-length-2 returns-2 sub-from-terms
+    part-from-terms-start part-from-terms-end from-terms-requires asks-nothing same-length-3 same-length-4 same-length-5 returns-3)

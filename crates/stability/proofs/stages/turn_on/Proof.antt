@@ -8,11 +8,11 @@ use Rattle.stability.proofs.stages.turn_on.Statement.{statement}
 use Rattle.stability.proofs.stages.turn_on.Tie as tie
 
 abbrev Inv-loop : tie.InvT-loop
-Inv-loop slots store bodies terms sets₀ news₀ work₀ log₀ out₀ end₀ k₀ sets news work log out end k =
-    Turned slots store bodies terms sets₀ news₀ work₀ log₀ out₀ sets news work log out k end
+Inv-loop slots lists bodies sets₀ news₀ work₀ log₀ out₀ end₀ k₀ sets news work log out end k =
+    Turned slots lists bodies sets₀ news₀ work₀ log₀ out₀ sets news work log out k end
 
 abbrev μ-loop : tie.MeasureT-loop
-μ-loop slots store bodies terms sets₀ news₀ work₀ log₀ out₀ end₀ k₀ sets news work log out end k = 2049 - k
+μ-loop slots lists bodies sets₀ news₀ work₀ log₀ out₀ end₀ k₀ sets news work log out end k = 2049 - k
 
 loop-holds : tie.Need-loop-holds Inv-loop μ-loop
 loop-holds c = turned-start

@@ -15,7 +15,7 @@ slice-aggregate-result c = search needs
 returns : tie.Need-returns
 returns c =
     let a = c .before .before .args in
-    take-drop-past (a .store .now) (a .at) (a .count) (omega arith)
+    take-drop-past (a .words .now) (a .at) (a .count) (omega arith)
 
 sub-if2 : tie.Need-sub-if2
 sub-if2 c = search needs
@@ -55,8 +55,8 @@ part-result-end-2 c = search needs
 returns-3 : tie.Need-returns-3
 returns-3 c =
     let a = c .before .before .before .args in
-    let store = a .store .now in
-    take-drop-all store (a .at) (length store - a .at) (a .count) (omega arith) (omega arith)
+    let words = a .words .now in
+    take-drop-all words (a .at) (length words - a .at) (a .count) (omega arith) (omega arith)
 
 pub part-of-spec : {M : Type 1} → statement M
 part-of-spec =

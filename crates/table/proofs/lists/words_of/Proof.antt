@@ -5,11 +5,11 @@ use borrow.Author.Needs.{needs}
 use Rattle.table.proofs.lists.words_of.Statement.{statement}
 use Rattle.table.proofs.lists.words_of.Tie as tie
 
-part-of-requires : tie.Need-part-of-requires
-part-of-requires c κs = search needs
+list-part-requires : tie.Need-list-part-requires
+list-part-requires c κs = search needs
 
 returns : tie.Need-returns
-returns c = rw (mul-one (c .before .before .args .place .entries)) (c .part-of .ensures)
+returns c = rw (mul-one (c .before .before .args .place .entries)) (c .list-part .ensures)
 
 pub words-of-spec : {M : Type 1} → statement M
-words-of-spec = tie.close (tie.spec part-of-requires returns)
+words-of-spec = tie.close (tie.spec list-part-requires returns)

@@ -1,9 +1,9 @@
--- `tails::plains::read_act` meets its contract: a name, and the end of the line.
+-- `tails::plains::read_act` meets its contract: a name, and the LF that ends the line.
 -- Assumes nothing.
 use borrow.Author.Needs.{needs}
 use mathlib.Core.Path.{_≡_, sym, _∙_}
 use mathlib.Core.Bool.{true}
-use mathlib.Core.List.{map}
+use mathlib.Core.List.{[], map}
 use Prim.Native.Nat.{_+_, _≤_}
 use native.Mathlib.Omega.{arith}
 use borrow.Author.Tests.{not-true, not-false}
@@ -14,8 +14,8 @@ use Rattle.grammar.specs.Forms.{space}
 use Rattle.faults.proofs.Calls.{asks-nothing}
 use Rattle.words.specs.Steps.{Stands}
 use Rattle.words.proofs.Rests.{sign-within}
-use Rattle.entries.specs.Entries.{saidOf, seen, nameEntry}
-use Rattle.entries.proofs.Seen.{said-stuck-there, said-went-on, said-stays-on}
+use Rattle.lists.specs.Entries.{saidOf, seen, nameEntry}
+use Rattle.lists.proofs.Seen.{said-stuck-there, said-went-on, said-stays-on}
 use Rattle.tails.proofs.Operands.{act-no-space, act-no-name, act-no-end, act-line}
 use Rattle.tails.proofs.plains.read_act.Statement.{statement}
 use Rattle.tails.proofs.plains.read_act.Tie as tie
@@ -86,20 +86,25 @@ add-next c = let s = named c .within in omega arith
 
 returns-3 : tie.Need-returns-3
 returns-3 c n store =
-    let known = c .before in
+    let known = c .before .before in
     let tested = known .before .before .before .before .before in
     let a = tested .before .before .before .before .args in
-    act-no-end (map (nameOf 8) (a .names .now)) (a .rest .now) (spaced tested) (known .before .name .given .0 .0) (named known) (c .if2 .taken)
+    act-no-end (map (nameOf 8) (a .names .now)) (a .rest .now) (spaced tested) (known .before .name .given .0 .0) (named known)
+    (sym (c .before .sign-at2 .ensures) ∙ not-true _ (c .if2 .taken))
 
 returns-4 : tie.Need-returns-4
 returns-4 c n store =
-    let known = c .before in
+    let known = c .before .before in
     let tested = known .before .before .before .before .before in
     let a = tested .before .before .before .before .args in
-    act-line (map (nameOf 8) (a .names .now)) (a .rest .now) (spaced tested) (known .before .name .given .0 .0) (named known) n store (c .if2 .left)
+    act-line (map (nameOf 8) (a .names .now)) (a .rest .now) (spaced tested) (known .before .name .given .0 .0) (named known) n store
+    (sym (c .before .sign-at2 .ensures) ∙ not-false _ (c .if2 .left))
+
+add-t17 : tie.Need-add-t17
+add-t17 c = let s = returns-4 c 0 [] .within in omega arith
 
 pub read-act-spec : {M : Type 1} → statement M
 read-act-spec =
     tie.close
     (tie.spec asks-nothing returns sub-read-name part-read-name-start part-read-name-end asks-nothing enum-known-name enum-told asks-nothing
-    add-t15 returns-2 add-next returns-3 returns-4)
+    add-t15 returns-2 add-next asks-nothing returns-3 add-t17 returns-4)

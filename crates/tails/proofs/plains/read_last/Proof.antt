@@ -24,7 +24,7 @@ returns : tie.Need-returns
 returns c =
     let read = c .before .before .before in
     let a = read .before .before .args in
-    become (one-seen (madeOf (a .k) (a .t)) (drop (a .at) (a .line .now)))
+    become (one-seen (madeOf (a .k) (a .t)) (drop (a .at) (a .rest .now)))
     (stops (λ u q. alone-with (madeOf (a .k) (a .t) u) q)
     (steps-stuck (read .read-operand .ensures) (stuck-there (c .before .enum-told .given .1) (c .stuck-at .ensures))))
 
@@ -42,10 +42,10 @@ returns-2 c =
     let read = told .before .before in
     let a = read .before .before .args in
     let last = told .last .given in
-    plain-become (a .line .now) (c .finish .result)
-    (ap (λ x. alone-with x (drop (last .0 .1 .0) (a .line .now))) (ap bareTerm (c .before .plain .ensures))
+    plain-become (a .rest .now) (c .finish .result)
+    (ap (λ x. alone-with x (drop (last .0 .1 .0) (a .rest .now))) (ap bareTerm (c .before .plain .ensures))
     ∙ ap (λ d. onward d (λ u q. alone-with (madeOf (a .k) (a .t) u) q)) (steps-to (read .read-operand .ensures) (last .1) .says)
-    ∙ one-seen (madeOf (a .k) (a .t)) (drop (a .at) (a .line .now)))
+    ∙ one-seen (madeOf (a .k) (a .t)) (drop (a .at) (a .rest .now)))
     (c .finish .ensures)
 
 pub read-last-spec : {M : Type 1} → statement M

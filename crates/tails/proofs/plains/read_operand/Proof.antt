@@ -30,7 +30,7 @@ returns c =
     let a = start .args in
     record {
       stands =
-          stays-on operand (a .line .now) (a .at) (start .pre) (read .number-after .ensures)
+          stays-on operand (a .rest .now) (a .at) (start .pre) (read .number-after .ensures)
           (stuck-there (c .before .enum-told .given .1) (c .stuck-at .ensures));
     }
 
@@ -42,7 +42,7 @@ returns-2 c =
     let read = c .before .before .before in
     let start = read .before .before .before in
     let a = start .args in
-    record { stands = went-on operand (a .line .now) (a .at) (start .pre) (read .number-after .ensures) (c .before .read .given .1) }
+    record { stands = went-on operand (a .rest .now) (a .at) (start .pre) (read .number-after .ensures) (c .before .read .given .1) }
 
 add-t7 : tie.Need-add-t7
 add-t7 c = let s = returns-2 c .stands .within in omega arith

@@ -1,6 +1,5 @@
 -- `tails::plains::read_plain` meets its contract: what follows the word is read by the kind's place.
 -- Assumes nothing.
-use borrow.Author.Needs.{needs}
 use mathlib.Core.List.{map}
 use native.Mathlib.Omega.{arith}
 use Rattle.table.specs.Decoded.{nameOf}

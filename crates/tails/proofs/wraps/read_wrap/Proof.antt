@@ -1,20 +1,21 @@
--- `tails::wraps::read_wrap` meets its contract: an operand, a list, and the end of the line.
+-- `tails::wraps::read_wrap` meets its contract: an operand, a list, and the LF that ends the line.
 -- Assumes nothing.
 use borrow.Author.Needs.{needs}
 use mathlib.Core.Path.{sym, ap, _∙_}
 use mathlib.Core.List.{map}
-use Prim.Native.Nat.{_+_, _*_, _≤_}
+use Prim.Native.Nat.{_+_, _≤_}
 use native.Mathlib.Omega.{arith}
 use borrow.Author.Tests.{not-true, not-false}
 use lib.ListN.{length, drop}
 use Rattle.table.specs.Decoded.{nameOf}
+use Rattle.grammar.specs.Text.{lf}
 use Rattle.grammar.specs.Forms.{space}
 use Rattle.faults.proofs.Calls.{asks-nothing}
 use Rattle.words.proofs.Rests.{sign-within}
 use Rattle.words.proofs.Steps.{stuck-there, steps-to, steps-stuck}
-use Rattle.entries.specs.Entries.{saidPlace}
+use Rattle.lists.specs.Entries.{saidPlace}
 use Rattle.lists.specs.Lists.{wholeList, ListRead}
-use Rattle.entries.proofs.Seen.{said-stuck-there, said-within}
+use Rattle.lists.proofs.Seen.{said-stuck-there, said-within}
 use Rattle.lists.proofs.Listed.{list-there}
 use Rattle.tails.specs.Wraps.{wrapOf}
 use Rattle.tails.proofs.WrapLines.{operator-wrapped, no-operand, no-space, no-list, no-end, wrap-line}
@@ -85,7 +86,7 @@ listed c =
     let told = kind .before .before .before .before in
     let start = entry told in
     let a = start .args in
-    list-there (a .names .now) (kind .list-kind .result) (a .rest .now) (told .operand .given .0 .1 .0 + 1) (start .pre .0) (passed (kind .before))
+    list-there (a .names .now) (kind .list-kind .result) (a .rest .now) (told .operand .given .0 .1 .0 + 1) (start .pre) (passed (kind .before))
     (c .read-whole .ensures)
 
 enum-known-list : tie.Need-enum-known-list
@@ -133,39 +134,46 @@ same-length-2 c = search needs
 
 returns-4 : tie.Need-returns-4
 returns-4 c =
-    let read = c .before .before .before .before .before .before in
+    let known = c .before .before in
+    let read = known .before .before .before .before .before in
     let kind = read .before .before .before in
     let told = kind .before .before .before .before in
     let number = told .before .before in
     let a = number .before .before .before .before .args in
     no-end (wrapOf (a .k)) (map (nameOf 8) (a .names .now)) (a .rest .now) (steps-to (number .number-after .ensures) (told .operand .given .1))
     (sym (kind .before .before .sign-at .ensures) ∙ not-false _ (kind .before .if1 .left)) (kind .list-kind .ensures) (passed (kind .before)) (listed read)
-    (c .before .before .list .given .1) (c .if2 .taken)
+    (known .before .list .given .1) (sym (c .before .sign-at2 .ensures) ∙ not-true _ (c .if2 .taken))
 
-wrapped-requires : tie.Need-wrapped-requires
-wrapped-requires c κs =
-    let read = c .before .before .before .before .before .before in
-    entry (operand-read read) .pre .1
+-- the LF lies in the text
+add-wrapped : tie.Need-add-wrapped
+add-wrapped c =
+    let known = c .before .before in
+    let told = operand-read (known .before .before .before .before .before) in
+    let next = told .operand .given .0 .1 .0 + 1 + known .before .list .given .0 .1 .0 in
+    omega (arith, sign-within lf (entry told .args .rest .now) next (sym (c .before .sign-at2 .ensures) ∙ not-false _ (c .if2 .left)), entry told .good .1 .0)
 
 same-length-3 : tie.Need-same-length-3
 same-length-3 c = search needs
 
 returns-5 : tie.Need-returns-5
 returns-5 c =
-    let read = c .before .before .before .before .before .before .before in
+    let tested = c .before in
+    let known = tested .before .before in
+    let read = known .before .before .before .before .before in
     let kind = read .before .before .before in
     let told = kind .before .before .before .before in
     let number = told .before .before in
     let a = number .before .before .before .before .args in
-    let list = c .before .before .before .list .given in
+    let list = known .before .list .given in
     rw (c .wrapped .ensures)
     (wrap-line (wrapOf (a .k)) (map (nameOf 8) (a .names .now)) (a .rest .now) (steps-to (number .number-after .ensures) (told .operand .given .1))
     (sym (kind .before .before .sign-at .ensures) ∙ not-false _ (kind .before .if1 .left)) (kind .list-kind .ensures) (passed (kind .before)) (listed read)
-    (list .1) (a .n) (c .before .if2 .left) (operator-wrapped (a .k) (record { at = 32 * a .n; entries = list .0 .0 .first })))
+    (list .1) (a .n) (sym (tested .before .sign-at2 .ensures) ∙ not-false _ (tested .if2 .left))
+    (operator-wrapped (a .k) (record { at = a .n; entries = list .0 .0 .first })))
 
 pub read-wrap-spec : {M : Type 1} → statement M
 read-wrap-spec =
     tie.close
     (tie.spec asks-nothing enum-known-operand enum-told asks-nothing returns asks-nothing returns-2 asks-nothing add-behind sub-read-whole
-    part-read-whole-start part-read-whole-end asks-nothing enum-known-list enum-told-2 asks-nothing add-t25 same-length returns-3 add-next
-    same-length-2 returns-4 wrapped-requires same-length-3 returns-5)
+    part-read-whole-start part-read-whole-end asks-nothing enum-known-list enum-told-2 asks-nothing add-t25 same-length returns-3 add-next asks-nothing
+    same-length-2 returns-4 add-wrapped asks-nothing same-length-3 returns-5)

@@ -1,4 +1,0 @@
--- What the answers of the readers of entries stand for.
-pub mod Tallies
-pub mod Entries
-pub mod Sides

@@ -1,0 +1,154 @@
+-- `lists::labels::read_label` meets its contract: part after part, what was read and what is to come are the label.
+-- Assumes nothing.
+use borrow.Author.Needs.{needs}
+use mathlib.Core.Path.{_≡_, sym, _∙_}
+use mathlib.Core.List.{List, [], _∷_, _++_, map}
+use Prim.Native.Nat.{_+_, _-_}
+use native.Mathlib.Omega.{arith}
+use borrow.Author.Tests.{not-true, not-false}
+use lib.ListN.{length, drop, length-map}
+use Rattle.meaning.specs.Legal.{Each}
+use Rattle.table.specs.Decoded.{nameOf}
+use Rattle.grammar.specs.Forms.{part, dot}
+use Rattle.words.specs.Steps.{Stands}
+use Rattle.grammar.specs.Text.{past}
+use Rattle.faults.proofs.Calls.{asks-nothing}
+use Rattle.words.proofs.Steps.{otherwise, become}
+use Rattle.lists.specs.Tallies.{Said}
+use Rattle.lists.specs.Entries.{saidOf, seen, partSaid}
+use Rattle.lists.proofs.Seen.{said-stuck-there, said-went-on, said-stays-on, said-same}
+use Rattle.lists.proofs.Tallied.{Tallied, tallied-none, tallied-more}
+use Rattle.lists.proofs.Gathered.{Progress, begun, list-stuck, list-ends, list-goes-on, ended-with, stuck-with}
+use Rattle.lists.proofs.Parts.{Known, sizes, parts-none, partsNumber, partsEntry, room-for, sum-more, each-snoc, part-known, label-seen}
+use Rattle.lists.proofs.labels.read_label.Statement.{statement}
+use Rattle.lists.proofs.labels.read_label.Tie as tie
+
+-- Some parts were read; the tally and the number are theirs.
+abbrev Inv-loop : tie.InvT-loop
+Inv-loop rest names starts tally₀ number₀ from₀ tally number from =
+    (es : List Said) × Progress dot (seen (partSaid (map (nameOf 8) names)) part) rest from es × Tallied sizes 31 es tally × Each Known es
+    × (number ≡ partsNumber es)
+
+abbrev μ-loop : tie.MeasureT-loop
+μ-loop rest names starts tally₀ number₀ from₀ tally number from = length rest - from
+
+loop-holds : tie.Need-loop-holds Inv-loop μ-loop
+loop-holds c = ([], begun _ _ _, tallied-none sizes 31 (c .empty-tally .ensures), tt, parts-none)
+
+sub-read-part : tie.Need-sub-read-part Inv-loop μ-loop
+sub-read-part c = omega (arith, c .loop .inv .1 .within)
+
+part-read-part-start : tie.Need-part-read-part-start Inv-loop μ-loop
+part-read-part-start c = c .loop .inv .1 .within
+
+part-read-part-end : tie.Need-part-read-part-end Inv-loop μ-loop
+part-read-part-end c = search needs
+
+read-part-requires : tie.Need-read-part-requires Inv-loop μ-loop
+read-part-requires c κs = c .before .before .before .before .before .pre .1
+
+enum-known-part : tie.Need-enum-known-part Inv-loop μ-loop
+enum-known-part c = c .match .keys1
+
+enum-told : tie.Need-enum-told Inv-loop μ-loop
+enum-told c = c .match .keys2
+
+returns : tie.Need-returns Inv-loop μ-loop
+returns c =
+    let read = c .before .before .before in
+    let loop = read .before .before .loop in
+    let a = read .before .before .before .before .before .before .args in
+    record {
+      stands =
+          become (label-seen _ (a .rest .now))
+          (stuck-with partsEntry
+          (list-stuck (loop .inv .1)
+          (said-stays-on (seen (partSaid (map (nameOf 8) (a .names .now))) part) (a .rest .now) (loop .from) (loop .inv .1 .within) (read .read-part .ensures)
+          (said-stuck-there (c .before .enum-told .given .1) (c .said-stuck-at .ensures)))));
+    }
+
+add-t19 : tie.Need-add-t19 Inv-loop μ-loop
+add-t19 c = let s = returns c .stands .within in omega arith
+
+-- the part that was read, in the line
+went : (c : tie.After-known-told Inv-loop μ-loop)
+    → let read = c .before .before .before in
+    let from = read .before .before .loop .from in
+    let a = read .before .before .before .before .before .before .args in
+    let next = from + c .before .part .given .0 .1 .0 in
+    Stands (a .rest .now) next (past (saidOf (c .before .part .given .0 .0)) (drop next (a .rest .now)))
+    (seen (partSaid (map (nameOf 8) (a .names .now))) part (drop from (a .rest .now)))
+went c =
+    let read = c .before .before .before in
+    let loop = read .before .before .loop in
+    let a = read .before .before .before .before .before .before .args in
+    said-went-on (seen (partSaid (map (nameOf 8) (a .names .now))) part) (a .rest .now) (loop .from) (loop .inv .1 .within) (read .read-part .ensures)
+    (c .before .part .given .1)
+
+add-next : tie.Need-add-next Inv-loop μ-loop
+add-next c = let s = went c .within in omega arith
+
+known : (c : tie.After-known-told Inv-loop μ-loop) → Known (saidOf (c .before .part .given .0 .0))
+known c =
+    let read = c .before .before .before in
+    part-known _ (rw length-map (read .before .before .before .before .before .before .pre .0)) _ (went c .says)
+
+tallied : (c : tie.After-counted Inv-loop μ-loop)
+    → let l = c .before .before .before .before .before .before .loop in
+    Tallied sizes 31 (l .inv .0 ++ (saidOf (c .before .before .part .given .0 .0) ∷ [])) (c .counted .result)
+tallied c =
+    let t = c .before .before .before .before .before .before .loop .inv .2 in
+    let k = known (c .before) in
+    tallied-more sizes 31 (saidOf (c .before .before .part .given .0 .0)) t
+    (record { keys = omega (arith, k .low); totals = omega (arith, t .totals); weights = k .few; limits = omega arith }) (c .counted .ensures)
+
+added-requires : tie.Need-added-requires Inv-loop μ-loop
+added-requires c κs =
+    let l = c .before .before .before .before .before .before .loop in
+    room-for (l .inv .0) (saidOf (c .before .before .part .given .0 .0)) (l .inv .3) (known (c .before)) (l .number) (l .inv .4) (tallied c .faults)
+
+summed : (c : tie.After-added Inv-loop μ-loop)
+    → let l = c .before .before .before .before .before .before .before .loop in
+    c .added .result ≡ partsNumber (l .inv .0 ++ (saidOf (c .before .before .before .part .given .0 .0) ∷ []))
+summed c =
+    let l = c .before .before .before .before .before .before .before .loop in
+    sum-more (l .inv .0) (saidOf (c .before .before .before .part .given .0 .0)) (l .inv .3) (known (c .before .before)) (l .number) (l .inv .4)
+    (tallied (c .before) .faults) (c .added .ensures)
+
+returns-2 : tie.Need-returns-2 Inv-loop μ-loop
+returns-2 c =
+    let added = c .before .before in
+    let read = added .before .before .before .before .before in
+    let l = read .before .before .loop in
+    let a = read .before .before .before .before .before .before .args in
+    record {
+      stands =
+          become (label-seen _ (a .rest .now))
+          (otherwise
+          (ended-with partsEntry (list-ends (l .inv .1) (went (added .before .before)) (sym (c .before .sign-at .ensures) ∙ not-true _ (c .if1 .taken))))
+          (said-same (tallied (added .before) .faults) (summed added) (tallied (added .before) .totals)));
+    }
+
+loop-again : tie.Need-loop-again Inv-loop μ-loop
+loop-again c =
+    let added = c .before .before in
+    let l = added .before .before .before .before .before .before .before .loop in (
+      l .inv .0 ++ (saidOf (added .before .before .before .part .given .0 .0) ∷ []),
+      list-goes-on (l .inv .1) (went (added .before .before)) (omega arith) (sym (c .before .sign-at .ensures) ∙ not-false _ (c .if1 .left)),
+      tallied (added .before),
+      each-snoc Known (l .inv .0) _ (l .inv .3) (known (added .before .before)),
+      summed added,
+    )
+
+-- the dot lies in the line
+add-from : tie.Need-add-from Inv-loop μ-loop
+add-from c = let p = loop-again c .1 .within in omega arith
+
+loop-less : tie.Need-loop-less Inv-loop μ-loop
+loop-less c = let p = loop-again c .1 .within in omega arith
+
+pub read-label-spec : {M : Type 1} → statement M
+read-label-spec =
+    tie.close
+    (tie.spec Inv-loop μ-loop asks-nothing loop-holds sub-read-part part-read-part-start part-read-part-end read-part-requires enum-known-part enum-told
+    asks-nothing add-t19 returns add-next asks-nothing added-requires asks-nothing returns-2 add-from loop-less loop-again)

@@ -1,0 +1,87 @@
+// Labels: `name:count` parts joined by dots.
+ghost use Prim.Native.Nat.{_+_, _*_, _^_, _≤_};
+ghost use mathlib.Core.Path.{_≡_};
+ghost use mathlib.Core.List.{map};
+ghost use lib.ListN.{length};
+ghost use Rattle.table.specs.Decoded.{nameOf};
+ghost use Rattle.grammar.specs.Forms.{part, label};
+ghost use Rattle.faults.specs.CodedFaults.{foundOf};
+ghost use Rattle.lists.specs.Entries.{Says, seen, partSaid, labelEntry, unlessFaulty, Room};
+ghost use Rattle.lists.specs.Starts.{Starting};
+use crate::Said;
+use crate::SaidStep;
+use crate::names::name_from;
+use crate::said_stuck_at;
+use faults::Found;
+use faults::amount_unless;
+use faults::counted;
+use faults::empty_tally;
+use faults::worse_of;
+use words::Step;
+use words::literals::sign_at;
+use words::numbers::number_after;
+use words::stuck_at;
+
+// A part: its name's number and its count.
+fn read_part(rest: &[u8], names: &[u64], starts: &[u8; 32]) -> SaidStep
+    requires { ⌜ Starting (now names) (now starts) ⌝ }
+    ensures { λ r. ⌜ Says (now (rest .entry)) r (seen (partSaid (map (nameOf 8) (now (names .entry)))) part (now (rest .entry))) ⌝ }
+{
+    let name = name_from(rest, names, starts);
+    let SaidStep::To(n, after) = name else {
+        return name;
+    };
+    let count = number_after(&rest[after..], b':');
+    let Step::To(times, bytes) = count else {
+        return SaidStep::Stuck(after + stuck_at(count));
+    };
+    let known = n.fault;
+    let some = amount_unless(1 <= times);
+    let said = Said {
+        fault: worse_of(known, some),
+        first: n.first,
+        second: times,
+    };
+    SaidStep::To(said, after + bytes)
+}
+
+// The number of a label with a part more, as long as there is no fault.
+fn added(number: u64, found: Found, name: u64, times: u64) -> u64
+    requires { ⌜ Room (foundOf found) number name times ⌝ }
+    ensures { λ r. ⌜ r ≡ unlessFaulty (foundOf found) (number + times * 32 ^ name) ⌝ }
+{
+    let Found::Fine = found else {
+        return 0;
+    };
+    number + (times << (5 * name))
+}
+
+// One part or more, with a dot between two.
+pub fn read_label(rest: &[u8], names: &[u64], starts: &[u8; 32]) -> SaidStep
+    requires { ⌜ (length (now names) ≤ 12) × Starting (now names) (now starts) ⌝ }
+    ensures { λ r. ⌜ Says (now (rest .entry)) r (seen (labelEntry (map (nameOf 8) (now (names .entry)))) label (now (rest .entry))) ⌝ }
+{
+    let mut tally = empty_tally();
+    let mut number: u64 = 0;
+    let mut from = 0;
+    loop {
+        let part = read_part(&rest[from..], names, starts);
+        let SaidStep::To(said, bytes) = part else {
+            return SaidStep::Stuck(from + said_stuck_at(part));
+        };
+        let next = from + bytes;
+        let fault = said.fault;
+        tally = counted(tally, fault, said.first, said.second, 31);
+        let found = tally.fault;
+        number = added(number, found, said.first, said.second);
+        if !sign_at(rest, next, b'.') {
+            let label = Said {
+                fault: found,
+                first: number,
+                second: tally.total,
+            };
+            return SaidStep::To(label, next);
+        }
+        from = next + 1;
+    }
+}

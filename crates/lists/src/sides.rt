@@ -1,0 +1,76 @@
+// Entries of two sides, with `>` between them: pairs and rules.
+ghost use Prim.Native.Nat.{_≤_};
+ghost use mathlib.Core.List.{map};
+ghost use lib.ListN.{length};
+ghost use Rattle.table.specs.Decoded.{nameOf};
+ghost use Rattle.grammar.specs.Forms.{pair, rule};
+ghost use Rattle.lists.specs.Entries.{saidPlace, Says, seen, pairEntry, ruleEntry};
+ghost use Rattle.lists.specs.Sides.{Enough, Sided};
+ghost use Rattle.lists.specs.Starts.{Starting};
+use crate::Said;
+use crate::SaidStep;
+use crate::labels::read_label;
+use crate::names::name_from;
+use crate::said_stuck_at;
+use faults::amount_unless;
+use faults::worse_of;
+use words::literals::sign_at;
+
+// An entry whose left side was read: `>` and a name follow.
+fn with_right(left: SaidStep, rest: &[u8], names: &[u64], starts: &[u8; 32]) -> SaidStep
+    requires { ⌜ (saidPlace left ≤ length (now rest)) × Starting (now names) (now starts) ⌝ }
+    ensures { λ r. ⌜ Sided (map (nameOf 8) (now (names .entry))) (now (rest .entry)) left r ⌝ }
+{
+    let SaidStep::To(l, after) = left else {
+        return left;
+    };
+    if !sign_at(rest, after, b'>') {
+        return SaidStep::Stuck(after);
+    }
+    let behind = after + 1;
+    let right = name_from(&rest[behind..], names, starts);
+    let SaidStep::To(n, bytes) = right else {
+        return SaidStep::Stuck(behind + said_stuck_at(right));
+    };
+    let fault = l.fault;
+    let known = n.fault;
+    let said = Said {
+        fault: worse_of(fault, known),
+        first: l.first,
+        second: n.first,
+    };
+    SaidStep::To(said, behind + bytes)
+}
+
+// A name on each side.
+pub fn read_pair(rest: &[u8], names: &[u64], starts: &[u8; 32]) -> SaidStep
+    requires { ⌜ Starting (now names) (now starts) ⌝ }
+    ensures { λ r. ⌜ Says (now (rest .entry)) r (seen (pairEntry (map (nameOf 8) (now (names .entry)))) pair (now (rest .entry))) ⌝ }
+{
+    with_right(name_from(rest, names, starts), rest, names, starts)
+}
+
+// A rule's left side has at least two actions.
+fn two_or_more(label: SaidStep) -> SaidStep
+    ensures { λ r. ⌜ Enough label r ⌝ }
+{
+    let SaidStep::To(l, next) = label else {
+        return label;
+    };
+    let fault = l.fault;
+    let said = Said {
+        fault: worse_of(fault, amount_unless(2 <= l.second)),
+        first: l.first,
+        second: l.second,
+    };
+    SaidStep::To(said, next)
+}
+
+// A label on the left side.
+pub fn read_rule(rest: &[u8], names: &[u64], starts: &[u8; 32]) -> SaidStep
+    requires { ⌜ (length (now names) ≤ 12) × Starting (now names) (now starts) ⌝ }
+    ensures { λ r. ⌜ Says (now (rest .entry)) r (seen (ruleEntry (map (nameOf 8) (now (names .entry)))) rule (now (rest .entry))) ⌝ }
+{
+    let label = read_label(rest, names, starts);
+    with_right(two_or_more(label), rest, names, starts)
+}
