@@ -58,7 +58,7 @@ template <class Out> void put_label(Out &out, const Description &d, Label label)
     out.replace_last('\n');
 }
 
-constexpr size_t LONGEST_REFUSAL = sizeof "answer=refused\nreason=7\nline=130\n";
+constexpr size_t LONGEST_REFUSAL = sizeof "answer=refused\nreason=7\nline=130\ncolumn=8192\n";
 constexpr size_t LONGEST_HEAD = sizeof "answer=ok\nrounds=2049\nlabels=1024\n";
 constexpr size_t LONGEST_LABEL = sizeof "label=" + MOST_NAMES * sizeof "namename:31";
 
@@ -91,6 +91,7 @@ size_t write_refusal(Refusal refusal, uint8_t *area, size_t area_length) {
         out.put("answer=refused\n");
         put_line(out, "reason=", unsigned(refusal.reason));
         put_line(out, "line=", refusal.line);
+        put_line(out, "column=", refusal.column);
     };
     return write_if_it_fits(put_refusal, LONGEST_REFUSAL, area, area_length);
 }

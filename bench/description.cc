@@ -1,5 +1,6 @@
 #include "description.h"
 
+#include "columns.h"
 #include "list_reader.h"
 
 namespace {
@@ -21,20 +22,24 @@ constexpr KindTable KINDS = table_of_kinds();
 
 // The lines in the order in which they are due. Reading ends at the first that does not pass.
 class DescriptionReader : ListReader {
-    const char *end;
+    std::string_view text;
     Description &d;
 
   public:
     DescriptionReader(std::string_view text, Description &description)
-        : ListReader(text, description.words.data()), end(text.data() + text.size()), d(description) {}
+        : ListReader(text, description.words.data()), text(text), d(description) {}
 
     Refusal read() {
         bool is_read = read_names() && read_terms() && read_bodies() && passes(take_body("root=", d.root)) &&
-                       passes(take_order()) && passes(place() == end);
-        return is_read ? Refusal{Reason::none, 0} : refusal();
+                       passes(take_order()) && passes(taken() == text.size());
+        return is_read ? Refusal{Reason::none, 0, 0} : refusal();
     }
 
   private:
+    Refusal refusal() const { return {reason(), line_number(), column_of(reason(), line_number(), text, taken(), d)}; }
+
+    size_t taken() const { return place() - text.data(); }
+
     bool read_names() {
         bool is_read = passes(take_count("names=", 1, MOST_NAMES, d.name_count));
         for (unsigned n = 0; is_read && n < d.name_count; ++n) {
@@ -148,7 +153,7 @@ class DescriptionReader : ListReader {
 
 Refusal read_description(std::string_view text, Description &description) {
     if (text.size() > MOST_BYTES) {
-        return {Reason::too_long, 0};
+        return {Reason::too_long, 0, 0};
     }
     return DescriptionReader(text, description).read();
 }

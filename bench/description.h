@@ -74,6 +74,7 @@ enum class Reason : uint8_t { none, too_long, form, name, range, list, too_large
 struct Refusal {
     Reason reason;
     unsigned line;
+    unsigned column;
 };
 
 // Reads a description and checks every line. The reason is none if it is well-formed; if not, nothing is promised of what was

@@ -35,8 +35,9 @@ class LineReader {
         return !has_faults();
     }
 
-    // Of the line that did not pass: the smallest number.
-    Refusal refusal() const { return {Reason(__builtin_ctz(faults)), line}; }
+    // Of the line that did not pass: the smallest number counts.
+    Reason reason() const { return Reason(__builtin_ctz(faults)); }
+    unsigned line_number() const { return line; }
 
     // Not to be called where a line may be missing.
     bool take(char byte) {

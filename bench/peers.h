@@ -18,7 +18,7 @@ template <class Rounds> size_t text_by(const uint8_t *description, size_t length
     }
     Answer answer = Rounds(d).answer();
     if (answer.is_too_large) {
-        return write_refusal({Reason::too_large, 0}, text, text_length);
+        return write_refusal({Reason::too_large, 0, 0}, text, text_length);
     }
     return write_answer(d, std::move(answer), text, text_length);
 }

@@ -28,7 +28,7 @@
 extern "C" {
 #endif
 
-#define RIMECUTTER_VERSION "1.2"
+#define RIMECUTTER_VERSION "1.3"
 
 /* The longest description that is read; a longer one gets refusal 1. */
 #define RIMECUTTER_DESCRIPTION_MAX 8192
@@ -36,9 +36,11 @@ extern "C" {
 /* A text area of this many bytes holds the text of every description. */
 #define RIMECUTTER_TEXT_MAX 155648
 
-/* What `reason=` says in the text of a refusal. `line=` counts from 1; it is 0
- * where no line is to blame. Number 8 stands in no text: the call returns 0.
- * The number between 5 and 7 was withdrawn in 1.2 and is not given again.
+/* What `reason=` says in the text of a refusal. `line=` counts from 1, and
+ * `column=` from 1 in the line's bytes: the byte where the fault begins. Both
+ * are 0 where no line is to blame. Number 8 stands in no text: the call
+ * returns 0. The number between 5 and 7 was withdrawn in 1.2 and is not given
+ * again; columns came with 1.3.
  */
 enum rimecutter_reason {
     RIMECUTTER_TOO_LONG = 1,  /* over RIMECUTTER_DESCRIPTION_MAX bytes */
@@ -56,8 +58,8 @@ enum rimecutter_reason {
 /* Works out the alphabet of a description and writes, from the start of the
  * text area, the text that the program `alphabet` prints: an answer
  * (`answer=ok`, `rounds=`, `labels=` and a `label=` line for each label) or a
- * refusal (`answer=refused`, `reason=` and `line=`). Every line ends with LF;
- * there is no 0 byte at the end.
+ * refusal (`answer=refused`, `reason=`, `line=` and `column=`). Every line
+ * ends with LF; there is no 0 byte at the end.
  *
  * Returns how many bytes were written. Where the whole text does not fit it
  * returns 0 and leaves the area as it was (refusal 8); no text is empty, so 0

@@ -21,8 +21,8 @@ static const char listing[] =
     "names=2\nname=done\nname=close\nequations=1\nterms=5\nterm=act done\nterm=ref 0\nterm=seq 0 1\nterm=merge 1 1\n"
     "term=comm 3 done:2>close\nequation=2\nroot=4\norder=all\n";
 static const char listed[] = "answer=ok\nrounds=2\nlabels=3\nlabel=done:1\nlabel=done:2\nlabel=close:1\n";
-static const char no_line[] = "answer=refused\nreason=2\nline=1\n";
-static const char too_long[] = "answer=refused\nreason=1\nline=0\n";
+static const char no_line[] = "answer=refused\nreason=2\nline=1\ncolumn=1\n";
+static const char too_long[] = "answer=refused\nreason=1\nline=0\ncolumn=0\n";
 
 struct area {
     uint8_t *whole;

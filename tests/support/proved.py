@@ -107,10 +107,10 @@ def check_program():
     listing = (TOP / "crates" / "alphabet" / "stdin").read_bytes()
     due = (TOP / "crates" / "alphabet" / "stdout").read_bytes()
     expect(program, [listing[at : at + 1] for at in range(len(listing))], due)
-    refused = b"answer=refused\nreason=%d\nline=%d\n"
-    expect(program, [], refused % (2, 1))
-    expect(program, [listing, bytes(8193 - len(listing))], refused % (1, 0))
-    expect(program, [b"\n" * 65536] * 16, refused % (1, 0))
+    refused = b"answer=refused\nreason=%d\nline=%d\ncolumn=%d\n"
+    expect(program, [], refused % (2, 1, 1))
+    expect(program, [listing, bytes(8193 - len(listing))], refused % (1, 0, 0))
+    expect(program, [b"\n" * 65536] * 16, refused % (1, 0, 0))
     print("the program answers pieces and too long input as it should", flush=True)
 
 

@@ -7,6 +7,7 @@ tried must not be rare among the records.
 import collections
 import re
 
+from support import columns
 from support.programs import Failed
 from support.syncs import SORTS, sorts_of_sync
 
@@ -26,6 +27,9 @@ FEW_WITH_MANY_ROUNDS = 100
 
 # The same for a sort of sync in descriptions that are answered.
 FEW_WITH_A_SYNC = 2000
+
+# The same for what the column of a refusal shows.
+FEW_WITH_A_COLUMN = 100
 
 KINDS_OF_TERM = (
     "act tau delta ref sum cond choice ifelse seq merge lmerge sync"
@@ -49,9 +53,10 @@ def report(sample):
     by_kind = collections.defaultdict(collections.Counter)
     answered_with = collections.Counter()
     syncs = collections.Counter()
+    shown = collections.Counter()
     rounds = []
     for record, text, name in zip(sample.records, sample.texts, sample.classes):
-        outcome, second = outcome_of(text)
+        outcome, second, column = outcome_of(text)
         by_class[name][outcome] += 1
         by_class["together"][outcome] += 1
         if outcome == ANSWERED:
@@ -61,12 +66,20 @@ def report(sample):
             syncs.update(sorts_of_sync(lines))
         else:
             by_kind[kind_at(record, second)][outcome] += 1
+            if second:
+                shown.update(columns.sorts_of_refusal(record, outcome, second, column))
     show("class", by_class)
     show("line refused", by_kind)
     long = sum(count >= MANY_ROUNDS for count in rounds)
     print(f"most rounds: {max(rounds, default=0)}, {MANY_ROUNDS} or more: {long} records")
     print("answered with a sync: " + ", ".join(f"{sort} {syncs[sort]}" for sort in SORTS))
+    print("refused with " + ", ".join(f"{sort}: {shown[sort]}" for sort in columns.SORTS))
     found = rare(by_class["together"], by_kind, answered_with, syncs)
+    found += [
+        f"{shown[sort]} refused with {sort}"
+        for sort in columns.SORTS
+        if shown[sort] < FEW_WITH_A_COLUMN
+    ]
     if long < FEW_WITH_MANY_ROUNDS:
         found.append(f"{long} with {MANY_ROUNDS} rounds or more")
     if found:
@@ -74,14 +87,15 @@ def report(sample):
 
 
 def outcome_of(text):
-    """The outcome, and the rounds of an answer or the line of a refusal."""
+    """The outcome, the rounds of an answer or the line of a refusal, and its
+    column."""
     answer = re.match(rb"answer=ok\nrounds=(\d+)\n", text)
     if answer:
-        return ANSWERED, int(answer[1])
-    refusal = re.fullmatch(rb"answer=refused\nreason=(\d)\nline=(\d+)\n", text)
+        return ANSWERED, int(answer[1]), 0
+    refusal = re.fullmatch(rb"answer=refused\nreason=(\d)\nline=(\d+)\ncolumn=(\d+)\n", text)
     if not refusal:
         raise Failed(f"the reference printed {text!r}")
-    return int(refusal[1]), int(refusal[2])
+    return tuple(map(int, refusal.groups()))
 
 
 def kind_at(record, line):

@@ -37,7 +37,7 @@ def text_of(figures):
 
 def verdict_of(text):
     """The verdict in the text that is printed for a description."""
-    outcome, second = outcome_of(text)
+    outcome, second, _ = outcome_of(text)
     if outcome != ANSWERED:
         return Verdict(outcome, 0, 0)
     return Verdict(ANSWERED, second, int(re.search(rb"^labels=(\d+)$", text, re.MULTILINE)[1]))

@@ -11,7 +11,7 @@ from support.in_folder import InFolder
 from support.programs import TOP, Failed
 from support.records import Sample
 
-REFUSAL = b"answer=refused\nreason=7\nline=0\n"
+REFUSAL = b"answer=refused\nreason=7\nline=0\ncolumn=0\n"
 
 
 def lines(labels):

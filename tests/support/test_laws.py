@@ -52,7 +52,7 @@ class Laws(InFolder):
         self.fails("no-law-hide-under has the same labels twice")
 
     def test_a_refusal_is_no_answer(self):
-        refusal = "answer=refused\nreason=7\nline=0\n"
+        refusal = "answer=refused\nreason=7\nline=0\ncolumn=0\n"
         self.write("law-twice", refusal, refusal)
         self.fails("law-twice is not answered")
 

@@ -39,11 +39,11 @@ class Regrouping(unittest.TestCase):
 
     def test_descriptions_without_labels(self):
         with self.assertRaisesRegex(Failed, "block over merge is tried on 0 labels alone"):
-            self.check(lambda record: b"answer=refused\nreason=7\nline=0\n")
+            self.check(lambda record: b"answer=refused\nreason=7\nline=0\ncolumn=0\n")
 
     def test_descriptions_that_are_not_well_formed(self):
         with self.assertRaisesRegex(Failed, "a law is tried on a description that is not well-formed"):
-            self.check(lambda record: b"answer=refused\nreason=4\nline=9\n")
+            self.check(lambda record: b"answer=refused\nreason=4\nline=9\ncolumn=6\n")
 
 
 if __name__ == "__main__":

@@ -111,8 +111,8 @@ class Texts(unittest.TestCase):
         cases = [
             (b"answer=ok\nrounds=2\nlabels=1\nlabel=a:1\n", Verdict(0, 2, 1)),
             (b"answer=ok\nrounds=12\nlabels=0\n", Verdict(0, 12, 0)),
-            (b"answer=refused\nreason=7\nline=0\n", Verdict(7, 0, 0)),
-            (b"answer=refused\nreason=4\nline=9\n", Verdict(4, 0, 0)),
+            (b"answer=refused\nreason=7\nline=0\ncolumn=0\n", Verdict(7, 0, 0)),
+            (b"answer=refused\nreason=4\nline=9\ncolumn=6\n", Verdict(4, 0, 0)),
         ]
         for text, due in cases:
             self.assertEqual(tally_files.verdict_of(text), due)

@@ -1,86 +1,63 @@
--- Faults joined, as the least of numbers: no fault counts 7. An equation between joins is one between numbers.
+-- Faults joined: of two the smaller number stays, and of one number the first.
 -- Assumes nothing.
-use mathlib.Core.Path.{_≡_, refl, sym, ap, _∙_}
-use mathlib.Core.Bool.{Bool, true, false, _&&_}
-use mathlib.Core.List.{List, [], _∷_, _++_}
-use Prim.Native.Nat.{ℕ, _+_, _≤_, min}
+use mathlib.Core.Path.{_≡_, refl, sym, subst}
+use mathlib.Core.Bool.{Bool, true, false}
+use Prim.Native.Nat.{ℕ, _≤_, _<_}
 use native.Mathlib.Omega.{arith}
 use lib.Dec.{leb}
-use lib.ListN.{getD}
-use borrow.Author.Tests.{leb-true, leb-false, le-leb}
-use Rattle.meaning.specs.Answers.{Fault, form, name, range, amount, faultNumber}
-use Rattle.grammar.specs.Faults.{Found, fine, fault, smaller, worse, unless, worst}
-
-abbrev pub rank : Found → ℕ
-rank fine = 7
-rank (fault x) = faultNumber x
-
-pub rank-most : (a : Found) → rank a ≤ 7
-rank-most fine = omega arith
-rank-most (fault form) = omega arith
-rank-most (fault name) = omega arith
-rank-most (fault range) = omega arith
-rank-most (fault amount) = omega arith
-
-abbrev ranked : ℕ → Found
-ranked n = getD (fine ∷ fine ∷ fault form ∷ fault name ∷ fault range ∷ fault amount ∷ []) n fine
-
-ranked-rank : (a : Found) → ranked (rank a) ≡ a
-ranked-rank fine = refl
-ranked-rank (fault form) = refl
-ranked-rank (fault name) = refl
-ranked-rank (fault range) = refl
-ranked-rank (fault amount) = refl
-
-pub by-rank : (a b : Found) → rank a ≡ rank b → a ≡ b
-by-rank a b e = sym (ranked-rank a) ∙ ap ranked e ∙ ranked-rank b
-
-smaller-rank : (t : Bool) (x y : Fault) → leb (faultNumber x) (faultNumber y) ≡ t → rank (smaller t x y) ≡ min (faultNumber x) (faultNumber y)
-smaller-rank true x y e = let h = leb-true (faultNumber x) (faultNumber y) e in omega arith
-smaller-rank false x y e = let h = leb-false (faultNumber x) (faultNumber y) e in omega arith
-
-pub rank-worse : (a b : Found) → rank (worse a b) ≡ min (rank a) (rank b)
-rank-worse fine b = let h = rank-most b in omega arith
-rank-worse (fault x) fine = let h = rank-most (fault x) in omega arith
-rank-worse (fault x) (fault y) = smaller-rank (leb (faultNumber x) (faultNumber y)) x y refl
+use borrow.Author.Tests.{leb-true, leb-false, le-leb, lt-leb}
+use Rattle.meaning.specs.Answers.{Fault, amount, faultNumber}
+use Rattle.grammar.specs.Faults.{Found, fine, fault, worse, unless}
+use Rattle.grammar.proofs.Findings.{IsFine, fine-worse}
 
 pub worse-fine : (a : Found) → worse a fine ≡ a
 worse-fine fine = refl
-worse-fine (fault x) = refl
+worse-fine (fault x p) = refl
+
+-- no fault in a join is none in its parts
+pub worse-none : (a b : Found) → worse a b ≡ fine → (a ≡ fine) × (b ≡ fine)
+worse-none a b e = let p = fine-worse a b .0 (subst IsFine (sym e) tt) in (none a (p .0), none b (p .1))
+  where
+    none : (f : Found) → IsFine f → f ≡ fine
+    none fine i = refl
+    none (fault x from) i = absurd i
+
+pub unless-none : (b : Bool) (x : Fault) (from : ℕ) → unless b x from ≡ fine → b ≡ true
+unless-none true x from e = refl
+unless-none false x from e = absurd (subst IsFine (sym e) tt)
+
+-- by the numbers of two faults
+module _ (x y : Fault) (p q : ℕ) where
+  pub worse-first : faultNumber x ≤ faultNumber y → worse (fault x p) (fault y q) ≡ fault x p
+  worse-first h = rw (le-leb (faultNumber x) (faultNumber y) h)
+
+  pub worse-second : faultNumber y < faultNumber x → worse (fault x p) (fault y q) ≡ fault y q
+  worse-second h = rw (lt-leb (faultNumber x) (faultNumber y) h)
 
 pub worse-assoc : (a b c : Found) → worse (worse a b) c ≡ worse a (worse b c)
-worse-assoc a b c =
-    by-rank (worse (worse a b) c) (worse a (worse b c))
-    (omega (arith, rank-worse (worse a b) c, rank-worse a b, rank-worse a (worse b c), rank-worse b c))
-
-least-amount : (b : Bool) → 5 ≤ rank (unless b amount)
-least-amount true = omega arith
-least-amount false = omega arith
-
-pub rank-and : (b c : Bool) → rank (unless (b && c) amount) ≡ min (rank (unless b amount)) (rank (unless c amount))
-rank-and true true = refl
-rank-and true false = refl
-rank-and false true = refl
-rank-and false false = refl
+worse-assoc fine b c = refl
+worse-assoc (fault x p) fine c = refl
+worse-assoc (fault x p) (fault y q) fine = worse-fine (worse (fault x p) (fault y q))
+worse-assoc (fault x p) (fault y q) (fault z r) = cases (leb (faultNumber x) (faultNumber y)) refl (leb (faultNumber y) (faultNumber z)) refl
+  where
+    cases : (t : Bool) → leb (faultNumber x) (faultNumber y) ≡ t → (u : Bool) → leb (faultNumber y) (faultNumber z) ≡ u
+        → worse (worse (fault x p) (fault y q)) (fault z r) ≡ worse (fault x p) (worse (fault y q) (fault z r))
+    cases true e true f =
+        let h = leb-true (faultNumber x) (faultNumber y) e in
+        let k = leb-true (faultNumber y) (faultNumber z) f in
+        rw (e, f, le-leb (faultNumber x) (faultNumber z) (omega arith), e)
+    cases true e false f = rw (e, f)
+    cases false e true f = rw (e, f, e)
+    cases false e false f =
+        let h = leb-false (faultNumber x) (faultNumber y) e in
+        let k = leb-false (faultNumber y) (faultNumber z) f in
+        rw (e, f, lt-leb (faultNumber x) (faultNumber z) (omega arith))
 
 -- one of two tests that fails is enough
-pub first-fails : (b : Bool) → fault amount ≡ worse (unless false amount) (unless b amount)
-first-fails true = refl
-first-fails false = refl
+pub first-fails : (b : Bool) (p : ℕ) → fault amount p ≡ worse (unless false amount p) (unless b amount p)
+first-fails true p = refl
+first-fails false p = refl
 
-pub second-fails : (b : Bool) → fault amount ≡ worse (unless b amount) (unless false amount)
-second-fails true = refl
-second-fails false = refl
-
--- what is over a limit stays over it
-pub rank-within : (m n k : ℕ) → m ≤ n → rank (unless (leb n k) amount) ≤ rank (unless (leb m k) amount)
-rank-within m n k h = cases (leb n k) refl
-  where
-    cases : (t : Bool) → leb n k ≡ t → rank (unless t amount) ≤ rank (unless (leb m k) amount)
-    cases true e = let j = leb-true n k e in rw (le-leb m k (omega arith)) (omega arith)
-    cases false e = least-amount (leb m k)
-
-pub worst-snoc : {A : Type 0} (f : A → Found) (xs : List A) (x : A) → worst f (xs ++ (x ∷ [])) ≡ worse (worst f xs) (f x)
-unfolding worst
-worst-snoc f [] x = worse-fine (f x)
-worst-snoc f (y ∷ ys) x = rw (worst-snoc f ys x) (sym (worse-assoc (f y) (worst f ys) (f x)))
+pub second-fails : (b : Bool) (p : ℕ) → fault amount p ≡ worse (unless b amount p) (unless false amount p)
+second-fails true p = refl
+second-fails false p = refl

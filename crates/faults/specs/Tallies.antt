@@ -16,8 +16,9 @@ emptyTally = record { fault = Fine; floor = 0; total = 0 }
 abbrev pub plusWord : ℕ → ℕ → ℕ
 plusWord a b = min (a + b) 18446744073709551615
 
-pub record Counted (t : Tally) (found : Found) (key weight limit : ℕ) (r : Tally) : Type 0 where
+pub record Counted (t : Tally) (found : Found) (key weight limit from : ℕ) (r : Tally) : Type 0 where
   pub faults : foundOf (r .fault)
-      ≡ worse (worse (foundOf (t .fault)) found) (worse (unless (leb (t .floor) key) amount) (unless (leb (plusWord (t .total) weight) limit) amount))
+      ≡ worse (worse (foundOf (t .fault)) found)
+      (worse (unless (leb (t .floor) key) amount from) (unless (leb (plusWord (t .total) weight) limit) amount from))
   pub floors : r .floor ≡ plusWord key 1
   pub totals : r .total ≡ min (plusWord limit 1) (plusWord (t .total) weight)

@@ -9,7 +9,7 @@ use Rattle.meaning.specs.Bytes.{Text, ascii}
 use Rattle.meaning.specs.Answers.{range}
 use Rattle.words.proofs.Steps.{restAt}
 use Rattle.grammar.specs.Reading.{takeNumber, takeBody, walk, oneLine}
-use Rattle.faults.specs.declared.Fault as F
+use Rattle.faults.specs.declared.Flaw as F
 use Rattle.keyed.specs.Numbers.{between, NumberTo}
 use Rattle.keyed.specs.declared.Progress.{Progress}
 use Rattle.keyed.specs.declared.Progress.the-variants.{To, Bad}
@@ -55,7 +55,7 @@ module _ {text : Text} {line equations terms : ℕ} {before table : List ℕ} {f
             let q = goes-on (onBody (s .read)) (gone-to (w .walks) e) refl ∙ body in
             record { read = s .read ++ (v ∷ []); lines = so-far-step (s .lines) even v v refl more q (gone-within (w .walks) e) }
 
-        pub bodies-halt : {f : F.Fault} {l : ℕ} → r ≡ Bad f l → BodiesRead text line equations terms before table r
+        pub bodies-halt : {f : F.Flaw} {l : ℕ} → r ≡ Bad f l → BodiesRead text line equations terms before table r
         bodies-halt e =
             let q = stops-there (onBody (s .read)) (gone-bad (w .walks) e) ∙ body in
             rw e (record { tabled = tabled; came = lines-halt (s .lines .onto) more q })

@@ -9,7 +9,7 @@ use lib.Dec.{ltb}
 use borrow.Author.Tests.{le-leb}
 use Rattle.meaning.specs.Bytes.{Text, ascii}
 use Rattle.meaning.specs.Answers.{range}
-use Rattle.grammar.specs.Text.{Past, past, stuck}
+use Rattle.grammar.specs.Text.{Past, past, stuck, Placed}
 use Rattle.grammar.specs.Forms.{countLine}
 use Rattle.grammar.specs.Reading.{takenIf, formed, takeNumber, takeBody, Walk, reached, walk, afterLine, oneLine}
 use Rattle.keyed.specs.Numbers.{between}
@@ -26,13 +26,14 @@ pub body-line : (terms : ℕ) (bodies : List ℕ) (line : ℕ) (s : Text)
 unfolding takeNumber takeBody
 body-line terms bodies line s = by-form (countLine (ascii "equation=") s)
   where
-    by-test : (t : Bool) (n : ℕ) (r : Text)
-        → walk (afterLine line (takenIf t range n r)) (onBody bodies) ≡ afterLine line (takenIf t range (bodies ++ (n ∷ [])) r)
+    by-test : (t : Bool) (n : Placed ℕ) (r : Text)
+        → walk (afterLine line s (takenIf t range (n .from) (n .it) r)) (onBody bodies)
+        ≡ afterLine line s (takenIf t range (n .from) (bodies ++ (n .it ∷ [])) r)
     by-test true n r = refl
     by-test false n r = refl
 
-    by-form : (d : Past ℕ)
-        → walk (afterLine line (formed d (λ n. takenIf (between 0 terms n) range n))) (onBody bodies)
-        ≡ afterLine line (formed d (λ n. takenIf (ltb n terms) range (bodies ++ (n ∷ []))))
-    by-form (past n r) = rw (below-test terms n) (by-test (ltb n terms) n r)
+    by-form : (d : Past (Placed ℕ))
+        → walk (afterLine line s (formed d (λ n. takenIf (between 0 terms (n .it)) range (n .from) (n .it)))) (onBody bodies)
+        ≡ afterLine line s (formed d (λ n. takenIf (ltb (n .it) terms) range (n .from) (bodies ++ (n .it ∷ []))))
+    by-form (past n r) = rw (below-test terms (n .it)) (by-test (ltb (n .it) terms) n r)
     by-form (stuck r) = refl

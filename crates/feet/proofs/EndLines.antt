@@ -11,21 +11,22 @@ use borrow.Author.Tests.{le-leb, lt-ltb}
 use Rattle.meaning.specs.Bytes.{Text, ascii}
 use Rattle.meaning.specs.Descriptions as D
 use Rattle.meaning.specs.Answers.{range}
-use Rattle.meaning.specs.Answers as M
 use Rattle.areas.specs.Areas.{zeroed}
 use Rattle.table.specs.declared.Order.the-variants.{All}
 use Rattle.table.specs.Decoded.{nameOf}
 use Rattle.table.specs.Holding.{namesIn}
-use Rattle.faults.specs.CodedFaults.{faultOf}
-use Rattle.faults.specs.declared.Fault.{Fault}
+use Rattle.faults.specs.CodedFaults.{flawOf, flawFor}
+use Rattle.faults.specs.declared.Flaw.{Flaw}
+use Rattle.faults.proofs.Uniqueness.{flaw-back}
 use Rattle.grammar.specs.Reading.{takeNumber, takeBody, takeOrder, Walk, reached, halted, walk, oneLine, lines, Reading, read, badLine}
+use Rattle.grammar.specs.Reading as M
 use Rattle.grammar.specs.Reading.{Whole, fromOrder, fromRoot, fromBodies, described}
-use Rattle.keyed.specs.Orders.{refusal, nothingAfter, formIf, orderFirst, orderLast, OrderEnd}
+use Rattle.orderlines.specs.Orders.{refusal, nothingAfter, formIf, orderFirst, orderLast, OrderEnd}
 use Rattle.keyed.specs.declared.Progress.{Progress}
 use Rattle.keyed.specs.declared.Progress.the-variants.{To, Bad}
-use Rattle.keyed.specs.declared.orders.Ordered.{Ordered}
-use Rattle.sections.specs.Sections.{Section, Within, faultFor}
-use Rattle.sections.proofs.Joins.{walk-walk, ends-bad, ends-on, fault-back}
+use Rattle.orderlines.specs.declared.Ordered.{Ordered}
+use Rattle.sections.specs.Sections.{Section, Within}
+use Rattle.sections.proofs.Joins.{walk-walk, ends-bad, ends-on}
 use Rattle.sections.proofs.LaidLines.{within-same}
 use Rattle.sections.proofs.Places.{names-few, names-after-foot}
 use Rattle.feet.specs.Feet.{Footing, footRoot, footText, FootLeft, FootRead}
@@ -71,7 +72,7 @@ module _ (d : D.Description) (line : ℕ) (text : Text) (names : List ℕ) (n : 
       rw (le-leb (length names) 12 few, lt-ltb line 18446744073709551615 (omega arith))
       (by-walk (orderFirst names line text) ∙ ap (λ ws. described (walk (oneLine (takeOrder ws) line text) withOrder)) n)
 
-  order-refused : {f : M.Fault} {l : ℕ} → halted f l ≡ orderLast names line text → badLine f l ≡ described (fromOrder d line text)
+  order-refused : {f : M.Flaw} {l : ℕ} → halted f l ≡ orderLast names line text → badLine f l ≡ described (fromOrder d line text)
   order-refused q = ap (endOf d) q ∙ order-joins
 
   order-read : {o : D.Order} {l : ℕ} {s : Text} → reached o l s ≡ orderLast names line text → read d o ≡ described (fromOrder d line text)
@@ -89,8 +90,8 @@ last-ends {o} {l} {s} names line text e = by-form (leb (length names) 12 && ltb 
     by-form false w e = let z : _≡_ {A = ℕ} 0 1 = cc in absurd (omega arith)
 
 -- What is returned of a bad line.
-bad-order : (f : Fault) {l : ℕ} → refusal f l ≡ refusal (faultFor (faultOf f)) l
-bad-order f {l} = ap (λ g. refusal g l) (sym (fault-back f))
+bad-order : (f : Flaw) {l : ℕ} → refusal f l ≡ refusal (flawFor (flawOf f)) l
+bad-order f {l} = ap (λ g. refusal g l) (sym (flaw-back f))
 
 -- The bodies and the root, and the order after them.
 zeroed-within : (n : ℕ) (area : List ℕ) → Within n area (zeroed n area)
@@ -100,14 +101,14 @@ zeroed-within (suc n) [] = within-same (suc n) []
 zeroed-within (suc n) (w ∷ ws) = let k = zeroed-within n ws in record { long = ap suc (k .long); behind = k .behind }
 
 pub foot-refused : {text : Text} {line equations terms : ℕ} {table table′ : List ℕ} {p : Progress} → FootRead text line equations terms table table′ p
-    → (listed : List ℕ) {f : Fault} {l : ℕ} → p ≡ Bad f l
+    → (listed : List ℕ) {f : Flaw} {l : ℕ} → p ≡ Bad f l
     → EndRead text line equations terms table listed table′ listed (record { progress = p; order = All })
 foot-refused {text} {line} {equations} {terms} w listed {f} {l} e = record {
   tabled = w .tabled;
   came = λ words ts s. rw (← due words ts, e) (record { answered = bad-order f; ordered = within-same 32 listed });
 }
   where
-    due : (words : List Text) (ts : List D.Term) → badLine (faultOf f) l ≡ described (fromBodies words ts equations terms line text)
+    due : (words : List Text) (ts : List D.Term) → badLine (flawOf f) l ≡ described (fromBodies words ts equations terms line text)
     due words ts = ends-bad _ (rw e at (w .came)) ∙ ap described (foot-joins words ts equations terms line text)
 
 module _ {text : Text} (line terms : ℕ) {equations : ℕ} {table table′ : List ℕ} {v took : ℕ} (tabled : Within 128 table table′)
@@ -128,7 +129,7 @@ module _ {text : Text} (line terms : ℕ) {equations : ℕ} {table table′ : Li
         ap (λ m. described (fromOrder (withRoot words ts (foot .read)) m (drop took text))) n
         ∙ ends-on _ (foot .says) ∙ ap described (foot-joins words ts equations terms line text)
 
-    refused : {f : Fault} {l : ℕ} → last .progress ≡ Bad f l → badLine (faultOf f) l ≡ described (fromBodies words ts equations terms line text)
+    refused : {f : Flaw} {l : ℕ} → last .progress ≡ Bad f l → badLine (flawOf f) l ≡ described (fromBodies words ts equations terms line text)
     refused g =
         order-refused (withRoot words ts (foot .read)) (line + equations + 1) (drop took text) (namesIn table′) names-still (names-few table′) (omega arith)
         ((rw g at (o .walked .came)) .says) ∙ ends
@@ -139,7 +140,7 @@ module _ {text : Text} (line terms : ℕ) {equations : ℕ} {table table′ : Li
         order-read (withRoot words ts (foot .read)) (line + equations + 1) (drop took text) (namesIn table′) names-still (names-few table′) (omega arith) q
         ∙ ends
 
-  last-refused : {f : Fault} {l : ℕ} → last .progress ≡ Bad f l → EndRead text line equations terms table listed table′ listed′ last
+  last-refused : {f : Flaw} {l : ℕ} → last .progress ≡ Bad f l → EndRead text line equations terms table listed table′ listed′ last
   last-refused {f} g = record {
     tabled = tabled;
     came = λ words ts s. rw (← refused s ts g) (record {

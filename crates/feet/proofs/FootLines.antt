@@ -10,7 +10,7 @@ use Rattle.meaning.specs.Bytes.{Text, ascii}
 use Rattle.meaning.specs.Answers.{range}
 use Rattle.words.proofs.Steps.{restAt}
 use Rattle.grammar.specs.Reading.{Walk, takeNumber, takeBody, reached, oneLine, lines}
-use Rattle.faults.specs.declared.Fault as F
+use Rattle.faults.specs.declared.Flaw as F
 use Rattle.keyed.specs.Numbers.{between, NumberTo}
 use Rattle.keyed.specs.declared.Progress.{Progress}
 use Rattle.keyed.specs.declared.Progress.the-variants.{To, Bad}
@@ -31,7 +31,7 @@ module _ {text : Text} {line equations terms : ℕ} {before mid : List ℕ} {r :
   abbrev onRoot : List ℕ → ℕ → Text → Walk Footing
   onRoot bodies line s = footRoot terms bodies line s
 
-  pub foot-bodies-bad : {f : F.Fault} {l : ℕ} → r ≡ Bad f l → FootRead text line equations terms before mid r
+  pub foot-bodies-bad : {f : F.Flaw} {l : ℕ} → r ≡ Bad f l → FootRead text line equations terms before mid r
   foot-bodies-bad e = let q = rw e at (b .came) in rw e (record { tabled = b .tabled; came = stops-there onRoot q })
 
   module _ {v at : ℕ} (e : r ≡ To v at) where
@@ -47,7 +47,7 @@ module _ {text : Text} {line equations terms : ℕ} {before mid : List ℕ} {r :
       pub foot-on : {root took : ℕ} → g ≡ To root took → at + took ≤ length text
       foot-on q = rest-within text at foot-within (gone-within (w .walks) q)
 
-      pub foot-root-bad : {f : F.Fault} {l : ℕ} → g ≡ Bad f l → FootRead text line equations terms before mid g
+      pub foot-root-bad : {f : F.Flaw} {l : ℕ} → g ≡ Bad f l → FootRead text line equations terms before mid g
       foot-root-bad q =
           let k = rest-bad text at foot-within (oneLine (takeNumber (ascii "root=") (λ r. ltb r terms) range) (line + equations))
           (number-bad (ascii "root=") 0 terms (λ r. ltb r terms) (below-test terms) range (line + equations) (restAt text at) w q) in

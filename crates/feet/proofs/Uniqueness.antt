@@ -13,7 +13,7 @@ use Rattle.table.specs.Encoded.{orderFor}
 use Rattle.table.specs.Holding.{namesIn}
 use Rattle.grammar.specs.Reading.{Walk, Reading, read, overlong, badLine, described, fromBodies}
 use Rattle.keyed.specs.declared.Progress.the-variants.{To}
-use Rattle.keyed.specs.declared.orders.Ordered.{Ordered}
+use Rattle.orderlines.specs.declared.Ordered.{Ordered}
 use Rattle.sections.proofs.Uniqueness.{Where, everywhere, given-once}
 use Rattle.feet.specs.Feet.{Footing, footText}
 use Rattle.feet.specs.Ends.{EndLeft, EndRoom, EndGiven}

@@ -10,13 +10,13 @@ use Rattle.table.specs.Decoded.{nameOf}
 use Rattle.table.specs.Encoded.{orderFor, orderWords}
 use Rattle.table.specs.Holding.{namesIn}
 use Rattle.lists.specs.Lists.{overlaid}
-use Rattle.grammar.specs.Reading.{Walk, reached, Reading, read, overlong, badLine, described, fromBodies}
-use Rattle.faults.specs.declared.Fault.the-variants.{Form}
+use Rattle.grammar.specs.Reading.{Walk, reached, Reading, read, overlong, badLine, atFirst, described, fromBodies}
+use Rattle.faults.specs.CodedFaults.{flawFor}
 use Rattle.keyed.specs.declared.Progress.the-variants.{To}
-use Rattle.keyed.specs.declared.orders.Ordered.{Ordered}
-use Rattle.keyed.specs.Orders.{refusal}
+use Rattle.orderlines.specs.declared.Ordered.{Ordered}
+use Rattle.orderlines.specs.Orders.{refusal}
 use Rattle.sections.specs.Laying.{withFoot}
-use Rattle.sections.specs.Sections.{Within, faultFor, Roomed}
+use Rattle.sections.specs.Sections.{Within, Roomed}
 use Rattle.feet.specs.Feet.{Footing, footText}
 
 -- The description goes on from the names and the terms. The bytes that the order's line took are returned: those behind the root's, to the
@@ -41,7 +41,7 @@ pub record EndBad (r due : Ordered) (listed listed′ : List ℕ) : Type 0 where
 abbrev pub EndLeft : List Text → List D.Term → ℕ → Walk Footing → Reading → (table listed table′ listed′ : List ℕ) → Ordered → Type 0
 EndLeft words ts equations due (read d o) table listed table′ listed′ r = EndStored words ts equations due d o table listed table′ listed′ r
 EndLeft words ts equations due overlong table listed table′ listed′ r = ⊥
-EndLeft words ts equations due (badLine f line) table listed table′ listed′ r = EndBad r (refusal (faultFor f) line) listed listed′
+EndLeft words ts equations due (badLine f line) table listed table′ listed′ r = EndBad r (refusal (flawFor f) line) listed listed′
 
 pub record EndRead (text : Text) (line equations terms : ℕ) (table listed table′ listed′ : List ℕ) (r : Ordered) : Type 0 where
   pub tabled : Within 128 table table′
@@ -55,7 +55,7 @@ EndRoom line equations table = (line ≤ 112) × (equations ≤ 16) × (128 ≤ 
 
 -- Else all is refused as if the first line were bad, and the areas stay as they were.
 pub record EndRefused (line : ℕ) (table listed table′ listed′ : List ℕ) (r : Ordered) : Type 0 where
-  pub answered : r ≡ refusal Form line
+  pub answered : r ≡ refusal (flawFor atFirst) line
   pub tabled : table′ ≡ table
   pub ordered : listed′ ≡ listed
 

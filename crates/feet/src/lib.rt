@@ -5,10 +5,11 @@ ghost use Rattle.feet.specs.Feet.{BodiesRead, FootRead};
 ghost use Rattle.feet.specs.Ends.{EndRoom, EndGiven};
 ghost use Rattle.sections.specs.Sections.{Whether};
 use faults::Fault;
+use faults::first_flaw;
 use keyed::Progress;
 use keyed::numbers::take_number;
-use keyed::orders::Ordered;
-use keyed::orders::take_order;
+use orderlines::Ordered;
+use orderlines::take_order;
 use table::BODIES_AT;
 use table::EQUATIONS;
 use table::Order;
@@ -114,7 +115,7 @@ pub fn read_end(
 {
     if !has_room(line, equations, table.len()) {
         return Ordered {
-            progress: Progress::Bad(Fault::Form, line),
+            progress: Progress::Bad(first_flaw(), line),
             order: Order::All,
         };
     }

@@ -20,6 +20,7 @@ use Rattle.words.specs.Steps.{Stands}
 use Rattle.words.proofs.Steps.{restAt, rest-drop, shifted, become, textIn}
 use Rattle.tails.specs.Lines.{LineRead}
 use Rattle.tails.specs.Tails.{tailOf, TailRead}
+use Rattle.ranges.specs.declared.Bounds.{Bounds}
 use Rattle.tails.specs.declared.TermStep.{TermStep}
 use Rattle.tails.specs.declared.TermStep.the-variants as T
 use Rattle.tails.proofs.Operands.{line-become}
@@ -128,10 +129,10 @@ module _ {text : Text} (at : ℕ) (r : KindStep) (h : KindRead text at r) where
   kind-stays e = rw e at h
 
 -- the place where a line is read or stuck lies in the text
-place-within : (words : List Text) (n : ℕ) (text : Text) (due : Past Line) (before after : List ℕ) (r : TermStep)
-    → LineRead words n text due before after r → termPlace r ≤ length text
-place-within words n text due before after (T.To x f took) l = l .within
-place-within words n text due before after (T.Stuck p) s = s .within
+place-within : (words : List Text) (bounds : Bounds) (text : Text) (due : Past Line) (before after : List ℕ) (r : TermStep)
+    → LineRead words bounds text due before after r → termPlace r ≤ length text
+place-within words bounds text due before after (T.To x f took) l = l .within
+place-within words bounds text due before after (T.Stuck p) s = s .within
 
 -- What follows the word of the kind that was found, with few enough names, is what the line says.
 module _ {text : Text} {at k next : ℕ} (found : KindFound text at k next) where
@@ -145,22 +146,22 @@ module _ {text : Text} {at k next : ℕ} (found : KindFound text at k next) wher
       omega (arith, ap length (sym (same (drop p tail)) ∙ ap textIn (s .says)), length-drop p tail) in
       become (sym (ap (ofKind kinds) (found .begins) ∙ kind-decides k (found .known) tail shorter)) (shifted answer (found .within) s)
 
-  module _ (names : List ℕ) (n : ℕ) (before after : List ℕ) where
-    line-decided : (r : TermStep) → LineRead (map (nameOf 8) names) n tail (restOf k tail) before after r
-        → LineRead (map (nameOf 8) names) n text (ofKind kinds (drop at text)) before after (shiftedStep next r)
+  module _ (names : List ℕ) (bounds : Bounds) (before after : List ℕ) where
+    line-decided : (r : TermStep) → LineRead (map (nameOf 8) names) bounds tail (restOf k tail) before after r
+        → LineRead (map (nameOf 8) names) bounds text (ofKind kinds (drop at text)) before after (shiftedStep next r)
     line-decided (T.To x f took) l =
         let s = decided (past (l .line)) (λ t. refl) {p = took} (record { says = l .says; within = l .within }) in
         record { line = l .line; says = s .says; within = s .within; term = l .term; faults = l .faults; stored = l .stored }
     line-decided (T.Stuck p) s = decided stuck (λ t. refl) s
 
-    module _ (r : TermStep) (t : TailRead names n k (restAt text next) before after r) where
-      there : TailRead names n k tail before after r
-      there = subst (λ l. TailRead names n k l before after r) (rest-drop text next (found .within)) t
+    module _ (r : TermStep) (t : TailRead names bounds k (restAt text next) before after r) where
+      there : TailRead names bounds k tail before after r
+      there = subst (λ l. TailRead names bounds k l before after r) (rest-drop text next (found .within)) t
 
-      pub line-there : length names ≤ 12 → LineRead (map (nameOf 8) names) n text (ofKind kinds (drop at text)) before after (shiftedStep next r)
+      pub line-there : length names ≤ 12 → LineRead (map (nameOf 8) names) bounds text (ofKind kinds (drop at text)) before after (shiftedStep next r)
       line-there few =
           line-decided r
-          (line-become (map (nameOf 8) names) n tail before after r (sym (room names few (tailOf k tail) tail) ∙ kind-rest k (found .known) tail) there)
+          (line-become (map (nameOf 8) names) bounds tail before after r (sym (room names few (tailOf k tail) tail) ∙ kind-rest k (found .known) tail) there)
 
       pub tail-within : next + termPlace r ≤ length text
-      tail-within = omega (arith, place-within (map (nameOf 8) names) n tail _ before after r there, length-drop next text, found .within)
+      tail-within = omega (arith, place-within (map (nameOf 8) names) bounds tail _ before after r there, length-drop next text, found .within)

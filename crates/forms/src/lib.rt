@@ -1,4 +1,3 @@
 // The lines of terms, one at a time: what form each has, what it says and which faults it has.
 mod kinds;
-mod operands;
 pub mod terms;

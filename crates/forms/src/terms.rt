@@ -1,4 +1,4 @@
-// Term lines: the kind's word, what follows it, and the faults of the whole.
+// Term lines: the kind's word and what follows it.
 ghost use Prim.Native.Nat.{_+_, _≤_, _<_, _^_};
 ghost use mathlib.Core.Path.{_≡_};
 ghost use mathlib.Core.List.{map};
@@ -10,13 +10,23 @@ ghost use Rattle.forms.specs.Terms.{termPlace, shiftedStep, TermAnswer};
 use crate::kinds::KindStep;
 use crate::kinds::find_kind;
 use crate::kinds::kind_stuck_at;
-use crate::operands::joined_fault;
+use ranges::Bounds;
 use table::NAMES;
 use tails::TermStep;
 use tails::read_tail;
 use words::Step;
 use words::literals::read_literal;
 use words::stuck_at;
+
+// After how many bytes a line was stuck; of one that was read, how many it took.
+pub fn term_stuck_at(x: TermStep) -> usize
+    ensures { λ r. ⌜ r ≡ termPlace x ⌝ }
+{
+    match x {
+        TermStep::To(_, _, took) => took,
+        TermStep::Stuck(p) => p,
+    }
+}
 
 // The tail's answer as the line's: the tail stands at this place.
 fn shifted(x: TermStep, at: usize) -> TermStep
@@ -29,10 +39,10 @@ fn shifted(x: TermStep, at: usize) -> TermStep
     }
 }
 
-// The key, the kind's word and what follows it, with the faults of the names and the list.
-fn read_line(text: &[u8], names: &[u64], n: usize, list: &mut [u64]) -> TermStep
+// The key, the kind's word and what follows it.
+fn read_line(text: &[u8], names: &[u64], bounds: Bounds, list: &mut [u64]) -> TermStep
     requires { ⌜ length (now names) ≤ 12 ⌝ }
-    ensures { λ r. ⌜ LineRead (map (nameOf 8) (now (names .entry))) n (now (text .entry)) (termLine (now (text .entry)))
+    ensures { λ r. ⌜ LineRead (map (nameOf 8) (now (names .entry))) bounds (now (text .entry)) (termLine (now (text .entry)))
         (now (list .entry)) (now (list .exit)) r ⌝ }
 {
     let key = read_literal(text, b"term=");
@@ -43,7 +53,7 @@ fn read_line(text: &[u8], names: &[u64], n: usize, list: &mut [u64]) -> TermStep
     let KindStep::To(k, next) = kind else {
         return TermStep::Stuck(kind_stuck_at(kind));
     };
-    shifted(read_tail(k, &text[next..], names, n, list), next)
+    shifted(read_tail(k, &text[next..], names, bounds, list), next)
 }
 
 // A term's line, by the term's number, from the start of the text. The list is that of the term: the words of the line's list are put
@@ -60,10 +70,6 @@ pub fn read_term(
     if NAMES < names.len() {
         return TermStep::Stuck(0);
     }
-    let said = read_line(text, names, n, list);
-    let TermStep::To(x, found, took) = said else {
-        return said;
-    };
-    let fault = joined_fault(x, found, n, equations);
-    TermStep::To(x, fault, took)
+    let bounds = Bounds { equations, term: n };
+    read_line(text, names, bounds, list)
 }

@@ -17,24 +17,24 @@ use Rattle.meaning.specs.Answers.{Fault, form, name, range}
 use Rattle.meaning.proofs.Tests.{and-left, and-right, and-both}
 use Rattle.grammar.specs.Text.{isLower, isDigit}
 use Rattle.grammar.specs.Forms.{countLine, nameLine}
-use Rattle.grammar.specs.Faults.{unless, inRange, termSaid, termFault}
-use Rattle.grammar.specs.Reading.{takeNumber, namesInRange, equationsInRange, termsInRange, isFree, takeName, takeTerm, takeBody, takeOrder, Walk}
+use Rattle.grammar.specs.Faults.{rangeFault, placesOf, termSaid, termFault}
+use Rattle.grammar.specs.Reading.{takeNumber, namesInRange, equationsInRange, termsInRange, isFree, takeName, takeTerm, takeBody, takeOrder, Flaw, Walk}
 use Rattle.grammar.specs.Reading.{reached, halted, Reading, read, overlong, badLine, allRead, Whole, wholeText, readText}
 use Rattle.grammar.specs.Marks.{decimal}
 use Rattle.grammar.specs.Writing.{termText, orderText, written, LegalWords}
-use Rattle.grammar.proofs.Findings.{fine-unless}
 use Rattle.grammar.proofs.Onwards.{T-not→false}
+use Rattle.grammar.proofs.Writes.{writes-placed}
 use Rattle.grammar.proofs.Atoms.{itself, faultless, Small, writes-number, writes-word}
 use Rattle.grammar.proofs.LineForms.{WritesLine, line-ended, line-after, line-narrow}
 use Rattle.grammar.proofs.TermLines.{writes-term, writes-order}
 use Rattle.grammar.proofs.Sections.{Takes, line→takes, takes-if, Reaches, walk←, one-line←, LegalAfter, lines←}
 use Rattle.grammar.proofs.Sections.{Ends, ends-reached, ends-walk, ends-line, ends-section}
-use Rattle.grammar.proofs.LegalLines.{NewWord, NewBody, NewTerm, legal-words, legal-bodies, legal-terms}
+use Rattle.grammar.proofs.LegalLines.{NewWord, NewBody, InRange, range-anywhere, NewTerm, legal-words, legal-bodies, legal-terms}
 
 -- The lines.
-writes-count : (key : Text) → WritesLine (countLine key) itself faultless itself (λ n. key ++ decimal n) Small
+writes-count : (key : Text) → WritesLine (countLine key) (λ n. n .it) faultless itself (λ n. key ++ decimal n) Small
 unfolding countLine isLower isDigit
-writes-count key = line-after key (line-ended writes-number tt itself itself faultless itself (λ n. refl) (λ n. Iff·rfl))
+writes-count key = line-after key (line-ended (writes-placed (λ _. writes-number)) tt itself faultless itself (λ n. refl) (λ n. Iff·rfl))
 
 takes-number : (key : Text) (test : ℕ → Bool) (f : Fault)
     → Takes (takeNumber key test f) itself (λ n. key ++ decimal n) (λ n. Small n × T (test n))
@@ -49,16 +49,15 @@ takes-body terms bodies = takes-if (writes-count (ascii "equation=")) (λ b. ltb
 takes-name : (words : List Text) → Takes (takeName words) (λ w. words ++ (w ∷ [])) (λ w. ascii "name=" ++ w) (NewWord words)
 unfolding takeName nameLine isLower isDigit
 takes-name words =
-    takes-if (line-after (ascii "name=") (line-ended writes-word tt itself itself faultless itself (λ w. refl) (λ w. Iff·rfl)))
+    takes-if (line-after (ascii "name=") (line-ended (writes-placed (λ _. writes-word)) tt itself faultless itself (λ w. refl) (λ w. Iff·rfl)))
     (isFree words) name (λ w. words ++ (w ∷ []))
 
 takes-term : (words : List Text) → LegalWords words → (references : ℕ) (terms : List Term)
     → Takes (takeTerm words references terms) (λ t. terms ++ (t ∷ [])) (λ t. ascii "term=" ++ termText words t) (NewTerm (length words) references terms)
 unfolding takeTerm termFault
 takes-term words legal references terms =
-    line→takes (line-narrow (writes-term words legal)
-    (λ l. unless (inRange references (length terms) (termSaid words l)) range) (λ t. T (inRange references (length terms) t))
-    (λ l. fine-unless (inRange references (length terms) (termSaid words l)) range))
+    line→takes (line-narrow (writes-term words legal) (λ l. rangeFault references (length terms) (termSaid words l) (placesOf l))
+    (InRange references (length terms)) (λ l. range-anywhere references (length terms) (termSaid words l) (placesOf l)))
     (λ t. terms ++ (t ∷ [])) (takeTerm words references terms) (λ l. refl)
 
 takes-order : (words : List Text) → LegalWords words → Takes (takeOrder words) itself (λ o. ascii "order=" ++ orderText words o) (LegalOrder (length words))
@@ -129,7 +128,7 @@ whole← d o legal good =
     walk← _ (one-line← (takes-order (d .words) good) l₇ o [] (legal .order)) (λ l₈. record { number = l₈; there = refl }))))))))
 
 -- The text as it is read: not too long, and nothing behind its last line.
-bad≢read : {f : Fault} {line : ℕ} {d : Description} {o : Order} → badLine f line ≡ read d o → ⊥
+bad≢read : {f : Flaw} {line : ℕ} {d : Description} {o : Order} → badLine f line ≡ read d o → ⊥
 bad≢read e = let z : _≡_ {A = ℕ} 0 1 = cc in omega arith
 
 overlong≢read : {d : Description} {o : Order} → overlong ≡ read d o → ⊥

@@ -6,24 +6,27 @@ use mathlib.Core.Bool.{not}
 use mathlib.Core.List.{List, [], _∷_, _++_}
 use Prim.Native.Nat.{ℕ, zero, suc, _+_, _*_, _-_, _/_, _%_, _≤_, _<_, zero-le, suc-le-suc}
 use native.Mathlib.Omega.{arith}
-use lib.Dec.{T, leb, ltb, eqb, eqb→eq, eqb-refl, leb→le, le→leb, ltb→lt, lt→ltb, lit<, nltb→le, not-T, T-not}
+use lib.Dec.{T, leb, ltb, eqb, eqb→eq, eqb-refl, leb→le, le→leb, ltb→lt, lit<, nltb→le, not-T, T-not}
 use lib.ListN.{length, getD}
 use Rattle.meaning.specs.Bytes.{Text}
 use Rattle.meaning.specs.Sets.{_∈_}
 use Rattle.meaning.specs.Legal.{Each}
 use Rattle.meaning.specs.Answers.{name}
 use Rattle.meaning.proofs.Tests.{and-left, and-right, and-both, decided-by}
-use Rattle.grammar.specs.Text.{past, sameText, isDigit, isLower, secondDigit, number, wordOn, word}
+use Rattle.grammar.specs.Text.{past, Placed, placed, sameText, isDigit, isLower, secondDigit, number, wordOn, word}
 use Rattle.grammar.specs.Faults.{Found, fine, nameNumber, nameFault}
 use Rattle.grammar.specs.Marks.{digits, decimal}
 use Rattle.grammar.specs.Writing.{nameText, inName, NameForm, Distinct, LegalWords}
 use Rattle.grammar.proofs.Decimal.{decimal-digit, decimal-two}
-use Rattle.grammar.proofs.Findings.{IsFine, fine-unless}
+use Rattle.grammar.proofs.Findings.{IsFine, fine-below}
 use Rattle.grammar.proofs.Onwards.{T→true, T-not→false, same→, same-refl, When, when-past, when-stuck, when-branch, onward→, onward←}
-use Rattle.grammar.proofs.Writes.{not-or→, Stops, Writes, writes-as}
+use Rattle.grammar.proofs.Writes.{not-or→, Stops, Writes, writes-placed, writes-as}
 
 abbrev pub faultless : {A : Type 0} → A → Found
 faultless a = fine
+
+abbrev pub AsIs : {A : Type 0} → A → Type 0
+AsIs a = Unit {0}
 
 abbrev pub itself : {A : Type 0} → A → A
 itself a = a
@@ -106,10 +109,10 @@ number-reads (suc m) h r k =
           (rw (decimal-two (n / 10) (n % 10) (omega arith) (omega arith) (omega arith)) (first ∙ second))
     ]
 
-pub writes-number : Writes number itself faultless decimal Small inName
+pub writes-number : Writes number itself AsIs decimal Small inName
 writes-number = record {
   sound = number-sound;
-  complete = λ n h. record { value = n; faultless = tt; said = refl; reads = number-reads n h };
+  complete = λ n h r k. record { value = n; faultless = tt; said = refl; reads = number-reads n h r k };
 }
 
 -- Words.
@@ -147,10 +150,10 @@ unfolding word
 word-reads [] h r k = absurd h
 word-reads (b ∷ w) h r k = rw (T→true (isLower b) (h .0), word) (onward← (λ u q. past (b ∷ u) q) (wordOn-reads 7 w (h .1) (h .2) r k))
 
-pub writes-word : Writes word itself faultless itself NameForm inName
+pub writes-word : Writes word itself AsIs itself NameForm inName
 writes-word = record {
   sound = word-sound;
-  complete = λ w h. record { value = w; faultless = tt; said = refl; reads = word-reads w h };
+  complete = λ w h r k. record { value = w; faultless = tt; said = refl; reads = word-reads w h r k };
 }
 
 -- Names, by their numbers.
@@ -203,23 +206,20 @@ in→known (v ∷ words) w (inr m) =
       | inr f ↦ let later = number-later v words w f in let h = in→known words w m in omega arith
     ]
 
-pub known-says : (words : List Text) (w : Text) → IsFine (nameFault words w) ↔ (nameNumber words w < length words)
+pub known-says : (words : List Text) (w : Placed Text) → IsFine (nameFault words w) ↔ (nameNumber words (w .it) < length words)
 unfolding nameFault
-known-says words w =
-    let test = ltb (nameNumber words w) (length words) in (
-      λ f. ltb→lt (nameNumber words w) (length words) (fine-unless test name .0 f),
-      λ h. fine-unless test name .1 (lt→ltb (nameNumber words w) (length words) h),
-    )
+known-says words w = fine-below (nameNumber words (w .it)) (length words) name (w .from)
 
-pub writes-name : (words : List Text) → LegalWords words → Writes word (nameNumber words) (nameFault words) (nameText words) (λ n. n < length words) inName
+pub writes-name : (words : List Text) → LegalWords words
+    → Writes (placed word) (λ w. nameNumber words (w .it)) (λ w. IsFine (nameFault words w)) (nameText words) (λ n. n < length words) inName
 writes-name words legal =
-    writes-as writes-word (nameNumber words) (nameFault words) (nameText words) (λ n. n < length words)
-    (λ w f. let h = known-says words w .0 f in (tt, λ _. (sym (named words w h), h)))
+    writes-as (writes-placed (λ _. writes-word))
+    (λ w f. let h = known-says words w .0 f in (tt, λ _. (sym (named words (w .it) h), h)))
     (λ n h. (
       nameText words n,
       each-at NameForm words [] n h (legal .0),
       refl,
       λ w _ e.
-          let k : nameNumber words w ≡ n = ap (nameNumber words) e ∙ numbered words (legal .2) n h in
+          let k : nameNumber words (w .it) ≡ n = ap (nameNumber words) e ∙ numbered words (legal .2) n h in
           (known-says words w .1 (omega arith), k),
     ))

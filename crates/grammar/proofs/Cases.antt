@@ -26,7 +26,7 @@ table =
     prints (answerText names 2 ((1 ∷ 0 ∷ []) ∷ (2 ∷ 0 ∷ []) ∷ (0 ∷ 1 ∷ []) ∷ [])) listing
     ∷ prints (answerText names 1 []) ("answer=ok" ∷ "rounds=1" ∷ "labels=0" ∷ [])
     ∷ prints (answerText names 1 ((0 ∷ 0 ∷ []) ∷ [])) ("answer=ok" ∷ "rounds=1" ∷ "labels=1" ∷ "label=tau" ∷ [])
-    ∷ prints (refusedText 5 12) ("answer=refused" ∷ "reason=5" ∷ "line=12" ∷ [])
+    ∷ prints (refusedText 5 12 19) ("answer=refused" ∷ "reason=5" ∷ "line=12" ∷ "column=19" ∷ [])
     ∷ []
 
 pub computed : Each (λ c. c .printed ≡ c .expected) table

@@ -20,6 +20,7 @@ use Rattle.grammar.specs.Forms.{dot}
 use Rattle.grammar.specs.Marks.{joinedBy, partText, partTexts, labelText}
 use Rattle.grammar.specs.Writing.{nameText}
 use Rattle.grammar.proofs.Marks.{partTexts-some}
+use Rattle.grammar.proofs.Items.{weigh}
 use Rattle.grammar.proofs.Onwards.{T→true, T-not→false}
 use Rattle.grammar.proofs.Writes.{each-weaken}
 
@@ -40,9 +41,8 @@ unfoldable pub added : ℕ → List Entry → Label
 added names [] = empty names
 added names (e ∷ es) = plus (several names (e .name) (e .times)) (added names es)
 
-unfoldable pub total : List Entry → ℕ
-total [] = 0
-total (e ∷ es) = e .times + total es
+abbrev pub total : List Entry → ℕ
+total es = weigh (λ e. e .times) es
 
 -- How often the entries have name i.
 unfoldable occurs : Entry → ℕ → ℕ
@@ -107,7 +107,7 @@ size-known (suc names) zero times h = let e = size-empty names in omega arith
 size-known (suc names) (suc n) times h = let ih = size-known names n times (omega arith) in omega arith
 
 size-added : (names : ℕ) (es : List Entry) → Below names es → size (added names es) ≡ total es
-unfolding added total
+unfolding added weigh
 size-added names [] h = size-empty names
 size-added names (e ∷ es) h =
     size-plus (several names (e .name) (e .times)) (added names es) ∙ ap₂ _+_ (size-known names (e .name) (e .times) (h .0)) (size-added names es (h .1))
@@ -172,7 +172,7 @@ between-entries (suc x ∷ a) n m k h l =
     (omega arith, each-weaken (Between (suc n) m k) (Between n m k) (entriesFrom (suc n) a) (λ e b. omega arith) later)
 
 total-entries : (a : Label) (n : ℕ) → total (entriesFrom n a) ≡ size a
-unfolding entriesFrom size total
+unfolding entriesFrom size weigh
 total-entries [] n = refl
 total-entries (zero ∷ a) n = let ih = total-entries a (suc n) in omega arith
 total-entries (suc x ∷ a) n = rw (entries-some n x a) (let ih = total-entries a (suc n) in omega arith)
@@ -253,12 +253,12 @@ abbrev pub LegalEntries : ℕ → List Entry → Type 0
 LegalEntries names es = (1 ≤ length es) × Each (LegalEntry names) es × Ascends es × (total es ≤ 31)
 
 some-actions : (names : ℕ) (es : List Entry) → 1 ≤ length es → Each (LegalEntry names) es → 1 ≤ total es
-unfolding total
+unfolding weigh
 some-actions names [] n h = n
 some-actions names (e ∷ es) n h = omega (arith, h .0)
 
 some-entries : (es : List Entry) → 1 ≤ total es → 1 ≤ length es
-unfolding total
+unfolding weigh
 some-entries [] h = h
 some-entries (e ∷ es) h = omega arith
 

@@ -16,9 +16,11 @@ use Rattle.meaning.specs.Legal.{Each, LegalTwo, LegalTerm, LegalTerms}
 use Rattle.meaning.proofs.Tests.{and-left, and-right, and-both}
 use Rattle.meaning.proofs.Members.{in-append}
 use Rattle.grammar.specs.Text.{sameText}
-use Rattle.grammar.specs.Faults.{nameNumber, bothBelow, inRange}
+use Rattle.grammar.specs.Forms.{Places}
+use Rattle.grammar.specs.Faults.{nameNumber, numberFault, bothFault, rangeFault}
 use Rattle.grammar.specs.Reading.{isFree}
 use Rattle.grammar.specs.Writing.{NameForm, Unreserved, Distinct, LegalWords}
+use Rattle.grammar.proofs.Findings.{IsFine, fine-worse, fine-below}
 use Rattle.grammar.proofs.Onwards.{same→, same-refl}
 use Rattle.grammar.proofs.Atoms.{Small, known→in, in→known}
 use Rattle.grammar.proofs.TermLines.{Sayable, SmallTwo}
@@ -103,21 +105,36 @@ legal-bodies terms n before (b ∷ bs) = (
   λ h. ((let k = h .0 in omega arith, lt→ltb b terms (h .0)), legal-bodies terms n (before ++ (b ∷ [])) bs .1 (h .1)),
 )
 
--- A term.
+-- A term: whether its numbers are in range does not depend on their places.
+abbrev pub InRange : ℕ → ℕ → Term → Type 0
+InRange equations n t = IsFine (rangeFault equations n t (record { first = 0; second = 0 }))
+
+pub range-anywhere : (equations n : ℕ) (t : Term) (at : Places) → IsFine (rangeFault equations n t at) ↔ InRange equations n t
+range-anywhere equations n (act a) at = Iff·rfl
+range-anywhere equations n tau at = Iff·rfl
+range-anywhere equations n delta at = Iff·rfl
+range-anywhere equations n (ref e) at = simp fine-below Iff·rfl
+range-anywhere equations n (sum t) at = simp fine-below Iff·rfl
+range-anywhere equations n (cond t) at = simp fine-below Iff·rfl
+range-anywhere equations n (choice t u) at = simp (fine-worse, fine-below) Iff·rfl
+range-anywhere equations n (ifelse t u) at = simp (fine-worse, fine-below) Iff·rfl
+range-anywhere equations n (seq t u) at = simp (fine-worse, fine-below) Iff·rfl
+range-anywhere equations n (merge t u) at = simp (fine-worse, fine-below) Iff·rfl
+range-anywhere equations n (lmerge t u) at = simp (fine-worse, fine-below) Iff·rfl
+range-anywhere equations n (sync t u) at = simp (fine-worse, fine-below) Iff·rfl
+range-anywhere equations n (wrap o t) at = simp fine-below Iff·rfl
+
 abbrev pub NewTerm : ℕ → ℕ → List Term → Term → Type 0
-NewTerm names equations before t = Sayable names t × T (inRange equations (length before) t)
+NewTerm names equations before t = Sayable names t × InRange equations (length before) t
 
-one-below : (n t : ℕ) → n ≤ 100 → (Small t × T (ltb t n)) ↔ (t < n)
-one-below n t k = (λ h. ltb→lt t n (h .1), λ h. (omega arith, lt→ltb t n h))
+one-below : (n t : ℕ) → n ≤ 100 → (Small t × IsFine (numberFault n t 0)) ↔ (t < n)
+one-below n t k = simp fine-below (λ h. h .1, λ h. (omega arith, h))
 
-two-below : (n t u : ℕ) → n ≤ 100 → (SmallTwo t u × T (bothBelow n t u)) ↔ LegalTwo n t u
-two-below n t u k = (
-  λ h. (ltb→lt t n (and-left (ltb t n) (ltb u n) (h .1)), ltb→lt u n (and-right (ltb t n) (ltb u n) (h .1))),
-  λ h. let p = h .0 in let q = h .1 in ((omega arith, omega arith), and-both (ltb t n) (ltb u n) (lt→ltb t n p) (lt→ltb u n q)),
-)
+two-below : (n t u : ℕ) → n ≤ 100 → (SmallTwo t u × IsFine (bothFault n t u (record { first = 0; second = 0 }))) ↔ LegalTwo n t u
+two-below n t u k = simp (fine-worse, fine-below) (λ h. h .1, λ h. let p = h .0 in let q = h .1 in ((omega arith, omega arith), h))
 
 module _ (d : Description) (few : equations d ≤ 100) where
-  term-legal : (n : ℕ) → n ≤ 100 → (t : Term) → (Sayable (names d) t × T (inRange (equations d) n t)) ↔ LegalTerm d n t
+  term-legal : (n : ℕ) → n ≤ 100 → (t : Term) → (Sayable (names d) t × InRange (equations d) n t) ↔ LegalTerm d n t
   term-legal n k (act a) = (λ h. h .0, λ h. (h, tt))
   term-legal n k tau = (λ h. tt, λ h. (tt, tt))
   term-legal n k delta = (λ h. tt, λ h. (tt, tt))

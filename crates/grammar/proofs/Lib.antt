@@ -1,7 +1,7 @@
 -- The computed cases, then the theorems; each file after those that it cites.
 -- computed, partTexts-zero, partTexts-some: labels as they are written, name by name
 pub mod Marks
--- cases: the listing of README.md and texts for each refusal number, read
+-- cases, column-cases: the listing of README.md and texts for each refusal number and for columns, read
 pub mod Texts
 -- computed: answers and refusals, printed
 pub mod Cases
@@ -13,11 +13,13 @@ pub mod Decimal
 pub mod Areas
 -- written-append, underway-start, -byte, -step, -end, lent-room: one text behind another in an area
 pub mod Underway
--- fine-worse, fine-unless: a line has no fault exactly when none of its parts has one
+-- fine-worse, fine-unless, fine-least, fine-below: a line has no fault exactly when none of its parts has one
 pub mod Findings
+-- items-say: a list has no fault exactly when its entries have none of their own, ascend, and are not too many
+pub mod Items
 -- T→true, when-past, onward→, literal→, rest→, ..: what a form's answer says of the steps that it is made of
 pub mod Onwards
--- writes-as, writes-narrow, writes-pair, writes-several: forms put together are read back from their writings
+-- writes-placed, writes-as, writes-narrow, writes-pair, writes-items: forms put together are read back from their writings
 pub mod Writes
 -- writes-number, writes-word, writes-name: numbers, words and names
 pub mod Atoms

@@ -1,6 +1,6 @@
 -- Lines and their writings: a form that is the whole of a line, or of what follows a word in it.
 -- Assumes nothing.
-use mathlib.Core.Path.{_≡_, sym, ap, subst, _∙_, _≡⟨_⟩_, _∎}
+use mathlib.Core.Path.{_≡_, sym, ap, subst, _∙_}
 use mathlib.Core.Logic.{_↔_}
 use mathlib.Core.Bool.{Bool, not}
 use mathlib.Core.List.{[], _∷_, _++_, append-assoc}
@@ -8,18 +8,11 @@ use Prim.Native.Nat.{ℕ}
 use lib.Dec.{T}
 use Rattle.meaning.specs.Bytes.{Text}
 use Rattle.grammar.specs.Text.{Past, past, onward, lf, ended, literal}
-use Rattle.grammar.specs.Faults.{Found, fine, worse}
+use Rattle.grammar.specs.Faults.{Found, worse}
 use Rattle.grammar.specs.Writing.{lineBefore}
 use Rattle.grammar.proofs.Findings.{IsFine, fine-worse}
 use Rattle.grammar.proofs.Onwards.{When, when-past, when-weaken, onward→, onward←, literal→, literal←}
-use Rattle.grammar.proofs.Writes.{Stops, Writes}
-
--- A line's text without its LF is read back, whatever text there is after the LF.
-pub record ReadsLine {X Y Z : Type 0} (form : Text → Past X) (says : X → Z) (fault : X → Found) (build : Y → Z) (text : Y → Text) (y : Y) : Type 0 where
-  pub value : X
-  pub faultless : IsFine (fault value)
-  pub said : says value ≡ build y
-  pub reads : (r : Text) → form (lineBefore (text y) r) ≡ past value r
+use Rattle.grammar.proofs.Writes.{Stops, Reads, reads-then, reads-after, Writes}
 
 -- What a line was made of, and its text.
 pub record Made {Y Z : Type 0} (build : Y → Z) (text : Y → Text) (Legal : Y → Type 0) (z : Z) (s : Text) : Type 0 where
@@ -28,81 +21,64 @@ pub record Made {Y Z : Type 0} (build : Y → Z) (text : Y → Text) (Legal : Y 
   pub writes : s ≡ text source
   pub legal : Legal source
 
+-- A line's text without its LF is read back, whatever text there is after the LF.
+abbrev pub ReadsLine : {X Y Z : Type 0} (form : Text → Past X) (says : X → Z) (fault : X → Found) (build : Y → Z) (text : Y → Text) → Y → Type 0
+ReadsLine form says fault build text y = (r : Text) → Reads form says (λ x. IsFine (fault x)) (build y) (lineBefore (text y) r) r
+
 pub record WritesLine {X Y Z : Type 0} (form : Text → Past X) (says : X → Z) (fault : X → Found)
     (build : Y → Z) (text : Y → Text) (Legal : Y → Type 0) : Type 0 where
   pub sound : (s : Text) → When (form s) (λ x r. IsFine (fault x) → Made build (λ y. lineBefore (text y) r) Legal (says x) s)
   pub complete : (y : Y) → Legal y → ReadsLine form says fault build text y
 
 -- A form and then the end.
-pub line-ended : {X Y W Z : Type 0} {form : Text → Past X} {says : X → Y} {fault : X → Found} {text : Y → Text} {Legal : Y → Type 0} {goes : ℕ → Bool}
-    → Writes form says fault text Legal goes → T (not (goes lf))
-    → (make : X → W) (says′ : W → Z) (fault′ : W → Found) (build : Y → Z)
-    → ((x : X) → says′ (make x) ≡ build (says x)) → ((x : X) → IsFine (fault′ (make x)) ↔ IsFine (fault x))
+pub line-ended : {X Y W Z : Type 0} {form : Text → Past X} {says : X → Y} {Fine : X → Type 0} {text : Y → Text} {Legal : Y → Type 0} {goes : ℕ → Bool}
+    → Writes form says Fine text Legal goes → T (not (goes lf))
+    → (make : X → W) {says′ : W → Z} (fault′ : W → Found) (build : Y → Z)
+    → ((x : X) → says′ (make x) ≡ build (says x)) → ((x : X) → IsFine (fault′ (make x)) ↔ Fine x)
     → WritesLine (λ s. onward (form s) (λ x q. onward (ended q) (λ _ p. past (make x) p))) says′ fault′ build text Legal
-line-ended {says} {text} w apart make says′ fault′ build same faults = record {
+line-ended {says} {text} w apart make fault′ build same faults = record {
   sound = λ s. onward→ (w .sound s) (λ x q h. onward→ (literal→ (lf ∷ []) q) (λ _ r e. when-past (λ f.
       let k = h (faults x .0 f) in
       record { source = says x; builds = same x; writes = k .0 ∙ ap (λ t. text (says x) ++ t) e; legal = k .1 })));
-  complete = λ y l.
-      let c = w .complete y l in
-      record {
-        value = make (c .value);
-        faultless = faults (c .value) .1 (c .faultless);
-        said = same (c .value) ∙ ap build (c .said);
-        reads = λ r. onward← _ (c .reads (lf ∷ r) apart) ∙ onward← _ (literal← (lf ∷ []) r);
-      };
+  complete = λ y l r. reads-then (w .complete y l (lf ∷ r) apart) (λ x f e. record {
+    value = make x;
+    faultless = faults x .1 f;
+    said = same x ∙ ap build e;
+    reads = onward← _ (literal← (lf ∷ []) r);
+  });
 }
 
 -- A form before the rest of a line.
-pub line-first : {A X Y Z : Type 0} {form : Text → Past A} {text₁ : A → Text} {Legal₁ : A → Type 0} {goes : ℕ → Bool}
-    {rest : A → Text → Past X} {says : X → Z} {fault : X → Found} {build : A → Y → Z} {text : Y → Text} {Legal : Y → Type 0}
-    → Writes form (λ a. a) (λ a. fine) text₁ Legal₁ goes → ((a : A) → WritesLine (rest a) says fault (build a) text Legal)
+pub line-first : {A B X Y Z : Type 0} {form : Text → Past A} {says₁ : A → B} {text₁ : B → Text} {Legal₁ : B → Type 0} {goes : ℕ → Bool}
+    {rest : A → Text → Past X} {says : X → Z} {fault : X → Found} {text : Y → Text} {Legal : Y → Type 0} (build : B → Y → Z)
+    → Writes form says₁ (λ a. Unit {0}) text₁ Legal₁ goes → ((a : A) → WritesLine (rest a) says fault (build (says₁ a)) text Legal)
     → ((y : Y) (r : Text) → Stops goes (lineBefore (text y) r))
     → WritesLine (λ s. onward (form s) rest) says fault
-    (λ (p : A × Y). build (p .0) (p .1)) (λ (p : A × Y). text₁ (p .0) ++ text (p .1)) (λ (p : A × Y). Legal₁ (p .0) × Legal (p .1))
-line-first {form} {text₁} {rest} {build} {text} w v stops = record {
+    (λ (p : B × Y). build (p .0) (p .1)) (λ (p : B × Y). text₁ (p .0) ++ text (p .1)) (λ (p : B × Y). Legal₁ (p .0) × Legal (p .1))
+line-first {says₁} {text₁} {text} build w v stops = record {
   sound = λ s. onward→ (w .sound s) (λ a q h. when-weaken (v a .sound q) (λ x r i f.
       let k = i f in
       record {
-        source = (a, k .source);
+        source = (says₁ a, k .source);
         builds = k .builds;
-        writes = h tt .0 ∙ ap (λ t. text₁ a ++ t) (k .writes) ∙ sym (append-assoc (text₁ a) (text (k .source)) (lf ∷ r));
+        writes = h tt .0 ∙ ap (λ t. text₁ (says₁ a) ++ t) (k .writes) ∙ sym (append-assoc (text₁ (says₁ a)) (text (k .source)) (lf ∷ r));
         legal = (h tt .1, k .legal);
       }));
-  complete = λ p l.
-      let c = w .complete (p .0) (l .0) in
-      let d = v (p .0) .complete (p .1) (l .1) in
-      record {
-        value = d .value;
-        faultless = d .faultless;
-        said = d .said;
-        reads = λ r.
-            let more = lineBefore (text (p .1)) r in
-            onward (form ((text₁ (p .0) ++ text (p .1)) ++ (lf ∷ r))) rest
-            ≡⟨ ap (λ t. onward (form t) rest) (append-assoc (text₁ (p .0)) (text (p .1)) (lf ∷ r)) ⟩ onward (form (text₁ (p .0) ++ more)) rest
-            ≡⟨ onward← _ (c .reads more (stops (p .1) r)) ⟩ rest (c .value) more
-            ≡⟨ ap (λ a. rest a more) (c .said) ⟩ rest (p .0) more
-            ≡⟨ d .reads r ⟩ past (d .value) r ∎;
-      };
+  complete = λ p l r.
+      rw append-assoc (reads-then (w .complete (p .0) (l .0) (lineBefore (text (p .1)) r) (stops (p .1) r)) (λ a _ e.
+      rw e at (v a .complete (p .1) (l .1) r)));
 }
 
 module _ {X Y Z : Type 0} {form : Text → Past X} {says : X → Z} {fault : X → Found} {build : Y → Z} {text : Y → Text} {Legal : Y → Type 0} where
   -- A line behind a word that must stand there.
   pub line-after : (key : Text) → WritesLine form says fault build text Legal
-      → WritesLine (λ s. onward (literal key s) (λ _ r. form r)) says fault build (λ y. key ++ text y) Legal
+      → WritesLine (λ s. onward (literal key s) (λ _. form)) says fault build (λ y. key ++ text y) Legal
   line-after key w = record {
     sound = λ s. onward→ (literal→ key s) (λ _ q e. when-weaken (w .sound q) (λ x r h f.
         let k = h f in
         let whole = e ∙ ap (λ t. key ++ t) (k .writes) ∙ sym (append-assoc key (text (k .source)) (lf ∷ r)) in
         record { source = k .source; builds = k .builds; writes = whole; legal = k .legal }));
-    complete = λ y l.
-        let c = w .complete y l in
-        record {
-          value = c .value;
-          faultless = c .faultless;
-          said = c .said;
-          reads = λ r. rw append-assoc (onward← _ (literal← key (lineBefore (text y) r)) ∙ c .reads r);
-        };
+    complete = λ y l r. rw append-assoc (reads-after key (w .complete y l r));
   }
 
   -- One more fault to be free of.
@@ -113,8 +89,8 @@ module _ {X Y Z : Type 0} {form : Text → Past X} {says : X → Z} {fault : X �
         let k = fine-worse (fault x) (more x) .0 f in
         let m = h (k .0) in
         record { source = m .source; builds = m .builds; writes = m .writes; legal = (m .legal, subst And (m .builds) (free x .0 (k .1))) });
-    complete = λ y l.
-        let c = w .complete y (l .0) in
+    complete = λ y l r.
+        let c = w .complete y (l .0) r in
         record {
           value = c .value;
           faultless = fine-worse (fault (c .value)) (more (c .value)) .1 (c .faultless, free (c .value) .1 (subst And (sym (c .said)) (l .1)));

@@ -9,9 +9,9 @@ use lib.Dec.{T}
 use lib.ListN.{length}
 use Rattle.meaning.specs.Bytes.{Text}
 use Rattle.meaning.specs.Answers.{Fault}
-use Rattle.grammar.specs.Text.{Past, past, stuck}
+use Rattle.grammar.specs.Text.{Past, past, stuck, Placed}
 use Rattle.grammar.specs.Faults.{Found, fine, fault, unless}
-use Rattle.grammar.specs.Reading.{Taken, taken, faulty, takenIf, takenUnless, formed, Walk, reached, halted, walk, afterLine, oneLine, lines}
+use Rattle.grammar.specs.Reading.{Taken, taken, faulty, takenIf, takenUnless, formed, Flaw, Walk, reached, halted, walk, afterLine, oneLine, lines}
 use Rattle.grammar.specs.Writing.{lineBefore, eachLine}
 use Rattle.grammar.proofs.Findings.{IsFine, fine-unless}
 use Rattle.grammar.proofs.Onwards.{When}
@@ -22,22 +22,22 @@ pub record Takes {Y B : Type 0} (take : Text → Taken B) (make : Y → B) (text
   pub sound : (s : Text) (b : B) (r : Text) → take s ≡ taken b r → Made make (λ y. lineBefore (text y) r) Legal b s
   pub complete : (y : Y) → Legal y → (r : Text) → take (lineBefore (text y) r) ≡ taken (make y) r
 
-faulty≢taken : {B : Type 0} {f : Fault} {b : B} {r : Text} → faulty f ≡ taken b r → ⊥
+faulty≢taken : {B : Type 0} {f : Fault} {from : ℕ} {b : B} {r : Text} → faulty f from ≡ taken b r → ⊥
 faulty≢taken e = let z : _≡_ {A = ℕ} 0 1 = cc in omega arith
 
 unless→ : {B : Type 0} {a b : B} {q r : Text} (f : Found) → takenUnless f a q ≡ taken b r → IsFine f × (a ≡ b) × (q ≡ r)
 unless→ fine e = (tt, cc, cc)
-unless→ (fault x) e = absurd (faulty≢taken e)
+unless→ (fault x from) e = absurd (faulty≢taken e)
 
 unless← : {B : Type 0} {a : B} {r : Text} (f : Found) → IsFine f → takenUnless f a r ≡ taken a r
 unless← fine h = refl
-unless← (fault x) h = absurd h
+unless← (fault x from) h = absurd h
 
-formed-if : {A B : Type 0} (test : A → Bool) (f : Fault) (make : A → B) (m : Past A)
-    → formed m (λ a. takenIf (test a) f (make a)) ≡ formed m (λ a. takenUnless (unless (test a) f) (make a))
-formed-if test f make (past a r) = same (test a)
+formed-if : {A B : Type 0} (test : A → Bool) (f : Fault) (make : A → B) (m : Past (Placed A))
+    → formed m (λ a. takenIf (test (a .it)) f (a .from) (make (a .it))) ≡ formed m (λ a. takenUnless (unless (test (a .it)) f (a .from)) (make (a .it)))
+formed-if test f make (past a r) = same (test (a .it))
   where
-    same : (t : Bool) → takenIf t f (make a) r ≡ takenUnless (unless t f) (make a) r
+    same : (t : Bool) → takenIf t f (a .from) (make (a .it)) r ≡ takenUnless (unless t f (a .from)) (make (a .it)) r
     same true = refl
     same false = refl
 formed-if test f make (stuck r) = refl
@@ -49,8 +49,8 @@ pub line→takes : {X Y Z B : Type 0} {form : Text → Past X} {says : X → Z} 
 line→takes {X} {B} {form} {says} {fault} {build} {text} {Legal} w make take same = record {
   sound = λ s b r e. go s b r (form s) (w .sound s) (sym (same s) ∙ e);
   complete = λ y l r.
-      let c = w .complete y l in
-      same (lineBefore (text y) r) ∙ rw (c .reads r) (unless← (fault (c .value)) (c .faultless) ∙ ap (λ z. taken (make z) r) (c .said));
+      let c = w .complete y l r in
+      same (lineBefore (text y) r) ∙ rw (c .reads) (unless← (fault (c .value)) (c .faultless) ∙ ap (λ z. taken (make z) r) (c .said));
 }
   where
     go : (s : Text) (b : B) (r : Text) (m : Past X) → When m (λ x q. IsFine (fault x) → Made build (λ y. lineBefore (text y) q) Legal (says x) s)
@@ -68,18 +68,19 @@ line→takes {X} {B} {form} {says} {fault} {build} {text} {Legal} w make take sa
     go s b r (stuck q) h e = absurd (faulty≢taken e)
 
 -- A line that has no fault but one, which a test finds.
-pub takes-if : {A B : Type 0} {form : Text → Past A} {text : A → Text} {Legal : A → Type 0} → WritesLine form (λ a. a) (λ a. fine) (λ a. a) text Legal
-    → (test : A → Bool) (f : Fault) (make : A → B) → Takes (λ s. formed (form s) (λ a. takenIf (test a) f (make a))) make text (λ a. Legal a × T (test a))
+pub takes-if : {A B : Type 0} {form : Text → Past (Placed A)} {text : A → Text} {Legal : A → Type 0}
+    → WritesLine form (λ a. a .it) (λ a. fine) (λ a. a) text Legal → (test : A → Bool) (f : Fault) (make : A → B)
+    → Takes (λ s. formed (form s) (λ a. takenIf (test (a .it)) f (a .from) (make (a .it)))) make text (λ a. Legal a × T (test a))
 takes-if {form} w test f make =
-    line→takes (line-narrow w (λ a. unless (test a) f) (λ a. T (test a)) (λ a. fine-unless (test a) f)) make
-    (λ s. formed (form s) (λ a. takenIf (test a) f (make a))) (λ s. formed-if test f make (form s))
+    line→takes (line-narrow w (λ a. unless (test (a .it)) f (a .from)) (λ a. T (test a)) (λ a. fine-unless (test (a .it)) f (a .from))) make
+    (λ s. formed (form s) (λ a. takenIf (test (a .it)) f (a .from) (make (a .it)))) (λ s. formed-if test f make (form s))
 
 -- A walk that came to its end, and the steps that it is made of.
 pub record Reaches {A : Type 0} (m : Walk A) (a : A) (s : Text) : Type 0 where
   pub number : ℕ
   pub there : m ≡ reached a number s
 
-not-halted : {A : Type 0} {f : Fault} {line : ℕ} {a : A} {s : Text} → Reaches (halted f line) a s → ⊥
+not-halted : {A : Type 0} {f : Flaw} {line : ℕ} {a : A} {s : Text} → Reaches (halted f line) a s → ⊥
 not-halted h = let e = h .there in let z : _≡_ {A = ℕ} 0 1 = cc in omega arith
 
 pub record Walked {A B : Type 0} (m : Walk A) (f : A → ℕ → Text → Walk B) (b : B) (s : Text) : Type 0 where
@@ -98,16 +99,16 @@ pub walk← : {A B : Type 0} {a : A} {b : B} {s t : Text} {m : Walk A} (f : A �
 walk← {a} {b} {s} {t} f h k = subst (λ w. Reaches (walk w f) b s) (sym (h .there)) (k (h .number))
 
 -- One line.
-after→ : {B : Type 0} {b : B} {r : Text} (n : ℕ) (t : Taken B) → Reaches (afterLine n t) b r → t ≡ taken b r
-after→ n (taken a q) h = let e = h .there in cc
-after→ n (faulty f) h = absurd (not-halted h)
+after→ : {B : Type 0} {b : B} {r : Text} (n : ℕ) (s : Text) (t : Taken B) → Reaches (afterLine n s t) b r → t ≡ taken b r
+after→ n s (taken a q) h = let e = h .there in cc
+after→ n s (faulty f from) h = absurd (not-halted h)
 
 module _ {Y B : Type 0} {take : Text → Taken B} {make : Y → B} {text : Y → Text} {Legal : Y → Type 0} (w : Takes take make text Legal) where
   pub one-line→ : (n : ℕ) (s : Text) (b : B) (r : Text) → Reaches (oneLine take n s) b r → Made make (λ y. lineBefore (text y) r) Legal b s
-  one-line→ n s b r h = w .sound s b r (after→ n (take s) h)
+  one-line→ n s b r h = w .sound s b r (after→ n s (take s) h)
 
   pub one-line← : (n : ℕ) (y : Y) (r : Text) → Legal y → Reaches (oneLine take n (lineBefore (text y) r)) (make y) r
-  one-line← n y r l = record { number = suc n; there = ap (afterLine n) (w .complete y l r) }
+  one-line← n y r l = record { number = suc n; there = ap (afterLine n (lineBefore (text y) r)) (w .complete y l r) }
 
 -- Lines that are read alike, each legal after those before it.
 module _ {A : Type 0} (Legal : List A → A → Type 0) where

@@ -16,16 +16,16 @@ use Rattle.meaning.specs.Legal.{LegalLabels, LegalOperator, LegalOrder}
 use Rattle.meaning.proofs.Tests.{and-left, and-right}
 use Rattle.grammar.specs.Text.{Past, past, stuck, onward, lf, ended, isRest, literal, word, wordOn, separatedOn, isLower, isDigit}
 use Rattle.grammar.specs.Forms as F
-use Rattle.grammar.specs.Forms.{space, Listed, Line, plain, acts, wraps, OrderLine, part, Kind, kinds, labelList, alone}
-use Rattle.grammar.specs.Forms.{ofName, ofOne, ofTwo, ofList, farther, ofKind, termLine, orderLine}
-use Rattle.grammar.specs.Faults.{Found, termSaid, wordsOfFault, operatorSaid, listFault, orderSaid, orderFault}
+use Rattle.grammar.specs.Forms.{space, Listed, Places, Line, plain, acts, wraps, OrderLine, part, Kind, kinds, labelList, alone}
+use Rattle.grammar.specs.Forms.{operand, ofName, ofLast, ofOne, ofTwo, ofList, farther, ofKind, termLine, orderLine}
+use Rattle.grammar.specs.Faults.{termSaid, wordsOfFault, operatorSaid, listFault, orderSaid, orderFault}
 use Rattle.grammar.specs.Marks.{decimal}
-use Rattle.grammar.specs.Writing.{nameText, labelsText, after, two, withList, termText, orderText, lineBefore, LegalWords}
+use Rattle.grammar.specs.Writing.{nameText, labelsText, after, two, withList, termText, orderText, lineBefore, inName, LegalWords}
 use Rattle.grammar.proofs.Findings.{IsFine}
 use Rattle.grammar.proofs.Onwards.{rest-line, rest-differs, When, when-past, when-stuck, when-weaken, when-branch}
-use Rattle.grammar.proofs.Onwards.{onward→, onward←, literal→, literal←}
-use Rattle.grammar.proofs.Writes.{Writes}
-use Rattle.grammar.proofs.Atoms.{Small, writes-number, writes-name}
+use Rattle.grammar.proofs.Onwards.{onward→, literal→, literal←}
+use Rattle.grammar.proofs.Writes.{reads-by, reads-after, Writes, writes-placed, writes-after}
+use Rattle.grammar.proofs.Atoms.{AsIs, Small, writes-number, writes-name}
 use Rattle.grammar.proofs.ListForms.{writes-names, writes-pairs, writes-rules, writes-labels}
 use Rattle.grammar.proofs.LineForms.{ReadsLine, Made, WritesLine, line-ended, line-after, line-first}
 
@@ -99,33 +99,38 @@ module _ (words : List Text) (legal : LegalWords words) where
   unfolding alone wordsOfFault
   follows-alone t = record {
     sound = λ s. onward→ (literal→ (lf ∷ []) s) (λ _ r e. when-past (λ f. record { source = tt; builds = refl; writes = e; legal = tt }));
-    complete = λ y l. record { value = plain t; faultless = tt; said = refl; reads = λ r. onward← _ (literal← (lf ∷ []) r) };
+    complete = λ y l r. reads-after (lf ∷ []) (record { value = plain t (record { first = 0; second = 0 }); faultless = tt; said = refl; reads = refl });
   }
 
   follows-name : Follows ofName act (λ a. after (nameText words a)) (λ a. a < length words)
   unfolding ofName wordsOfFault isLower isDigit
-  follows-name =
-      line-after (space ∷ []) (line-ended (writes-name words legal) tt acts (termSaid words) (wordsOfFault words) act (λ w. refl) (λ w. Iff·rfl))
+  follows-name = line-after (space ∷ []) (line-ended (writes-name words legal) tt acts (wordsOfFault words) act (λ w. refl) (λ w. Iff·rfl))
+
+  writes-operand : Writes operand (λ t. t .it) AsIs (λ t. after (decimal t)) Small inName
+  writes-operand = writes-after (writes-placed (λ _. writes-number)) (space ∷ [])
+
+  follows-last : (make : ℕ → Term) (at : ℕ → Places) → Follows (ofLast make at) make (λ t. after (decimal t)) Small
+  unfolding ofLast wordsOfFault isLower isDigit
+  follows-last make at =
+      line-ended writes-operand tt (λ t. plain (make (t .it)) (at (t .from))) (wordsOfFault words) make (λ t. refl) (λ t. Iff·rfl)
 
   follows-one : (make : ℕ → Term) → Follows (ofOne make) make (λ t. after (decimal t)) Small
-  unfolding ofOne wordsOfFault isLower isDigit
-  follows-one make =
-      line-after (space ∷ []) (line-ended writes-number tt (λ t. plain (make t)) (termSaid words) (wordsOfFault words) make (λ t. refl) (λ t. Iff·rfl))
+  follows-one make = follows-last make (λ from. record { first = from; second = from })
 
   follows-two : (make : ℕ → ℕ → Term) → Follows {Y = ℕ × ℕ} (ofTwo make) (λ p. make (p .0) (p .1)) (λ p. two (p .0) (p .1)) (λ p. SmallTwo (p .0) (p .1))
   unfolding ofTwo isLower isDigit
-  follows-two make = line-after (space ∷ []) (line-first writes-number (λ t. follows-one (make t)) (λ u r. tt))
+  follows-two make = line-first make writes-operand (λ t. follows-last (make (t .it)) (λ from. record { first = t .from; second = from })) (λ u r. tt)
 
-  follows-list : {X Y : Type 0} {list : Text → Past X} {says : X → Y} {fault : X → Found} {text : Y → Text} {Legal : Y → Type 0} {goes : ℕ → Bool}
-      → Writes list says fault text Legal goes → T (not (goes lf)) → (make : X → Listed) (operator : Y → Operator)
-      → ((x : X) → operatorSaid words (make x) ≡ operator (says x)) → ((x : X) → IsFine (listFault words (make x)) ↔ IsFine (fault x))
+  follows-list : {X Y : Type 0} {list : Text → Past X} {says : X → Y} {Fine : X → Type 0} {text : Y → Text} {Legal : Y → Type 0} {goes : ℕ → Bool}
+      → Writes list says Fine text Legal goes → T (not (goes lf)) → (make : X → Listed) (operator : Y → Operator)
+      → ((x : X) → operatorSaid words (make x) ≡ operator (says x)) → ((x : X) → IsFine (listFault words (make x)) ↔ Fine x)
       → Follows {Y = ℕ × Y} (ofList list make) (λ p. wrap (operator (p .1)) (p .0)) (λ p. withList (p .0) (text (p .1))) (λ p. Small (p .0) × Legal (p .1))
   unfolding ofList wordsOfFault isLower isDigit
   follows-list w ends make operator same faults =
-      line-after (space ∷ []) (line-first writes-number
-      (λ t. line-after (space ∷ []) (line-ended w ends (λ l. wraps (make l) t) (termSaid words) (wordsOfFault words)
-      (λ y. wrap (operator y) t) (λ x. ap (λ o. wrap o t) (same x)) faults))
-      (λ y r. tt))
+      line-first (λ t y. wrap (operator y) t) writes-operand
+      (λ t. line-after (space ∷ []) (line-ended w ends (λ l. wraps (make l) t) (wordsOfFault words)
+      (λ y. wrap (operator y) (t .it)) (λ x. ap (λ o. wrap o (t .it)) (same x)) faults))
+      (λ y r. tt)
 
   -- What the line of a kind says: one row for each kind.
   record Row (k : Kind) : Type 1 where
@@ -213,15 +218,10 @@ module _ (words : List Text) (legal : LegalWords words) where
   rowOf n h = rowAt rows n (ltb→lt n (length kinds) h)
 
   shown-by : (n : ℕ) (h : T (ltb n (length kinds))) → T (apart kinds n) → (y : rowOf n h .Operands) → rowOf n h .Fit y → Shown (rowOf n h .build y)
-  shown-by n h first y l =
+  shown-by n h first y l r =
       let w = rowOf n h in
-      let c = w .follows .complete y l in
-      record {
-        value = c .value;
-        faultless = c .faultless;
-        said = c .said;
-        reads = λ r. rw (row-line (kindAt kinds n) w y r) (found kinds n (lineBefore (w .text y) r) (c .value) r first (c .reads r));
-      }
+      let c = w .follows .complete y l r in
+      reads-by c (rw (row-line (kindAt kinds n) w y r) (found kinds n (lineBefore (w .text y) r) (c .value) r first (c .reads)))
 
   shown : (t : Term) → Sayable (length words) t → Shown t
   unfolding kinds apart clash kindAt rowAt rows row
@@ -257,24 +257,18 @@ module _ (words : List Text) (legal : LegalWords words) where
 
   writes-only : WritesLine only-line (orderSaid words) (orderFault words) D.only (labelsText words) (LegalLabels (length words))
   unfolding orderFault
-  writes-only = line-ended (writes-labels words legal) tt F.only (orderSaid words) (orderFault words) D.only (λ x. refl) (λ x. Iff·rfl)
+  writes-only = line-ended (writes-labels words legal) tt F.only (orderFault words) D.only (λ x. refl) (λ x. Iff·rfl)
 
   abbrev after-key : Text → Past OrderLine
   after-key s = elim (isRest (ascii "all") s) [ true ↦ past F.all (drop 4 s) | false ↦ only-line s ]
 
   order-complete : (o : Order) → LegalOrder (length words) o → ReadsLine after-key (orderSaid words) (orderFault words) (λ o. o) (orderText words) o
   unfolding orderFault isRest
-  order-complete D.all l = record { value = F.all; faultless = tt; said = refl; reads = λ r. refl }
-  order-complete (D.only ls) l =
-      let c = writes-only .complete ls l in
-      record {
-        value = c .value;
-        faultless = c .faultless;
-        said = c .said;
-        reads = λ r.
-            let line = lineBefore (labelsText words ls) r in
-            rw (rest-differs only-line (ascii "all") line (c .reads r) (all-stuck (c .value) r), after-key) (c .reads r);
-      }
+  order-complete D.all l r = record { value = F.all; faultless = tt; said = refl; reads = refl }
+  order-complete (D.only ls) l r =
+      let c = writes-only .complete ls l r in
+      let line = lineBefore (labelsText words ls) r in
+      reads-by c (rw (rest-differs only-line (ascii "all") line (c .reads) (all-stuck (c .value) r), after-key) (c .reads))
 
   pub writes-order : WritesLine orderLine (orderSaid words) (orderFault words) (λ o. o) (λ o. ascii "order=" ++ orderText words o) (LegalOrder (length words))
   unfolding orderLine orderFault

@@ -1,21 +1,22 @@
 -- The listing of README.md and the listing with a sync of a merge and a reference, which read as the descriptions themselves, and
--- texts for each refusal number, as one table of cases that the checker computes.
+-- texts for each refusal number and for the column of a fault, as tables of cases that the checker computes.
 -- Assumes nothing.
 use mathlib.Core.Path.{_≡_, refl, subst⁻¹}
 use mathlib.Core.Logic.{inl, inr}
 use mathlib.Core.List.{List, [], _∷_, _++_}
 use Prim.Native.String.{String}
+use Prim.Native.Nat.{ℕ}
 use lib.ListN.{replicate}
 use Rattle.meaning.specs.Bytes.{Text, ascii}
-use Rattle.meaning.specs.Labels.{plus}
+use Rattle.meaning.specs.Labels as L
 use Rattle.meaning.specs.Sets.{_∈_}
 use Rattle.meaning.specs.Descriptions.{Term, Description, act, ref, seq, merge, sync, comm, wrap, all}
-use Rattle.meaning.specs.Answers.{form, name, range, amount}
+use Rattle.meaning.specs.Answers.{Fault, form, name, range, amount}
 use Rattle.meaning.proofs.Alphabets as M
 use Rattle.meaning.proofs.Alphabets.{hangs, busyForEver, startBlocked, startNotAllowed, startInStep, startFirst, fifteenOfSixteen, twoDies}
 use Rattle.grammar.specs.Text.{sameText, literal, isRest, isDigit, isLower, secondDigit, number, wordOn, word, separatedOn}
-use Rattle.grammar.specs.Forms.{part, pair, rule, labelList, alone, ofName, ofOne, ofTwo, ofList, kinds, ofKind, countLine, nameLine, termLine, orderLine}
-use Rattle.grammar.specs.Faults.{worst, rising, nameNumber, nameFault, labelSaid, actions, labelFault, wordsFault}
+use Rattle.grammar.specs.Forms.{part, pair, rule, labelList, alone, ofName, ofLast, ofTwo, ofList, kinds, ofKind, countLine, nameLine, termLine, orderLine}
+use Rattle.grammar.specs.Faults.{itemsFrom, itemsFault, nameNumber, nameFault, labelSaid, actions, labelFault, wordsFault}
 use Rattle.grammar.specs.Faults.{pairsFault, rulesFault, labelsFault, wordsOfFault, termFault, orderFault}
 use Rattle.grammar.specs.Reading.{Reading, read, overlong, badLine, takeNumber, isFree, takeName, takeTerm}
 use Rattle.grammar.specs.Reading.{takeBody, takeOrder, lines, wholeText, readText}
@@ -95,23 +96,58 @@ pub record Case : Type 0 where
 abbrev case : List String → Reading → Case
 case t r = record { given = text t; reading = r }
 
+abbrev bad : Fault → (line column : ℕ) → Reading
+bad f line column = badLine (record { fault = f; column = column }) line
+
 -- 8,192 bytes are read, and have no line; one more is too long. A line that lacks its LF has no form, whatever its name.
 abbrev pub table : List Case
 table =
     case listing (read (stripe (wrap (comm (record { left = 2 ∷ 0 ∷ []; right = 1 } ∷ [])) 3)) all)
     ∷ case (tenth "term=sync 3 1") (read (stripe (sync 3 1)) all)
     ∷ record { given = replicate 8193 10; reading = overlong }
-    ∷ record { given = replicate 8192 10; reading = badLine form 1 }
-    ∷ case [] (badLine form 1)
-    ∷ case ("names=1" ∷ "name=tau" ∷ []) (badLine name 2)
-    ∷ record { given = text ("names=1" ∷ []) ++ ascii "name=tau"; reading = badLine form 2 }
-    ∷ case (tenth "term=comm 3 done:2>close,") (badLine form 10)
-    ∷ case (tenth "term=comm 3 done:02>close") (badLine form 10)
-    ∷ case (tenth "term=block 99 zz") (badLine name 10)
-    ∷ case (tenth "term=sync 1 99") (badLine range 10)
-    ∷ case (tenth "term=comm 3 done:1>close") (badLine amount 10)
-    ∷ case (tenth "term=block 3 done,done") (badLine amount 10)
-    ∷ case (listing ++ ("x" ∷ [])) (badLine form 14)
+    ∷ record { given = replicate 8192 10; reading = bad form 1 1 }
+    ∷ case [] (bad form 1 1)
+    ∷ case ("names=1" ∷ "name=tau" ∷ []) (bad name 2 6)
+    ∷ record { given = text ("names=1" ∷ []) ++ ascii "name=tau"; reading = bad form 2 9 }
+    ∷ case (tenth "term=comm 3 done:2>close,") (bad form 10 26)
+    ∷ case (tenth "term=comm 3 done:02>close") (bad form 10 19)
+    ∷ case (tenth "term=block 99 zz") (bad name 10 15)
+    ∷ case (tenth "term=sync 1 99") (bad range 10 13)
+    ∷ case (tenth "term=comm 3 done:1>close") (bad amount 10 13)
+    ∷ case (tenth "term=block 3 done,done") (bad amount 10 19)
+    ∷ case (listing ++ ("x" ∷ [])) (bad form 14 1)
+    ∷ []
+
+-- Columns. A line where the first term is due, and one where the order is, in texts with the names a and b.
+abbrev asTerm : String → Fault → ℕ → Case
+asTerm l f column = case ("names=2" ∷ "name=a" ∷ "name=b" ∷ "equations=0" ∷ "terms=1" ∷ l ∷ []) (bad f 6 column)
+
+abbrev asOrder : String → Fault → ℕ → Case
+asOrder l f column =
+    case ("names=2" ∷ "name=a" ∷ "name=b" ∷ "equations=0" ∷ "terms=1" ∷ "term=tau" ∷ "root=0" ∷ l ∷ []) (bad f 8 column)
+
+-- What has no form is faulted at the byte with which no line due there goes on; any other fault where that begins which has it.
+abbrev pub columns : List Case
+columns =
+    case ("names=25 " ∷ []) (bad form 1 9)
+    ∷ case ("names=25" ∷ []) (bad form 1 7)
+    ∷ record { given = ascii "names=25"; reading = bad form 1 9 }
+    ∷ asTerm "terms=" form 5
+    ∷ asTerm "term=foo 0" form 6
+    ∷ asTerm "term=sux" form 8
+    ∷ asTerm "term=all 0" form 9
+    ∷ asTerm "term=allow 0 all" form 17
+    ∷ asTerm "term=sum 00" form 11
+    ∷ asTerm "term=sum 100" form 12
+    ∷ asTerm "term=comm 0 a>b" form 14
+    ∷ asTerm "term=block 0 zz:1" form 16
+    ∷ asTerm "term=block 0 yy,zz" name 14
+    ∷ asTerm "term=sync 98 99" range 11
+    ∷ asOrder "order=tau" form 10
+    ∷ asOrder "order=alll" form 11
+    ∷ asOrder "order=all,a:1" form 10
+    ∷ asOrder "order=none,a:1" form 11
+    ∷ asOrder "order=a:1,b:1,a:1" amount 15
     ∷ []
 
 abbrev readAs : List String → M.Case → Case
@@ -137,13 +173,14 @@ abbrev All : List Case → Type 0
 All [] = Unit {0}
 All (c ∷ cs) = Holds c × All cs
 
-computed : All table × All unseenTexts × All exactTexts
-unfolding plus sameText literal isRest isDigit isLower secondDigit number wordOn word separatedOn
-    part pair rule labelList alone ofName ofOne ofTwo ofList kinds ofKind countLine nameLine termLine orderLine
-    worst rising nameNumber nameFault labelSaid actions labelFault wordsFault pairsFault rulesFault labelsFault wordsOfFault termFault orderFault
+computed : All table × All columns × All unseenTexts × All exactTexts
+unfolding L.plus L.number sameText literal isRest isDigit isLower secondDigit number wordOn word separatedOn
+    part pair rule labelList alone ofName ofLast ofTwo ofList kinds ofKind countLine nameLine termLine orderLine
+    itemsFrom itemsFault nameNumber nameFault labelSaid actions labelFault wordsFault pairsFault rulesFault labelsFault wordsOfFault termFault orderFault
     takeNumber isFree takeName takeTerm takeBody takeOrder lines wholeText readText
 computed = (
   (refl, (refl, (refl, (refl, (refl, (refl, (refl, (refl, (refl, (refl, (refl, (refl, (refl, (refl, tt)))))))))))))),
+  (refl, (refl, (refl, (refl, (refl, (refl, (refl, (refl, (refl, (refl, (refl, (refl, (refl, (refl, (refl, (refl, (refl, (refl, (refl, tt))))))))))))))))))),
   (refl, (refl, (refl, (refl, (refl, (refl, tt)))))),
   (refl, (refl, tt)),
 )
@@ -155,8 +192,11 @@ each (b ∷ cs) h c (inr m) = each cs (h .1) c m
 pub cases : (c : Case) → c ∈ table → readText (c .given) ≡ c .reading
 cases = each table (computed .0)
 
+pub column-cases : (c : Case) → c ∈ columns → readText (c .given) ≡ c .reading
+column-cases = each columns (computed .1)
+
 pub unseen-texts : (c : Case) → c ∈ unseenTexts → readText (c .given) ≡ c .reading
-unseen-texts = each unseenTexts (computed .1)
+unseen-texts = each unseenTexts (computed .2)
 
 pub exact-texts : (c : Case) → c ∈ exactTexts → readText (c .given) ≡ c .reading
-exact-texts = each exactTexts (computed .2)
+exact-texts = each exactTexts (computed .3)

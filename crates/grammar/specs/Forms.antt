@@ -9,7 +9,7 @@ use Rattle.meaning.specs.Descriptions.{Term, tau, delta, ref, sum, cond, choice
 use Rattle.meaning.specs.Bytes.{Text, ascii}
 use Rattle.meaning.specs.Rounds.{pick}
 pub use Rattle.grammar.specs.Text.{lf}
-use Rattle.grammar.specs.Text.{Past, past, stuck, onward, ended, isRest, literal, byte, number, word, separated}
+use Rattle.grammar.specs.Text.{Past, past, stuck, onward, Placed, placed, ended, isRest, literal, byte, number, word, separated}
 
 -- the signs: space, comma, dot, colon and greater-than
 abbrev pub space : ℕ
@@ -27,74 +27,91 @@ colon = 58
 abbrev pub greater : ℕ
 greater = 62
 
--- What a line says before its names are looked up.
+-- What a line says before its names are looked up: names, numbers and the entries of lists with the places where they begin.
 pub record Part : Type 0 where
-  pub name : Text
+  pub name : Placed Text
   pub times : ℕ
 
 abbrev pub Parts : Type 0
 Parts = List Part
 
 pub record WordPair : Type 0 where
-  pub left : Text
-  pub right : Text
+  pub left : Placed Text
+  pub right : Placed Text
 
 pub record WordRule : Type 0 where
   pub left : Parts
-  pub right : Text
+  pub right : Placed Text
 
 pub data Listed : Type 0 where
-  block hide : List Text → Listed
-  rename : List WordPair → Listed
-  comm : List WordRule → Listed
-  allow : List Parts → Listed
+  block hide : List (Placed Text) → Listed
+  rename : List (Placed WordPair) → Listed
+  comm : List (Placed WordRule) → Listed
+  allow : List (Placed Parts) → Listed
+
+-- where the numbers of a term begin, the first twice where there is one
+pub record Places : Type 0 where
+  pub first : ℕ
+  pub second : ℕ
 
 pub data Line : Type 0 where
-  plain : Term → Line
-  acts : Text → Line
-  wraps : Listed → ℕ → Line
+  plain : Term → Places → Line
+  acts : Placed Text → Line
+  wraps : Listed → Placed ℕ → Line
 
 pub data OrderLine : Type 0 where
   all : OrderLine
-  only : List Parts → OrderLine
+  only : List (Placed Parts) → OrderLine
 
 -- `name:count` parts joined by `.`
 unfoldable pub part : Text → Past Part
-part s = onward (word s) (λ w r. onward (byte colon r) (λ _ q. onward (number q) (λ n p. past (record { name = w; times = n }) p)))
+part s = onward (placed word s) (λ w r. onward (byte colon r) (λ _ q. onward (number q) (λ n p. past (record { name = w; times = n }) p)))
 
 abbrev pub label : Text → Past Parts
 label = separated dot part
 
 -- LIST, PAIRS, RULES and LABELS
-abbrev pub wordList : Text → Past (List Text)
-wordList = separated comma word
+abbrev pub wordList : Text → Past (List (Placed Text))
+wordList = separated comma (placed word)
 
 unfoldable pub pair : Text → Past WordPair
-pair s = onward (word s) (λ a r. onward (byte greater r) (λ _ q. onward (word q) (λ b p. past (record { left = a; right = b }) p)))
+pair s = onward (placed word s) (λ a r. onward (byte greater r) (λ _ q. onward (placed word q) (λ b p. past (record { left = a; right = b }) p)))
 
 unfoldable pub rule : Text → Past WordRule
-rule s = onward (label s) (λ a r. onward (byte greater r) (λ _ q. onward (word q) (λ b p. past (record { left = a; right = b }) p)))
+rule s = onward (label s) (λ a r. onward (byte greater r) (λ _ q. onward (placed word q) (λ b p. past (record { left = a; right = b }) p)))
 
-unfoldable pub labelList : Text → Past (List Parts)
-labelList s = elim (isRest (ascii "none") s) [ true ↦ past [] (drop 4 s) | false ↦ separated comma label s ]
+abbrev pub pairList : Text → Past (List (Placed WordPair))
+pairList = separated comma (placed pair)
+
+abbrev pub ruleList : Text → Past (List (Placed WordRule))
+ruleList = separated comma (placed rule)
+
+unfoldable pub labelList : Text → Past (List (Placed Parts))
+labelList s = elim (isRest (ascii "none") s) [ true ↦ past [] (drop 4 s) | false ↦ separated comma (placed label) s ]
 
 -- What follows a kind: its operands and its list.
 unfoldable pub alone : Term → Text → Past Line
-alone t s = onward (ended s) (λ _ r. past (plain t) r)
+alone t s = onward (ended s) (λ _ r. past (plain t (record { first = 0; second = 0 })) r)
 
 unfoldable pub ofName : Text → Past Line
-ofName s = onward (byte space s) (λ _ r. onward (word r) (λ w q. onward (ended q) (λ _ p. past (acts w) p)))
+ofName s = onward (byte space s) (λ _ r. onward (placed word r) (λ w q. onward (ended q) (λ _ p. past (acts w) p)))
 
-unfoldable pub ofOne : (ℕ → Term) → Text → Past Line
-ofOne make s = onward (byte space s) (λ _ r. onward (number r) (λ t q. onward (ended q) (λ _ p. past (plain (make t)) p)))
+abbrev pub operand : Text → Past (Placed ℕ)
+operand s = onward (byte space s) (λ _ r. placed number r)
+
+unfoldable pub ofLast : (ℕ → Term) → (ℕ → Places) → Text → Past Line
+ofLast make at s = onward (operand s) (λ t q. onward (ended q) (λ _ p. past (plain (make (t .it)) (at (t .from))) p))
+
+abbrev pub ofOne : (ℕ → Term) → Text → Past Line
+ofOne make = ofLast make (λ from. record { first = from; second = from })
 
 unfoldable pub ofTwo : (ℕ → ℕ → Term) → Text → Past Line
-ofTwo make s = onward (byte space s) (λ _ r. onward (number r) (λ t q. ofOne (make t) q))
+ofTwo make s = onward (operand s) (λ t q. ofLast (make (t .it)) (λ from. record { first = t .from; second = from }) q)
 
 unfoldable pub ofList : {A : Type 0} → (Text → Past A) → (A → Listed) → Text → Past Line
 ofList list make s =
-    onward (byte space s) (λ _ r. onward (number r) (λ t q. onward (byte space q) (λ _ p. onward (list p) (λ l o.
-    onward (ended o) (λ _ n. past (wraps (make l) t) n)))))
+    onward (operand s) (λ t q. onward (byte space q) (λ _ p. onward (list p) (λ l o.
+    onward (ended o) (λ _ n. past (wraps (make l) t) n))))
 
 pub record Kind : Type 0 where
   pub word : Text
@@ -120,13 +137,12 @@ kinds =
     ∷ kind (ascii "sync") (ofTwo sync)
     ∷ kind (ascii "block") (ofList wordList block)
     ∷ kind (ascii "hide") (ofList wordList hide)
-    ∷ kind (ascii "rename") (ofList (separated comma pair) rename)
-    ∷ kind (ascii "comm") (ofList (separated comma rule) comm)
+    ∷ kind (ascii "rename") (ofList pairList rename)
+    ∷ kind (ascii "comm") (ofList ruleList comm)
     ∷ kind (ascii "allow") (ofList labelList allow)
     ∷ []
 
--- The farther of two places in one text. It serves the column of a fault (document 02, 2026-04), the byte at which no line that is
--- due there goes on; whether a line is refused does not depend on it.
+-- The farther of two places in one text: where no kind's word stands, the line goes on as far as one of them does.
 abbrev pub farther : Text → Past Line → Past Line
 farther s (past l r) = past l r
 farther s (stuck t) = stuck (pick (ltb (length s) (length t)) s t)
@@ -136,11 +152,11 @@ ofKind [] s = stuck s
 ofKind (k ∷ ks) s = elim (literal (k .word) s) [ past _ r ↦ k .rest r | stuck r ↦ farther r (ofKind ks s) ]
 
 -- The keys, and the lines.
-unfoldable pub countLine : Text → Text → Past ℕ
-countLine key s = onward (literal key s) (λ _ r. onward (number r) (λ n q. onward (ended q) (λ _ p. past n p)))
+unfoldable pub countLine : Text → Text → Past (Placed ℕ)
+countLine key s = onward (literal key s) (λ _ r. onward (placed number r) (λ n q. onward (ended q) (λ _ p. past n p)))
 
-unfoldable pub nameLine : Text → Past Text
-nameLine s = onward (literal (ascii "name=") s) (λ _ r. onward (word r) (λ w q. onward (ended q) (λ _ p. past w p)))
+unfoldable pub nameLine : Text → Past (Placed Text)
+nameLine s = onward (literal (ascii "name=") s) (λ _ r. onward (placed word r) (λ w q. onward (ended q) (λ _ p. past w p)))
 
 unfoldable pub termLine : Text → Past Line
 termLine s = onward (literal (ascii "term=") s) (λ _ r. ofKind kinds r)

@@ -5,7 +5,7 @@ use Prim.Native.Nat.{ℕ}
 use lib.ListN.{length}
 use Rattle.meaning.specs.Bytes.{Text, ascii}
 use Rattle.meaning.specs.Labels.{Label}
-use Rattle.meaning.specs.Answers.{Refusal, reasonOf, lineOf}
+use Rattle.meaning.specs.Answers.{Refusal, reasonOf, lineOf, columnOf}
 use Rattle.grammar.specs.Forms.{lf}
 use Rattle.grammar.specs.Marks.{decimal, labelText}
 
@@ -30,9 +30,10 @@ answerText words rounds labels =
     line (ascii "answer=") (ascii "ok")
     ++ (line (ascii "rounds=") (decimal rounds) ++ (line (ascii "labels=") (decimal (length labels)) ++ labelLines words labels))
 
-unfoldable pub refusedText : ℕ → ℕ → Text
-refusedText reason at =
-    line (ascii "answer=") (ascii "refused") ++ (line (ascii "reason=") (decimal reason) ++ line (ascii "line=") (decimal at))
+unfoldable pub refusedText : (reason at column : ℕ) → Text
+refusedText reason at column =
+    line (ascii "answer=") (ascii "refused")
+    ++ (line (ascii "reason=") (decimal reason) ++ (line (ascii "line=") (decimal at) ++ line (ascii "column=") (decimal column)))
 
 abbrev pub refusalText : Refusal → Text
-refusalText r = refusedText (reasonOf r) (lineOf r)
+refusalText r = refusedText (reasonOf r) (lineOf r) (columnOf r)

@@ -8,7 +8,6 @@ use lib.Dec.{leb, eqb}
 use lib.ListN.{length}
 use Rattle.meaning.specs.Bytes.{Text}
 
--- The text in `stuck` serves the column of a fault too (document 02, 2026-04); whether a line is refused does not depend on it.
 pub data Past (A : Type 0) : Type 0 where
   past : A → Text → Past A
   stuck : Text → Past A
@@ -16,6 +15,15 @@ pub data Past (A : Type 0) : Type 0 where
 abbrev pub onward : {A B : Type 0} → Past A → (A → Text → Past B) → Past B
 onward (past a s) f = f a s
 onward (stuck s) f = stuck s
+
+-- What was read, with the place where it begins. A place is told by how many bytes of the text are left there, so that it is the same in
+-- every rest of one text.
+pub record Placed (A : Type 0) : Type 0 where
+  pub it : A
+  pub from : ℕ
+
+abbrev pub placed : {A : Type 0} → (Text → Past A) → Text → Past (Placed A)
+placed form s = onward (form s) (λ a r. past (record { it = a; from = length s }) r)
 
 unfoldable pub sameText : Text → Text → Bool
 sameText [] [] = true

@@ -9,7 +9,7 @@ use Rattle.meaning.specs.Bytes.{Text, ascii}
 use Rattle.meaning.specs.Answers.{form}
 use Rattle.words.proofs.Steps.{restAt}
 use Rattle.grammar.specs.Reading.{Walk, takeNumber, takeName, namesInRange, equationsInRange, termsInRange, reached, oneLine, lines}
-use Rattle.faults.specs.declared.Fault as F
+use Rattle.faults.specs.declared.Flaw as F
 use Rattle.keyed.specs.Numbers.{between, NumberTo}
 use Rattle.keyed.specs.declared.Progress.{Progress}
 use Rattle.keyed.specs.declared.Progress.the-variants.{To, Bad}
@@ -28,7 +28,7 @@ onCount words e t line s = reached (record { words = words; equations = e; terms
 -- The counts.
 module _ (table : List ℕ) (named : ℕ) {text : Text} {r : Progress}
     (w : NumberTo text (2 + named) 17 r (oneLine (takeNumber (ascii "equations=") (between 0 17) form) (2 + named) text)) where
-  pub counts-bad : {f : F.Fault} {l : ℕ} → r ≡ Bad f l → CountsRead text named table table r
+  pub counts-bad : {f : F.Flaw} {l : ℕ} → r ≡ Bad f l → CountsRead text named table table r
   counts-bad e =
       let q = number-bad (ascii "equations=") 0 17 equationsInRange equations-test form (2 + named) text w e in
       rw e (record { tabled = within-same 128 table; came = λ words. stops-there (λ e line s. headTerms words e line s) q })
@@ -47,7 +47,7 @@ module _ (table : List ℕ) (named : ℕ) {text : Text} {r : Progress}
       pub counts-on : {terms took : ℕ} → g ≡ To terms took → at + took ≤ length text
       counts-on q = rest-within text at counts-within (gone-within (v .walks) q)
 
-      pub terms-bad : {f : F.Fault} {l : ℕ} → g ≡ Bad f l → CountsRead text named table table g
+      pub terms-bad : {f : F.Flaw} {l : ℕ} → g ≡ Bad f l → CountsRead text named table table g
       terms-bad q =
           let k = rest-bad text at counts-within (oneLine (takeNumber (ascii "terms=") termsInRange form) (3 + named))
           (number-bad (ascii "terms=") 1 97 termsInRange terms-test form (3 + named) (restAt text at) v q) in
@@ -90,7 +90,7 @@ module _ (table : List ℕ) {text : Text} {r : Progress} (w : NumberTo text 1 13
   abbrev onCounts : List Text → ℕ → Text → Walk Heading
   onCounts words line s = headCounts words line s
 
-  pub head-bad : {f : F.Fault} {l : ℕ} → r ≡ Bad f l → HeadRead text table table r
+  pub head-bad : {f : F.Flaw} {l : ℕ} → r ≡ Bad f l → HeadRead text table table r
   unfolding headText
   head-bad e =
       let q = number-bad (ascii "names=") 1 13 namesInRange names-test form 1 text w e in
@@ -107,7 +107,7 @@ module _ (table : List ℕ) {text : Text} {r : Progress} (w : NumberTo text 1 13
     counted = number-to (ascii "names=") 1 13 namesInRange names-test form 1 text w e
 
     module _ {mid : List ℕ} {g : Progress} (n : NamesRead (restAt text at) named table mid g) where
-      pub head-names-bad : {f : F.Fault} {l : ℕ} → g ≡ Bad f l → HeadRead text table mid g
+      pub head-names-bad : {f : F.Flaw} {l : ℕ} → g ≡ Bad f l → HeadRead text table mid g
       unfolding headText
       head-names-bad q =
           let k = rw q at (n .came) in
@@ -127,7 +127,7 @@ module _ (table : List ℕ) {text : Text} {r : Progress} (w : NumberTo text 1 13
         named-lines = rest-to text at head-within (lines takeName named [] 2) took (names .says)
 
         module _ {after : List ℕ} {h : Progress} (c : CountsRead (restAt text (at + took)) named mid after h) where
-          pub head-counts-bad : {f : F.Fault} {l : ℕ} → h ≡ Bad f l → HeadRead text table after h
+          pub head-counts-bad : {f : F.Flaw} {l : ℕ} → h ≡ Bad f l → HeadRead text table after h
           unfolding headText
           head-counts-bad p =
               let k = rest-bad text (at + took) head-names-within (onCounts (names .read) (2 + named)) (rw p at (c .came (names .read))) in

@@ -11,7 +11,7 @@ use Rattle.table.specs.Encoded.{wordOf}
 use Rattle.words.proofs.Steps.{restAt}
 use Rattle.words.proofs.Looked.{word-name}
 use Rattle.grammar.specs.Reading.{takeName, oneLine}
-use Rattle.faults.specs.declared.Fault as F
+use Rattle.faults.specs.declared.Flaw as F
 use Rattle.keyed.specs.Walks.{Walks}
 use Rattle.keyed.specs.declared.Progress.{Progress}
 use Rattle.keyed.specs.declared.Progress.the-variants.{To, Bad}
@@ -71,7 +71,7 @@ module _ {text : Text} {named : ℕ} {before table : List ℕ} {from i : ℕ} (s
           packed = rw (one, map-append) (ap (λ l. l ++ (nameOf 8 v ∷ [])) (s .packed));
         }
 
-    pub names-halt : {f : F.Fault} {line : ℕ} → r ≡ Bad f line → NamesRead text named before table r
+    pub names-halt : {f : F.Flaw} {line : ℕ} → r ≡ Bad f line → NamesRead text named before table r
     names-halt e =
         rw e (record { tabled = so-far-within (s .lines) even 128 (omega arith); came = lines-halt (s .lines .onto) more (gone-bad stepped e) })
 

@@ -8,8 +8,8 @@ use Rattle.meaning.specs.Bytes.{Text, ascii}
 use Rattle.meaning.specs.Answers.{form}
 use Rattle.table.specs.Decoded.{nameOf}
 use Rattle.table.specs.Encoded.{wordOf}
-use Rattle.grammar.specs.Reading.{takeNumber, namesInRange, equationsInRange, termsInRange, takeName, Walk, reached, walk, oneLine, lines}
-use Rattle.faults.specs.declared.Fault.the-variants.{Form}
+use Rattle.grammar.specs.Reading.{takeNumber, namesInRange, equationsInRange, termsInRange, takeName, Walk, reached, walk, atFirst, oneLine, lines}
+use Rattle.faults.specs.CodedFaults.{flawFor}
 use Rattle.keyed.specs.declared.Progress.{Progress}
 use Rattle.keyed.specs.declared.Progress.the-variants.{Bad}
 use Rattle.sections.specs.Laying.{laidAt, withCounts}
@@ -78,4 +78,4 @@ pub record HeadRead (text : Text) (table table′ : List ℕ) (r : Progress) : T
 
 -- A table that is too short is refused as if the first line were bad, and stays as it was.
 abbrev pub HeadGiven : Text → (table table′ : List ℕ) → Progress → Type 0
-HeadGiven text table table′ r = Roomed (128 ≤ length table) (HeadRead text table table′ r) ((r ≡ Bad Form 1) × (table′ ≡ table))
+HeadGiven text table table′ r = Roomed (128 ≤ length table) (HeadRead text table table′ r) ((r ≡ Bad (flawFor atFirst) 1) × (table′ ≡ table))

@@ -3,6 +3,7 @@ ghost use Prim.Native.Nat.{_≤_};
 ghost use lib.ListN.{length};
 ghost use Rattle.heads.specs.Heads.{NamesRead, CountsRead, HeadGiven};
 use faults::Fault;
+use faults::first_flaw;
 use keyed::Progress;
 use keyed::names::take_name;
 use keyed::numbers::take_number;
@@ -57,7 +58,7 @@ pub fn read_head(text: &[u8], table: &mut [u64]) -> Progress
     ensures { λ r. ⌜ HeadGiven (now (text .entry)) (now (table .entry)) (now (table .exit)) r ⌝ }
 {
     if table.len() < TABLE_WORDS {
-        return Progress::Bad(Fault::Form, 1);
+        return Progress::Bad(first_flaw(), 1);
     }
     let given = take_number(text, 1, b"names=", 1, 13, Fault::Form);
     let Progress::To(n, at) = given else {

@@ -6,9 +6,8 @@ use native.Mathlib.Omega.{arith}
 use lib.ListN.{length, drop, length-drop}
 use lib.Seq.{drop-drop}
 use Rattle.meaning.specs.Bytes.{Text}
-use Rattle.meaning.specs.Answers.{Fault}
 use Rattle.words.proofs.Steps.{restAt, rest-drop}
-use Rattle.grammar.specs.Reading.{Taken, Walk, reached, halted, walk, oneLine, lines}
+use Rattle.grammar.specs.Reading.{Taken, Flaw, Walk, reached, halted, walk, oneLine, lines}
 
 -- The lines that are left, after what was read before them, come to the goal; the first of all has the number `line`.
 pub record Onto {A : Type 0} (do-take : A → Text → Taken A) (goal : Walk A) (text : Text) (line all i : ℕ) (a : A) (from : ℕ) : Type 0 where
@@ -43,7 +42,7 @@ module _ {A : Type 0} {do-take : A → Text → Taken A} {goal : Walk A} {text :
       ap (λ w. walk w (lines do-take (all - (i + 1)))) q ∙ more h in
       record { within = omega (arith, o .within, w, ap length rest ∙ length-drop from text); upto = omega arith; comes = rw (s, d) at k }
 
-  pub lines-halt : {f : Fault} {l : ℕ} → i < all → halted f l ≡ oneLine (do-take a) (line + i) (restAt text from) → halted f l ≡ goal
+  pub lines-halt : {f : Flaw} {l : ℕ} → i < all → halted f l ≡ oneLine (do-take a) (line + i) (restAt text from) → halted f l ≡ goal
   lines-halt h q = ap (λ w. walk w (lines do-take (all - (i + 1)))) q ∙ more h
 
   pub lines-end : all ≤ i → reached a (line + all) (drop from text) ≡ goal

@@ -1,34 +1,23 @@
--- Any two results that meet a promise of this crate are equal, and so are the words that are lent.
+-- Any two results that meet a promise of this crate are equal.
 -- Assumes nothing.
 use mathlib.Core.Path.{_≡_, refl, sym, ap, ap₂, _∙_}
 use mathlib.Core.List.{List, [], _∷_, _++_, map}
-use Prim.Native.Nat.{ℕ, suc, _^_, _<_}
+use Prim.Native.Nat.{ℕ, _^_, _<_}
 use native.Mathlib.Omega.{arith}
 use lib.ListN.{drop}
 use Rattle.meaning.specs.Bytes.{Text}
-use Rattle.meaning.specs.Descriptions as D
 use Rattle.meaning.proofs.Alike.{alike}
-use Rattle.table.specs.declared.Order.{Order}
 use Rattle.table.specs.Decoded.{nameOf}
-use Rattle.table.specs.Encoded.{wordOf, orderFor, orderWords}
-use Rattle.grammar.specs.Faults.{fault}
+use Rattle.table.specs.Encoded.{wordOf}
 use Rattle.grammar.specs.Reading.{Walk}
-use Rattle.faults.specs.CodedFaults.{faultOf}
-use Rattle.faults.specs.declared.Fault as F
-use Rattle.faults.specs.declared.Found.the-variants.{Faulty}
-use Rattle.faults.proofs.Uniqueness.{found-unique}
+use Rattle.faults.specs.CodedFaults.{flawOf}
+use Rattle.faults.proofs.Uniqueness.{flaw-unique}
 use Rattle.words.proofs.Looked.{word-name}
 use Rattle.words.proofs.Uniqueness.{place-unique}
-use Rattle.lists.specs.Lists.{overlaid}
 use Rattle.keyed.specs.Walks.{walkOf, TookOf, Walks}
 use Rattle.keyed.specs.Numbers.{NumberTo}
-use Rattle.keyed.specs.Orders.{OrderWalks, ZeroAfter, OrderEnd, orderLast}
 use Rattle.keyed.specs.declared.Progress.{Progress}
 use Rattle.keyed.specs.declared.Progress.the-variants.{To, Bad}
-use Rattle.keyed.specs.declared.orders.Ordered.{Ordered}
-
-fault-unique : (f g : F.Fault) → faultOf f ≡ faultOf g → f ≡ g
-fault-unique f g e = let k = found-unique (Faulty f) (Faulty g) (fault (faultOf g)) (ap fault e) refl in cc
 
 -- How far reading has come: the bytes are settled by the text behind them, the number by what it says.
 abbrev pub Telling : {A : Type 0} → (f g : ℕ → A) → Progress → Progress → Type 0
@@ -46,9 +35,9 @@ walk-unique f g text next (To v t) (To w u) e p q tells =
 walk-unique f g text next (To v t) (Bad y m) e p q tells = let z : _≡_ {A = ℕ} 0 1 = cc in absurd (omega arith)
 walk-unique f g text next (Bad x l) (To w u) e p q tells = let z : _≡_ {A = ℕ} 0 1 = cc in absurd (omega arith)
 walk-unique f g text next (Bad x l) (Bad y m) e p q tells =
-    let h : faultOf x ≡ faultOf y = cc in
+    let h : flawOf x ≡ flawOf y = cc in
     let k : l ≡ m = cc in
-    ap₂ Bad (fault-unique x y h) k
+    ap₂ Bad (flaw-unique x y (flawOf y) h refl) k
 
 -- One line: what it holds is settled where numbers that say the same are equal.
 line-unique : {A : Type 0} (value : ℕ → A) {text : Text} {next : ℕ} {due : Walk A} (r s : Progress) → Telling value value r s
@@ -87,41 +76,3 @@ module _ (names : List ℕ) where
   pub name-unique : {text : Text} {next : ℕ} {due : Walk (List Text)} (r s : Progress) → InWord r → InWord s
       → Walks withName text next r due → Walks withName text next s due → r ≡ s
   name-unique r s a b p q = line-unique withName r s (named r s a b) p q
-
--- The order: the words that are lent are settled by the order, and after a bad line.
-abbrev Where : Progress → Type 0 → Type 0
-Where (To v took) P = P
-Where (Bad f line) P = Unit {0}
-
-module _ (text : Text) (line : ℕ) (due : Walk D.Order) (before after₁ after₂ : List ℕ) (x₁ x₂ : Order) where
-  walks-unique : (r s : Progress) → OrderWalks text line due before after₁ x₁ r → OrderWalks text line due before after₂ x₂ s
-      → (r ≡ s) × (x₁ ≡ x₂) × Where r (after₁ ≡ after₂)
-  walks-unique (To v t) (To w u) p q =
-      let e = alike (p .says) (q .says) in
-      let x : p .order ≡ q .order = cc in (
-        walk-unique (λ n. p .order) (λ n. q .order) text (suc line) (To v t) (To w u) e (p .within) (q .within) (λ h. p .plain ∙ sym (q .plain)),
-        p .kept ∙ ap orderFor x ∙ sym (q .kept),
-        p .stored ∙ ap (λ o. overlaid (orderWords o) before) x ∙ sym (q .stored),
-      )
-  walks-unique (To v t) (Bad y m) p q = let e = alike (p .says) (q .says) in let z : _≡_ {A = ℕ} 0 1 = cc in absurd (omega arith)
-  walks-unique (Bad x l) (To w u) p q = let e = alike (p .says) (q .says) in let z : _≡_ {A = ℕ} 0 1 = cc in absurd (omega arith)
-  walks-unique (Bad x l) (Bad y m) p q = (
-    walk-unique (λ n. D.all) (λ n. D.all) text (suc (suc line)) (Bad x l) (Bad y m) (alike (p .says) (q .says)) (omega (arith, p .low))
-        (omega (arith, q .low)) tt,
-    p .none ∙ sym (q .none),
-    tt,
-  )
-
-words-unique : (r : Progress) (before after₁ after₂ : List ℕ) → Where r (after₁ ≡ after₂) → ZeroAfter r before after₁ → ZeroAfter r before after₂
-    → after₁ ≡ after₂
-words-unique (To v t) before after₁ after₂ w p q = w
-words-unique (Bad x l) before after₁ after₂ w p q = p ∙ sym q
-
-module _ {text : Text} {line : ℕ} {names before after₁ after₂ : List ℕ} {r s : Ordered} where
-  pub order-unique : OrderEnd text line names before after₁ r → OrderEnd text line names before after₂ s
-      → (r .progress ≡ s .progress) × (r .order ≡ s .order) × (after₁ ≡ after₂)
-  order-unique p q =
-      let due = orderLast names line text in
-      let u = walks-unique text line due before after₁ after₂ (r .order) (s .order) (r .progress) (s .progress) (p .walked .came) (q .walked .came) in
-      let z = rw (sym (u .0)) at (q .cleared) in
-      (u .0, u .1, words-unique (r .progress) before after₁ after₂ (u .2) (p .cleared) z)

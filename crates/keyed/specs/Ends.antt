@@ -1,12 +1,16 @@
 -- Lines as the code ends them.
 -- Assumes nothing.
 use mathlib.Core.Bool.{Bool, true, false}
-use Prim.Native.Nat.{ℕ, _+_}
-use lib.ListN.{drop}
+use Prim.Native.Nat.{ℕ, _+_, _-_}
+use lib.ListN.{length, drop}
 use Rattle.meaning.specs.Bytes.{Text}
-use Rattle.grammar.specs.Text.{lf, starts}
+use Rattle.grammar.specs.Text.{Placed, lf, starts}
 use Rattle.words.specs.declared.Step.{Step}
 use Rattle.words.specs.declared.Step.the-variants.{To, Stuck}
+
+-- What stands behind the first so many bytes of a text.
+abbrev pub placedAfter : {A : Type 0} → (bytes : ℕ) → Text → A → Placed A
+placedAfter bytes text a = record { it = a; from = length text - bytes }
 
 -- A step up to a place, where LF ends the line, or does not.
 abbrev pub pastEnd : Bool → ℕ → ℕ → Step

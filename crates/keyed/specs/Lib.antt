@@ -2,4 +2,3 @@
 pub mod Ends
 pub mod Walks
 pub mod Numbers
-pub mod Orders

@@ -4,7 +4,7 @@ use mathlib.Core.Path.{_≡_}
 use Prim.Native.Nat.{ℕ, _≤_, _<_}
 use lib.ListN.{length, drop}
 use Rattle.meaning.specs.Bytes.{Text}
-use Rattle.faults.specs.CodedFaults.{faultOf}
+use Rattle.faults.specs.CodedFaults.{flawOf}
 use Rattle.grammar.specs.Reading.{Walk, reached, halted}
 use Rattle.keyed.specs.declared.Progress.{Progress}
 use Rattle.keyed.specs.declared.Progress.the-variants.{To, Bad}
@@ -12,7 +12,7 @@ use Rattle.keyed.specs.declared.Progress.the-variants.{To, Bad}
 -- What was read with the last number, the next line's number and the text from there on.
 abbrev pub walkOf : {A : Type 0} → (ℕ → A) → Text → ℕ → Progress → Walk A
 walkOf value text next (To v took) = reached (value v) next (drop took text)
-walkOf value text next (Bad f line) = halted (faultOf f) line
+walkOf value text next (Bad f line) = halted (flawOf f) line
 
 -- The bytes that the lines took are bytes of the text, and a bad line stands before the next.
 abbrev pub TookOf : Text → ℕ → Progress → Type 0

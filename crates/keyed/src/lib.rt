@@ -1,24 +1,23 @@
-// The lines that hold one thing after their key: a number, a name, or the order.
+// The lines that hold one thing after their key: a number or a name.
 //
 // A line is read from the start of what is lent, a text with other lines behind it; the LF that ends it belongs to its form.
 pub mod names;
 pub mod numbers;
-pub mod orders;
 
 ghost use Prim.Native.Nat.{_+_, _<_, _^_};
 ghost use mathlib.Core.Path.{_≡_};
 ghost use Rattle.words.specs.Steps.{stepPlace};
 ghost use Rattle.keyed.specs.Ends.{endedFrom};
-use faults::Fault;
+use faults::Flaw;
 use words::Step;
 use words::literals::sign_at;
 use words::stuck_at;
 
 // How far reading has come: past some lines, with the number or the packed name that a single one holds, and how many bytes they
-// took; or the fault of a line and its number.
+// took; or the fault of a line with its column, and the line's number.
 pub enum Progress {
     To(u64, usize),
-    Bad(Fault, usize),
+    Bad(Flaw, usize),
 }
 
 // What was read from a place of the text on, as the last thing of its line: the step goes past the LF.

@@ -6,18 +6,24 @@ ghost use Rattle.table.specs.Decoded.{nameOf};
 ghost use Rattle.grammar.specs.Forms.{nameLine};
 ghost use Rattle.grammar.specs.Reading.{isFree, takeName, oneLine};
 ghost use Rattle.words.specs.Steps.{Steps};
+ghost use Rattle.keyed.specs.Ends.{placedAfter};
 ghost use Rattle.keyed.specs.Walks.{Walks};
 use crate::Progress;
 use crate::at_end;
 use faults::Fault;
+use faults::flaw_after;
 use words::Step;
 use words::literals::read_literal;
 use words::names::find_name;
 use words::names::read_word;
+use words::stuck_at;
+
+// The bytes of `name=`.
+const KEY_BYTES: usize = 5;
 
 // A name after `name=`, packed.
 fn read_name_line(text: &[u8]) -> Step
-    ensures { λ r. ⌜ Steps (λ w. nameOf 8 w) (now (text .entry)) r (nameLine (now (text .entry))) ⌝ }
+    ensures { λ r. ⌜ Steps (λ w. placedAfter 5 (now (text .entry)) (nameOf 8 w)) (now (text .entry)) r (nameLine (now (text .entry))) ⌝ }
 {
     let start = read_literal(text, b"name=");
     let Step::To(_, at) = start else {
@@ -44,10 +50,10 @@ pub fn take_name(text: &[u8], line: usize, names: &[u64]) -> Progress
 {
     let step = read_name_line(text);
     let Step::To(w, took) = step else {
-        return Progress::Bad(Fault::Form, line);
+        return Progress::Bad(flaw_after(text, Fault::Form, stuck_at(step)), line);
     };
     if !is_free(names, w) {
-        return Progress::Bad(Fault::Name, line);
+        return Progress::Bad(flaw_after(text, Fault::Name, KEY_BYTES), line);
     }
     Progress::To(w, took)
 }

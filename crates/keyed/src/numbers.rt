@@ -1,19 +1,24 @@
 // The lines with a number.
+ghost use lib.ListN.{length};
 ghost use Rattle.faults.specs.CodedFaults.{faultOf};
 ghost use Rattle.grammar.specs.Forms.{countLine};
 ghost use Rattle.grammar.specs.Reading.{oneLine, takeNumber};
 ghost use Rattle.words.specs.Steps.{Steps};
+ghost use Rattle.keyed.specs.Ends.{placedAfter};
 ghost use Rattle.keyed.specs.Numbers.{between, NumberTo};
 use crate::Progress;
 use crate::at_end;
 use faults::Fault;
+use faults::flaw_after;
 use words::Step;
 use words::literals::read_literal;
 use words::numbers::read_number;
+use words::stuck_at;
 
 // A number after this key.
 fn read_count(text: &[u8], key: &[u8]) -> Step
-    ensures { λ r. ⌜ Steps (λ n. n) (now (text .entry)) r (countLine (now (key .entry)) (now (text .entry))) ⌝ }
+    ensures { λ r. ⌜ Steps (placedAfter (length (now (key .entry))) (now (text .entry))) (now (text .entry)) r
+        (countLine (now (key .entry)) (now (text .entry))) ⌝ }
 {
     let start = read_literal(text, key);
     let Step::To(_, at) = start else {
@@ -36,13 +41,10 @@ pub fn take_number(
 {
     let step = read_count(text, key);
     let Step::To(n, took) = step else {
-        return Progress::Bad(Fault::Form, line);
+        return Progress::Bad(flaw_after(text, Fault::Form, stuck_at(step)), line);
     };
-    if n < low {
-        return Progress::Bad(fault, line);
-    }
-    if below <= n {
-        return Progress::Bad(fault, line);
+    if n < low || below <= n {
+        return Progress::Bad(flaw_after(text, fault, key.len()), line);
     }
     Progress::To(n, took)
 }

@@ -1,5 +1,7 @@
 -- The laws that the readers' proofs cite; each file after those that it cites.
--- Tallied, tallied-none, tallied-more: a tally, entry by entry, against the faults of the whole list
+-- items-snoc, items-fine, items-within, keys-aside: the faults of what is counted one after the other
+pub mod Items
+-- said-faults, Tallied, tallied-none, tallied-more: a tally, entry by entry, against the faults of the whole list
 pub mod Tallied
 -- said-went, said-stays, said-went-on, said-stays-on, part-seen, pair-seen, rule-seen: entries as what they say
 pub mod Seen
@@ -11,7 +13,7 @@ pub mod Parts
 pub mod Starts
 -- Filled, filled-none, filled-more, none-read: the words of a list over the start of a store
 pub mod Listed
--- names-faults, pairs-faults, rules-faults, labels-faults and -words: the lists of a line against their entries
+-- names-faults, pairs-faults, rules-faults, labels-faults and -words, labels-fine, labels-few, labels-too: the lists of a line against their entries
 pub mod Contents
 -- said-unique, list-unique: any two results that meet a promise are equal, and which words of the store are settled
 pub mod Uniqueness

@@ -11,11 +11,11 @@ use lib.Dec.{ltb, eqb}
 use lib.ListN.{length, drop, set, length-append, drop-of-length-le}
 use Rattle.meaning.specs.Bytes.{Text, ascii}
 use Rattle.meaning.proofs.Tests.{and-true→}
-use Rattle.grammar.specs.Text.{Past, past, stuck, onward, isRest, word, separatedOn}
+use Rattle.grammar.specs.Text.{Past, past, stuck, onward, placed, isRest, word, separatedOn}
 use Rattle.grammar.specs.Forms.{part, label, pair, rule}
 use borrow.Author.Tests.{le-leb, ltb-true, ltb-false}
-use Rattle.grammar.specs.Faults.{fine, worst, rising}
-use Rattle.lists.specs.Tallies.{Said, weightOf, allFaults}
+use Rattle.grammar.specs.Faults.{fine, itemsFrom, itemsFault}
+use Rattle.lists.specs.Tallies.{Said, allFaults}
 use Rattle.lists.specs.Entries.{nameEntry, pairEntry, ruleEntry, labelEntry, entryOf, withFew}
 use Rattle.lists.specs.Lists.{listFaults, weightFor, limitFor, wordCount, entryWord, entryWords}
 use Rattle.lists.specs.Lists.{listWords, entryStored, overlaid, takesNone, wholeList, ListRead}
@@ -87,11 +87,12 @@ small-seen kind say h (stuck r) = tt
 
 module _ (words : List Text) (few : length words ≤ 12) where
   small-entry : (kind : ListKind) (s : Text) → SmallPast kind (entryOf words kind s)
-  small-entry Names s = small-seen Names (nameEntry words) (λ w. let l = name-low words w in (omega arith, omega arith)) (word s)
+  small-entry Names s = small-seen Names (nameEntry words) (λ w. let l = name-low words (w .it) in (omega arith, omega arith)) (placed word s)
   small-entry Pairs s =
-      small-seen Pairs (pairEntry words) (λ p. let l = name-low words (p .left) in let r = name-low words (p .right) in (omega arith, omega arith)) (pair s)
-  small-entry Rules s = small-seen Rules (ruleEntry words) (λ r. let l = label-small words few (r .left) in (l, omega arith)) (rule s)
-  small-entry Labels s = small-seen Labels (labelEntry words) (λ ps. let l = label-small words few ps in (l, omega arith)) (label s)
+      small-seen Pairs (pairEntry words)
+      (λ p. let l = name-low words (p .it .left .it) in let r = name-low words (p .it .right .it) in (omega arith, omega arith)) (placed pair s)
+  small-entry Rules s = small-seen Rules (ruleEntry words) (λ r. let l = label-small words few (r .from) (r .it .left) in (l, omega arith)) (placed rule s)
+  small-entry Labels s = small-seen Labels (labelEntry words) (λ l. let h = label-small words few (l .from) (l .it) in (h, omega arith)) (placed label s)
 
   pub entry-small : (kind : ListKind) (s : Text) {e : Said} {r : Text} → past e r ≡ entryOf words kind s
       → (e .first < 2 ^ 63) × (entryWord kind (e .first) (e .second) < 2 ^ 64)
@@ -173,8 +174,8 @@ limit-most Labels = omega arith
 
 -- The empty list, as it is said.
 pub list-none : (kind : ListKind) → fine ≡ listFaults kind []
-unfolding allFaults worst rising weightOf
-list-none kind = rw (le-leb 0 (limitFor kind) (omega arith))
+unfolding allFaults itemsFault itemsFrom
+list-none kind = refl
 
 pub over-none : (kind : ListKind) (store : List ℕ) → store ≡ overlaid (listWords kind []) store
 unfolding overlaid listWords

@@ -11,7 +11,7 @@ use lib.ListN.{length, drop, length-drop, length-map}
 use Rattle.meaning.specs.Bytes.{Text}
 use Rattle.meaning.specs.Answers.{name, amount}
 use Rattle.table.specs.Decoded.{nameOf}
-use Rattle.grammar.specs.Text.{Past, past, stuck, onward, literal, byte, number, word}
+use Rattle.grammar.specs.Text.{Past, past, stuck, onward, Placed, placed, literal, byte, number, word}
 use Rattle.grammar.specs.Forms.{Parts, part, label, pair, rule, colon, greater}
 use Rattle.grammar.specs.Faults.{Found, worse, unless, nameNumber, nameFault, actions}
 use Rattle.lists.specs.Tallies.{Said}
@@ -29,7 +29,7 @@ said-stuck-there e f = e ∙ ap S.Stuck (sym (f ∙ ap saidPlace e))
 
 -- An entry's step taken apart, at the start of a line and at a place in it.
 module _ {line : Text} {r : SaidStep} {due : Past Said} (s : Says line r due) where
-  pub said-went : {e : C.Said} {next : ℕ} → r ≡ S.To e next → Stands line next (past (saidOf e) (drop next line)) due
+  pub said-went : {e : C.Said} {next : ℕ} → r ≡ S.To e next → Stands line next (past (saidOf (length line) e) (drop next line)) due
   said-went h = rw h at (s .stands)
 
   pub said-stays : {p : ℕ} → r ≡ S.Stuck p → Stands line p (stuck (drop p line)) due
@@ -44,8 +44,9 @@ module _ (form : Text → Past Said) (line : Text) (at : ℕ) {r : SaidStep} (h 
   there : Says (drop at line) r (form (drop at line))
   there = rw (rest-drop line at h) at s
 
-  pub said-went-on : {e : C.Said} {n : ℕ} → r ≡ S.To e n → Stands line (at + n) (past (saidOf e) (drop (at + n) line)) (form (drop at line))
-  said-went-on {e} g = shifted (past (saidOf e)) h (said-went there g)
+  pub said-went-on : {e : C.Said} {n : ℕ} → r ≡ S.To e n
+      → Stands line (at + n) (past (saidOf (length (drop at line)) e) (drop (at + n) line)) (form (drop at line))
+  said-went-on {e} g = shifted (past (saidOf (length (drop at line)) e)) h (said-went there g)
 
   pub said-stays-on : {p : ℕ} → r ≡ S.Stuck p → Stands line (at + p) (stuck (drop (at + p) line)) (form (drop at line))
   said-stays-on g = shifted stuck h (said-stays there g)
@@ -77,40 +78,47 @@ pub carried : {A B C : Type 0} (say : A → B) (k : B → Text → Past C) (x : 
 carried say k (past a r) = refl
 carried say k (stuck r) = refl
 
+-- what was read with its place, as what it says
+pub placed-seen : {A : Type 0} (say : Placed A → Said) (form : Text → Past A) (s : Text)
+    → seen say (placed form) s ≡ seen (λ a. say (record { it = a; from = length s })) form s
+placed-seen say form s = carried (λ a. record { it = a; from = length s }) (λ a r. past (say a) r) (form s)
+
 -- a part: what its name says, with its count
-abbrev partOf : Said → ℕ → Said
-partOf e n = record { found = worse (e .found) (unless (leb 1 n) amount); first = e .first; second = n }
+abbrev partOf : (entry : ℕ) → Said → ℕ → Said
+partOf entry e n = record { found = worse (e .found) (unless (leb 1 n) amount entry); first = e .first; second = n; from = e .from }
 
-abbrev counting : Said → Text → Past Said
-counting e r = onward (onward (byte colon r) (λ _ q. number q)) (λ n p. past (partOf e n) p)
+abbrev counting : (entry : ℕ) → Said → Text → Past Said
+counting entry e r = onward (onward (byte colon r) (λ _ q. number q)) (λ n p. past (partOf entry e n) p)
 
-pub part-seen : (words : List Text) (s : Text) → onward (seen (nameEntry words) word s) counting ≡ seen (partSaid words) part s
+pub part-seen : (words : List Text) (entry : ℕ) (s : Text)
+    → onward (seen (nameEntry words) (placed word) s) (counting entry) ≡ seen (partSaid words entry) part s
 unfolding part
-part-seen words s =
-    carried (nameEntry words) counting (word s)
-    ∙ in-two (λ w n. record { name = w; times = n }) (partSaid words) (λ w n. partOf (nameEntry words w) n) (λ w n. refl)
-    (word s) (literal (colon ∷ [])) number
+part-seen words entry s =
+    carried (nameEntry words) (counting entry) (placed word s)
+    ∙ in-two (λ w n. record { name = w; times = n }) (partSaid words entry) (λ w n. partOf entry (nameEntry words w) n) (λ w n. refl)
+    (placed word s) (literal (colon ∷ [])) number
 
 -- the right side, as what its name says
 abbrev beside : Said → Said → Text → Past Said
-beside l e p = past (record { found = worse (l .found) (e .found); first = l .first; second = e .first }) p
+beside l e p = past (record { found = worse (l .found) (e .found); first = l .first; second = e .first; from = l .from }) p
 
 pub right-seen : (words : List Text) (l : Said) (s : Text)
-    → onward (byte greater s) (λ _ q. onward (seen (nameEntry words) word q) (beside l)) ≡ rightSide words l s
+    → onward (byte greater s) (λ _ q. onward (seen (nameEntry words) (placed word) q) (beside l)) ≡ rightSide words l s
 right-seen words l s = go (byte greater s)
   where
     go : (x : Past (Unit {0}))
-        → onward x (λ _ q. onward (seen (nameEntry words) word q) (beside l)) ≡ onward (onward x (λ _ q. word q)) (λ w p. past (withRight words l w) p)
-    go (past u q) = carried (nameEntry words) (beside l) (word q)
+        → onward x (λ _ q. onward (seen (nameEntry words) (placed word) q) (beside l))
+        ≡ onward (onward x (λ _ q. placed word q)) (λ w p. past (withRight words l w) p)
+    go (past u q) = carried (nameEntry words) (beside l) (placed word q)
     go (stuck q) = refl
 
-pub said-same : {f g : Found} {a b c d : ℕ} → f ≡ g → a ≡ b → c ≡ d
-    → _≡_ {A = Said} (record { found = f; first = a; second = c }) (record { found = g; first = b; second = d })
+pub said-same : {f g : Found} {a b c d from : ℕ} → f ≡ g → a ≡ b → c ≡ d
+    → _≡_ {A = Said} (record { found = f; first = a; second = c; from = from }) (record { found = g; first = b; second = d; from = from })
 said-same p q r = rw (p, q, r)
 
-pub name-faulted : {f : Found} {n : ℕ} (names : List ℕ) (w : Text)
-    → f ≡ unless (ltb n (length names)) name
-    → n ≡ nameNumber (map (nameOf 8) names) w
+pub name-faulted : {f : Found} {n : ℕ} (names : List ℕ) (w : Placed Text)
+    → f ≡ unless (ltb n (length names)) name (w .from)
+    → n ≡ nameNumber (map (nameOf 8) names) (w .it)
     → f ≡ nameFault (map (nameOf 8) names) w
 unfolding nameFault
 name-faulted names w e h = rw (length-map names (nameOf 8), ← h) e
@@ -122,26 +130,43 @@ at-least-two n = cases (leb 2 n) refl
     cases true e = let h = leb-true 2 n e in le-leb 2 (min 32 n) (omega arith)
     cases false e = let h = leb-false 2 n e in lt-leb 2 (min 32 n) (omega arith)
 
-rule-same : (words : List Text) (a : Parts) (w : Text)
-    → withRight words (twoOrMore (labelEntry words a)) w ≡ ruleEntry words (record { left = a; right = w })
-rule-same words a w = rw (at-least-two (actions a))
+-- Entries of two sides: the right one after a left one that was read, which begins where the entry does.
+module _ (words : List Text) (s : Text) where
+  abbrev here : {A : Type 0} → A → Placed A
+  here a = record { it = a; from = length s }
 
--- Entries of two sides: the right one after a left one that was read.
-pub pair-seen : (words : List Text) (s : Text) → onward (seen (nameEntry words) word s) (rightSide words) ≡ seen (pairEntry words) pair s
-unfolding pair
-pair-seen words s =
-    carried (nameEntry words) (rightSide words) (word s)
-    ∙ in-two (λ v w. record { left = v; right = w }) (pairEntry words) (λ v w. withRight words (nameEntry words v) w) (λ v w. refl)
-    (word s) (literal (greater ∷ [])) word
+  abbrev beyond : {A D : Type 0} → (A → Placed Text → D) → A → Text → Past D
+  beyond make a r = onward (byte greater r) (λ _ q. onward (placed word q) (λ w p. past (make a w) p))
 
-pub rule-seen : (words : List Text) (s : Text)
-    → onward (onward (seen (labelEntry words) label s) (λ l p. past (twoOrMore l) p)) (rightSide words) ≡ seen (ruleEntry words) rule s
-unfolding rule
-rule-seen words s =
-    carried twoOrMore (rightSide words) (seen (labelEntry words) label s)
-    ∙ carried (labelEntry words) (λ l r. rightSide words (twoOrMore l) r) (label s)
-    ∙ in-two (λ a w. record { left = a; right = w }) (ruleEntry words) (λ a w. withRight words (twoOrMore (labelEntry words a)) w) (rule-same words)
-    (label s) (literal (greater ∷ [])) word
+  sides-seen : {A D : Type 0} (left : A → Said) (make : A → Placed Text → D) (say : Placed D → Said)
+      → ((a : A) (w : Placed Text) → withRight words (left a) w ≡ say (here (make a w)))
+      → (x : Past A)
+      → onward x (λ a r. rightSide words (left a) r) ≡ onward (onward (onward x (beyond make)) (λ d p. past (here d) p)) (λ d p. past (say d) p)
+  sides-seen left make say same x =
+      in-two make (λ d. say (here d)) (λ a w. withRight words (left a) w) same x (literal (greater ∷ [])) (placed word)
+      ∙ sym (carried here (λ d p. past (say d) p) (onward x (beyond make)))
+
+  pub pair-seen : onward (seen (nameEntry words) (placed word) s) (rightSide words) ≡ seen (pairEntry words) (placed pair) s
+  unfolding pair
+  pair-seen =
+      carried (nameEntry words) (rightSide words) (placed word s)
+      ∙ carried here (λ v r. rightSide words (nameEntry words v) r) (word s)
+      ∙ sides-seen (λ v. nameEntry words (here v)) (λ v w. record { left = here v; right = w }) (pairEntry words) (λ v w. refl) (word s)
+      ∙ ap (λ x. onward (onward x (λ d p. past (here d) p)) (λ d p. past (pairEntry words d) p))
+      (sym (carried here (beyond (λ v w. record { left = v; right = w })) (word s)))
+
+  rule-same : (a : Parts) (w : Placed Text)
+      → withRight words (twoOrMore (length s) (labelEntry words (here a))) w ≡ ruleEntry words (here (record { left = a; right = w }))
+  rule-same a w = rw (at-least-two (actions a))
+
+  pub rule-seen : onward (onward (seen (labelEntry words) (placed label) s) (λ l p. past (twoOrMore (length s) l) p)) (rightSide words)
+      ≡ seen (ruleEntry words) (placed rule) s
+  unfolding rule
+  rule-seen =
+      carried (twoOrMore (length s)) (rightSide words) (seen (labelEntry words) (placed label) s)
+      ∙ carried (labelEntry words) (λ l r. rightSide words (twoOrMore (length s) l) r) (placed label s)
+      ∙ carried here (λ l r. rightSide words (twoOrMore (length s) (labelEntry words l)) r) (label s)
+      ∙ sides-seen (λ a. twoOrMore (length s) (labelEntry words (here a))) (λ a w. record { left = a; right = w }) (ruleEntry words) rule-same (label s)
 
 pub both-sides : {words : List Text} {line : Text} {left r : SaidStep} {due other : Past Said} → Says line left due → Sided words line left r
     → onward due (rightSide words) ≡ other → Says line r other
@@ -151,13 +176,13 @@ both-sides {words} s t e =
           record { says = t .stands .says ∙ ap (λ d. onward d (rightSide words)) (s .stands .says) ∙ e; within = t .stands .within };
     }
 
-pub enough-said : {line : Text} {label r : SaidStep} {due : Past Said} → Says line label due → Enough label r
-    → Says line r (onward due (λ l p. past (twoOrMore l) p))
-enough-said {line} s t =
+pub enough-said : {line : Text} {label r : SaidStep} {from : ℕ} {due : Past Said} → Says line label due → Enough label from r
+    → Says line r (onward due (λ l p. past (twoOrMore from l) p))
+enough-said {line} {from = from} s t =
     record {
       stands =
           record {
-            says = t .says line ∙ ap (λ d. onward d (λ l p. past (twoOrMore l) p)) (s .stands .says);
+            says = t .says line ∙ ap (λ d. onward d (λ l p. past (twoOrMore from l) p)) (s .stands .says);
             within = rw (t .places) (s .stands .within);
           };
     }

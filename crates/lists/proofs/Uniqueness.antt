@@ -22,16 +22,16 @@ same-said : {f g : G.Found} {a b m n : ℕ} → f ≡ g → a ≡ b → m ≡ n
     → _≡_ {A = C.Said} (record { fault = f; first = a; second = m }) (record { fault = g; first = b; second = n })
 same-said p q r = rw (p, q, r)
 
-said-back : (d e : C.Said) → saidOf d ≡ saidOf e → d ≡ e
-said-back d e h =
+said-back : (from : ℕ) (d e : C.Said) → saidOf from d ≡ saidOf from e → d ≡ e
+said-back from d e h =
     same-said (found-unique (d .fault) (e .fault) _ (ap (λ (s : Said). s .found) h) refl) (ap (λ (s : Said). s .first) h) (ap (λ (s : Said). s .second) h)
 
 module _ (line : Text) where
   same-steps : (r s : SaidStep) → saidPlace r ≤ length line → saidPlace s ≤ length line → saidStep line r ≡ saidStep line s → r ≡ s
   same-steps (S.To d m) (S.To e n) h k x =
-      let y : saidOf d ≡ saidOf e = cc in
+      let y : saidOf (length line) d ≡ saidOf (length line) e = cc in
       let z : drop m line ≡ drop n line = cc in
-      ap₂ {C = SaidStep} S.To (said-back d e y) (place-unique line m n h k z)
+      ap₂ {C = SaidStep} S.To (said-back (length line) d e y) (place-unique line m n h k z)
   same-steps (S.To d m) (S.Stuck n) h k x = absurd (apart x)
   same-steps (S.Stuck m) (S.To e n) h k x = absurd (apart (sym x))
   same-steps (S.Stuck m) (S.Stuck n) h k x =

@@ -30,11 +30,11 @@ limitFor Rules = 8
 limitFor Labels = 32
 
 abbrev pub listFaults : ListKind → List Said → Found
-listFaults kind es = allFaults (λ e. weightFor kind) (limitFor kind) es
+listFaults kind es = allFaults (λ e. weightFor kind) (λ e. e .from) (limitFor kind) es
 
 -- A list's fault and how many entries it has.
-abbrev pub listEntry : ListKind → List Said → Said
-listEntry kind es = record { found = listFaults kind es; first = length es; second = 0 }
+abbrev pub listEntry : (from : ℕ) → ListKind → List Said → Said
+listEntry from kind es = record { found = listFaults kind es; first = length es; second = 0; from = from }
 
 abbrev pub listOf : List Text → ListKind → Text → Past (List Said)
 listOf words kind = separated comma (entryOf words kind)
@@ -92,5 +92,5 @@ wholeList words kind s = unlessNone (takesNone kind && isRest (ascii "none") s) 
 
 -- A list that is read: its fault and its number of entries, and its words over the start of the store.
 pub record ListRead (kind : ListKind) (line : Text) (due : Past (List Said)) (before after : List ℕ) (r : SaidStep) : Type 0 where
-  pub read : Says line r (onward due (λ es p. past (listEntry kind es) p))
+  pub read : Says line r (onward due (λ es p. past (listEntry (length line) kind es) p))
   pub stored : (es : List Said) (p : Text) → past es p ≡ due → after ≡ overlaid (listWords kind es) before

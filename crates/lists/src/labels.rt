@@ -4,6 +4,7 @@ ghost use mathlib.Core.Path.{_≡_};
 ghost use mathlib.Core.List.{map};
 ghost use lib.ListN.{length};
 ghost use Rattle.table.specs.Decoded.{nameOf};
+ghost use Rattle.grammar.specs.Text.{placed};
 ghost use Rattle.grammar.specs.Forms.{part, label};
 ghost use Rattle.faults.specs.CodedFaults.{foundOf};
 ghost use Rattle.lists.specs.Entries.{Says, seen, partSaid, labelEntry, unlessFaulty, Room};
@@ -22,10 +23,10 @@ use words::literals::sign_at;
 use words::numbers::number_after;
 use words::stuck_at;
 
-// A part: its name's number and its count.
-fn read_part(rest: &[u8], names: &[u64], starts: &[u8; 32]) -> SaidStep
+// A part: its name's number and its count. That a count is 0 is a fault of the entry which the part is in, at its place.
+fn read_part(rest: &[u8], names: &[u64], starts: &[u8; 32], from: usize) -> SaidStep
     requires { ⌜ Starting (now names) (now starts) ⌝ }
-    ensures { λ r. ⌜ Says (now (rest .entry)) r (seen (partSaid (map (nameOf 8) (now (names .entry)))) part (now (rest .entry))) ⌝ }
+    ensures { λ r. ⌜ Says (now (rest .entry)) r (seen (partSaid (map (nameOf 8) (now (names .entry))) from) part (now (rest .entry))) ⌝ }
 {
     let name = name_from(rest, names, starts);
     let SaidStep::To(n, after) = name else {
@@ -36,7 +37,7 @@ fn read_part(rest: &[u8], names: &[u64], starts: &[u8; 32]) -> SaidStep
         return SaidStep::Stuck(after + stuck_at(count));
     };
     let known = n.fault;
-    let some = amount_unless(1 <= times);
+    let some = amount_unless(1 <= times, from);
     let said = Said {
         fault: worse_of(known, some),
         first: n.first,
@@ -59,19 +60,19 @@ fn added(number: u64, found: Found, name: u64, times: u64) -> u64
 // One part or more, with a dot between two.
 pub fn read_label(rest: &[u8], names: &[u64], starts: &[u8; 32]) -> SaidStep
     requires { ⌜ (length (now names) ≤ 12) × Starting (now names) (now starts) ⌝ }
-    ensures { λ r. ⌜ Says (now (rest .entry)) r (seen (labelEntry (map (nameOf 8) (now (names .entry)))) label (now (rest .entry))) ⌝ }
+    ensures { λ r. ⌜ Says (now (rest .entry)) r (seen (labelEntry (map (nameOf 8) (now (names .entry)))) (placed label) (now (rest .entry))) ⌝ }
 {
     let mut tally = empty_tally();
     let mut number: u64 = 0;
     let mut from = 0;
     loop {
-        let part = read_part(&rest[from..], names, starts);
+        let part = read_part(&rest[from..], names, starts, rest.len());
         let SaidStep::To(said, bytes) = part else {
             return SaidStep::Stuck(from + said_stuck_at(part));
         };
         let next = from + bytes;
         let fault = said.fault;
-        tally = counted(tally, fault, said.first, said.second, 31);
+        tally = counted(tally, fault, said.first, said.second, 31, rest.len());
         let found = tally.fault;
         number = added(number, found, said.first, said.second);
         if !sign_at(rest, next, b'.') {

@@ -14,7 +14,7 @@ ghost use mathlib.Core.List.{map};
 ghost use lib.ListN.{length};
 ghost use Rattle.meaning.specs.Bytes.{ascii};
 ghost use Rattle.table.specs.Decoded.{nameOf};
-ghost use Rattle.grammar.specs.Text.{isRest, word};
+ghost use Rattle.grammar.specs.Text.{isRest, placed, word};
 ghost use Rattle.lists.specs.Entries.{saidPlace, Says, seen, nameEntry, entryOf, withFew};
 ghost use Rattle.lists.specs.Starts.{Starting};
 ghost use Rattle.lists.specs.Lists.{listOf, takesNone, wholeList, ListRead};
@@ -66,7 +66,7 @@ pub fn said_stuck_at(s: SaidStep) -> usize
 
 // A name: its number among those given.
 pub fn read_name(rest: &[u8], names: &[u64]) -> SaidStep
-    ensures { λ r. ⌜ Says (now (rest .entry)) r (seen (nameEntry (map (nameOf 8) (now (names .entry)))) word (now (rest .entry))) ⌝ }
+    ensures { λ r. ⌜ Says (now (rest .entry)) r (seen (nameEntry (map (nameOf 8) (now (names .entry)))) (placed word) (now (rest .entry))) ⌝ }
 {
     let starts = [0u8; 32];
     name_from(rest, names, &starts)
@@ -108,7 +108,14 @@ fn read_list(kind: ListKind, rest: &[u8], names: &[u64], store: &mut [u64]) -> S
         };
         let next = from + bytes;
         let fault = said.fault;
-        tally = counted(tally, fault, said.first, shape.weight, shape.limit);
+        tally = counted(
+            tally,
+            fault,
+            said.first,
+            shape.weight,
+            shape.limit,
+            rest.len() - from,
+        );
         let word = entry_word(kind, said.first, said.second);
         put_entry(store, index, shape.size, word, said.second);
         index += shape.size;

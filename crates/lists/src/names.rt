@@ -4,7 +4,7 @@ ghost use mathlib.Core.Path.{_≡_};
 ghost use mathlib.Core.List.{map};
 ghost use lib.ListN.{length};
 ghost use Rattle.table.specs.Decoded.{nameOf};
-ghost use Rattle.grammar.specs.Text.{word};
+ghost use Rattle.grammar.specs.Text.{placed, word};
 ghost use Rattle.lists.specs.Entries.{Says, seen, nameEntry};
 ghost use Rattle.lists.specs.Starts.{Starting};
 use crate::Said;
@@ -48,7 +48,7 @@ pub fn starts_of(names: &[u64]) -> [u8; 32]
 // A name: its number among those given, none of which is that name before the start of its letter.
 pub fn name_from(rest: &[u8], names: &[u64], starts: &[u8; 32]) -> SaidStep
     requires { ⌜ Starting (now names) (now starts) ⌝ }
-    ensures { λ r. ⌜ Says (now (rest .entry)) r (seen (nameEntry (map (nameOf 8) (now (names .entry)))) word (now (rest .entry))) ⌝ }
+    ensures { λ r. ⌜ Says (now (rest .entry)) r (seen (nameEntry (map (nameOf 8) (now (names .entry)))) (placed word) (now (rest .entry))) ⌝ }
 {
     let name = read_word(rest);
     let Step::To(w, bytes) = name else {
@@ -57,7 +57,7 @@ pub fn name_from(rest: &[u8], names: &[u64], starts: &[u8; 32]) -> SaidStep
     let letter = letter_of(w);
     let n = find_from(names, wide(starts[letter]), w);
     let said = Said {
-        fault: name_fault(n, names.len()),
+        fault: name_fault(n, names.len(), rest.len()),
         first: n as u64,
         second: 0,
     };

@@ -3,6 +3,7 @@ ghost use Prim.Native.Nat.{_≤_};
 ghost use mathlib.Core.List.{map};
 ghost use lib.ListN.{length};
 ghost use Rattle.table.specs.Decoded.{nameOf};
+ghost use Rattle.grammar.specs.Text.{placed};
 ghost use Rattle.grammar.specs.Forms.{pair, rule};
 ghost use Rattle.lists.specs.Entries.{saidPlace, Says, seen, pairEntry, ruleEntry};
 ghost use Rattle.lists.specs.Sides.{Enough, Sided};
@@ -45,21 +46,21 @@ fn with_right(left: SaidStep, rest: &[u8], names: &[u64], starts: &[u8; 32]) -> 
 // A name on each side.
 pub fn read_pair(rest: &[u8], names: &[u64], starts: &[u8; 32]) -> SaidStep
     requires { ⌜ Starting (now names) (now starts) ⌝ }
-    ensures { λ r. ⌜ Says (now (rest .entry)) r (seen (pairEntry (map (nameOf 8) (now (names .entry)))) pair (now (rest .entry))) ⌝ }
+    ensures { λ r. ⌜ Says (now (rest .entry)) r (seen (pairEntry (map (nameOf 8) (now (names .entry)))) (placed pair) (now (rest .entry))) ⌝ }
 {
     with_right(name_from(rest, names, starts), rest, names, starts)
 }
 
-// A rule's left side has at least two actions.
-fn two_or_more(label: SaidStep) -> SaidStep
-    ensures { λ r. ⌜ Enough label r ⌝ }
+// A rule's left side has at least two actions; else the rule is at fault, at its place.
+fn two_or_more(label: SaidStep, from: usize) -> SaidStep
+    ensures { λ r. ⌜ Enough label from r ⌝ }
 {
     let SaidStep::To(l, next) = label else {
         return label;
     };
     let fault = l.fault;
     let said = Said {
-        fault: worse_of(fault, amount_unless(2 <= l.second)),
+        fault: worse_of(fault, amount_unless(2 <= l.second, from)),
         first: l.first,
         second: l.second,
     };
@@ -69,8 +70,8 @@ fn two_or_more(label: SaidStep) -> SaidStep
 // A label on the left side.
 pub fn read_rule(rest: &[u8], names: &[u64], starts: &[u8; 32]) -> SaidStep
     requires { ⌜ (length (now names) ≤ 12) × Starting (now names) (now starts) ⌝ }
-    ensures { λ r. ⌜ Says (now (rest .entry)) r (seen (ruleEntry (map (nameOf 8) (now (names .entry)))) rule (now (rest .entry))) ⌝ }
+    ensures { λ r. ⌜ Says (now (rest .entry)) r (seen (ruleEntry (map (nameOf 8) (now (names .entry)))) (placed rule) (now (rest .entry))) ⌝ }
 {
     let label = read_label(rest, names, starts);
-    with_right(two_or_more(label), rest, names, starts)
+    with_right(two_or_more(label, rest.len()), rest, names, starts)
 }

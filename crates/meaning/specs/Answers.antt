@@ -70,7 +70,7 @@ answerFrom (suc more) d o k before =
 unfoldable pub answer : Description → Order → Outcome
 answer d o = answerFrom 2049 d o 0 (roundSets d 0)
 
--- Refusals. 2 to 5 are faults of a line; 1 and 7 come with line 0, and the number 6 is given no more. (8 is the C call's alone, and
+-- Refusals. 2 to 5 are faults of a line; 1 and 7 come with line 0 and column 0, and the number 6 is given no more. (8 is the C call's alone, and
 -- is said where that call is.)
 pub data Fault : Type 0 where
   form name range amount : Fault
@@ -83,29 +83,36 @@ faultNumber amount = 5
 
 pub data Refusal : Type 0 where
   tooLong : Refusal
-  inLine : Fault → (line : ℕ) → Refusal
+  inLine : Fault → (line column : ℕ) → Refusal
   large : Refusal
 
 abbrev pub reasonOf : Refusal → ℕ
 reasonOf tooLong = 1
-reasonOf (inLine fault line) = faultNumber fault
+reasonOf (inLine fault line column) = faultNumber fault
 reasonOf large = 7
 
 abbrev pub lineOf : Refusal → ℕ
 lineOf tooLong = 0
-lineOf (inLine fault line) = line
+lineOf (inLine fault line column) = line
 lineOf large = 0
+
+-- the byte where the fault begins, counted from 1 in the line
+abbrev pub columnOf : Refusal → ℕ
+columnOf tooLong = 0
+columnOf (inLine fault line column) = column
+columnOf large = 0
 
 -- What a call says: number 0 for an answer, with its rounds and number of labels; both 0 on a refusal.
 pub record Verdict : Type 0 where
   pub reason : ℕ
   pub line : ℕ
+  pub column : ℕ
   pub rounds : ℕ
   pub labels : ℕ
 
 abbrev pub refused : Refusal → Verdict
-refused r = record { reason = reasonOf r; line = lineOf r; rounds = 0; labels = 0 }
+refused r = record { reason = reasonOf r; line = lineOf r; column = columnOf r; rounds = 0; labels = 0 }
 
 abbrev pub verdict : Outcome → Verdict
 verdict tooLarge = refused large
-verdict (listed rounds labels) = record { reason = 0; line = 0; rounds = rounds; labels = length labels }
+verdict (listed rounds labels) = record { reason = 0; line = 0; column = 0; rounds = rounds; labels = length labels }

@@ -9,5 +9,7 @@ pub mod LabelLines
 pub mod Answers
 -- same-answer: for callers, what is printed over packed words is what is printed over a description's own
 pub mod Callers
--- length-answer, length-refusal, printed-within: how long a text can be, for callers too
+-- refusal-joined, length-refusal: a refusal is its head and its column's line, and how long it can be
+pub mod Refusals
+-- length-answer, printed-within: how long an answer can be, for callers too
 pub mod Lengths

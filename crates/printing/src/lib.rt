@@ -8,6 +8,7 @@ use lines::LONGEST_LINE;
 use lines::label_lines_fit;
 use lines::write_head;
 use lines::write_label_lines;
+use numerals::lines::write_count_line;
 use table::NAMES;
 ghost use mathlib.Core.Path.{_≡_};
 ghost use mathlib.Core.List.{map};
@@ -56,37 +57,41 @@ pub fn write_answer(text: &mut [u8], names: [u64; NAMES], rounds: usize, labels:
     0
 }
 
-fn write_fitting_refusal(text: &mut [u8], reason: usize, line: usize) -> usize
-    requires { ⌜ length (refusedText reason line) ≤ length (now text) ⌝ }
-    ensures { λ r. ⌜ Written (refusedText reason line) (now (text .entry)) (now (text .exit)) r ⌝ }
+// A head and one number more.
+const LONGEST_REFUSAL: usize = 112;
+
+fn write_fitting_refusal(text: &mut [u8], reason: usize, line: usize, column: usize) -> usize
+    requires { ⌜ length (refusedText reason line column) ≤ length (now text) ⌝ }
+    ensures { λ r. ⌜ Written (refusedText reason line column) (now (text .entry)) (now (text .exit)) r ⌝ }
 {
-    write_head(
+    let at = write_head(
         text,
         b"answer=refused\n",
         b"reason=",
         reason,
         b"line=",
         line,
-    )
+    );
+    at + write_count_line(&mut text[at..], b"column=", column)
 }
 
-// Where the longest head would fit, no length is worked out: a refusal is a head.
-fn refusal_fits(reason: usize, line: usize, room: usize) -> bool
-    ensures { λ r. ⌜ r ≡ leb (length (refusedText reason line)) room ⌝ }
+// Where the longest refusal would fit, no length is worked out.
+fn refusal_fits(reason: usize, line: usize, column: usize, room: usize) -> bool
+    ensures { λ r. ⌜ r ≡ leb (length (refusedText reason line column)) room ⌝ }
 {
-    if LONGEST_HEAD <= room {
+    if LONGEST_REFUSAL <= room {
         return true;
     }
-    let mut scratch = [0u8; LONGEST_HEAD];
-    write_fitting_refusal(&mut scratch, reason, line) <= room
+    let mut scratch = [0u8; LONGEST_REFUSAL];
+    write_fitting_refusal(&mut scratch, reason, line, column) <= room
 }
 
-// The text of a refusal, by its number and its line, in the same way.
-pub fn write_refusal(text: &mut [u8], reason: usize, line: usize) -> usize
-    ensures { λ r. ⌜ Printed (refusedText reason line) (now (text .entry)) (now (text .exit)) r ⌝ }
+// The text of a refusal, by its number, its line and its column, in the same way.
+pub fn write_refusal(text: &mut [u8], reason: usize, line: usize, column: usize) -> usize
+    ensures { λ r. ⌜ Printed (refusedText reason line column) (now (text .entry)) (now (text .exit)) r ⌝ }
 {
-    if refusal_fits(reason, line, text.len()) {
-        return write_fitting_refusal(text, reason, line);
+    if refusal_fits(reason, line, column, text.len()) {
+        return write_fitting_refusal(text, reason, line, column);
     }
     0
 }

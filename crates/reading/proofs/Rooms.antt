@@ -17,7 +17,7 @@ use Rattle.meaning.proofs.Tests.{and-true→, or-false→}
 use Rattle.table.specs.Encoded.{orderWords}
 use Rattle.table.specs.Holding.{Holds, HoldsOrder}
 use Rattle.lists.specs.Lists.{overlaid}
-use Rattle.grammar.specs.Text.{Past, past, stuck}
+use Rattle.grammar.specs.Text.{Past, past, stuck, Placed}
 use Rattle.grammar.specs.Forms.{Line, countLine, termLine}
 use Rattle.grammar.specs.Faults.{Found, fine, fault, termSaid, termFault}
 use Rattle.grammar.specs.Reading.{takenIf, takenUnless, formed, takeNumber, namesInRange, equationsInRange, termsInRange}
@@ -61,12 +61,13 @@ module _ (words : List Text) (e : ℕ) where
   unfolding takeNumber
   few-terms line s = by-form (countLine (ascii "terms=") s)
     where
-      by-test : (t : Bool) (n : ℕ) (r : Text) → termsInRange n ≡ t → Ends Few (walk (afterLine line (takenIf t form n r)) counted)
-      by-test true n r q = leb-true n 96 (and-true→ (leb 1 n) (leb n 96) q .1)
+      by-test : (t : Bool) (n : Placed ℕ) (r : Text) → termsInRange (n .it) ≡ t
+          → Ends Few (walk (afterLine line s (takenIf t form (n .from) (n .it) r)) counted)
+      by-test true n r q = leb-true (n .it) 96 (and-true→ (leb 1 (n .it)) (leb (n .it) 96) q .1)
       by-test false n r q = tt
 
-      by-form : (d : Past ℕ) → Ends Few (walk (afterLine line (formed d (λ n. takenIf (termsInRange n) form n))) counted)
-      by-form (past n r) = by-test (termsInRange n) n r refl
+      by-form : (d : Past (Placed ℕ)) → Ends Few (walk (afterLine line s (formed d (λ n. takenIf (termsInRange (n .it)) form (n .from) (n .it)))) counted)
+      by-form (past n r) = by-test (termsInRange (n .it)) n r refl
       by-form (stuck r) = tt
 
 few-head : (text : Text) → Ends Few (headText text)
@@ -102,12 +103,12 @@ module _ (words : List Text) (e : ℕ) where
   line-counted ts line s = by-form (termLine s)
     where
       by-fault : (f : Found) (t : D.Term) (r : Text)
-          → Ends (λ us. length us ≡ suc (length ts)) (afterLine line (takenUnless f (ts ++ (t ∷ [])) r))
+          → Ends (λ us. length us ≡ suc (length ts)) (afterLine line s (takenUnless f (ts ++ (t ∷ [])) r))
       by-fault fine t r = simp length-append (omega arith)
-      by-fault (fault x) t r = tt
+      by-fault (fault x from) t r = tt
 
       by-form : (d : Past Line) → Ends (λ us. length us ≡ suc (length ts))
-          (afterLine line (formed d (λ l. takenUnless (termFault words e (length ts) l) (ts ++ (termSaid words l ∷ [])))))
+          (afterLine line s (formed d (λ l. takenUnless (termFault words e (length ts) l) (ts ++ (termSaid words l ∷ [])))))
       by-form (past l r) = by-fault (termFault words e (length ts) l) (termSaid words l) r
       by-form (stuck r) = tt
 

@@ -11,11 +11,11 @@ use Rattle.table.specs.declared.Order.the-variants.{All}
 use Rattle.table.specs.Decoded.{nameOf}
 use Rattle.table.specs.Encoded.{wordOf}
 use Rattle.table.specs.Holding.{namesIn, bodiesIn}
-use Rattle.faults.specs.declared.Fault.{Fault}
+use Rattle.faults.specs.declared.Flaw.{Flaw}
 use Rattle.grammar.specs.Reading.{Walk, Reading, read, overlong, badLine, described, fromBodies, fromTerms}
 use Rattle.keyed.specs.declared.Progress.{Progress}
 use Rattle.keyed.specs.declared.Progress.the-variants.{To, Bad}
-use Rattle.keyed.specs.declared.orders.Ordered.{Ordered}
+use Rattle.orderlines.specs.declared.Ordered.{Ordered}
 use Rattle.sections.specs.Laying.{withCounts, withTerms, withFoot, listsOver}
 use Rattle.sections.specs.Sections.{Section, Within}
 use Rattle.sections.proofs.Joins.{ends-bad, ends-on}
@@ -49,7 +49,7 @@ module _ {text : Text} {count : ℕ} {table lists table′ lists′ names bodies
   pub terms-within : {v took : ℕ} → p ≡ To v took → took ≤ length text
   terms-within e = let k = rw e at (w .came _ refl) in k .within
 
-  pub terms-refused : (listed : List ℕ) {f : Fault} {line : ℕ} → p ≡ Bad f line
+  pub terms-refused : (listed : List ℕ) {f : Flaw} {line : ℕ} → p ≡ Bad f line
       → TermsDue text count table lists listed table′ lists′ listed (record { progress = p; order = All })
   terms-refused listed {f} e = record {
     tabled = w .tabled;
@@ -102,7 +102,7 @@ module _ {text : Text} {count : ℕ} {table lists table′ lists′ names bodies
 
 -- The lines before the terms, and those from the terms on.
 module _ {text : Text} {table table′ : List ℕ} {p : Progress} (long : 128 ≤ length table) (g : HeadGiven text table table′ p) (lists listed : List ℕ) where
-  pub head-refused : {r : Read} {f : Fault} {line : ℕ} → p ≡ Bad f line → r ≡ readOf (record { progress = p; order = All })
+  pub head-refused : {r : Read} {f : Flaw} {line : ℕ} → p ≡ Bad f line → r ≡ readOf (record { progress = p; order = All })
       → LinesRead text table lists listed table′ lists listed r
   head-refused {f = f} e q =
       let k = lines-halt text (length lists) (rw e at (g .roomy long .came)) in

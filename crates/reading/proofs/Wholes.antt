@@ -6,12 +6,13 @@ use Prim.Native.Nat.{ℕ, _*_, _<_, _≤_}
 use borrow.Author.Tests.{le-leb, lt-leb}
 use Rattle.meaning.specs.Bytes.{Text, ascii}
 use Rattle.meaning.specs.Answers.{form}
-use Rattle.meaning.specs.Answers as M
-use Rattle.faults.specs.CodedFaults.{faultOf}
-use Rattle.faults.specs.declared.Fault.{Fault}
+use Rattle.faults.specs.CodedFaults.{flawOf}
+use Rattle.faults.specs.declared.Flaw.{Flaw}
+use Rattle.faults.proofs.Uniqueness.{flaw-back}
 use Rattle.grammar.specs.Reading.{takeNumber, namesInRange, equationsInRange, termsInRange, takeName, Walk, reached, halted, walk, oneLine, lines}
+use Rattle.grammar.specs.Reading as M
 use Rattle.grammar.specs.Reading.{Reading, badLine, Whole, fromTerms, fromCounts, fromNames, wholeText, described}
-use Rattle.sections.proofs.Joins.{walk-walk, fault-back}
+use Rattle.sections.proofs.Joins.{walk-walk}
 use Rattle.heads.specs.Heads.{Heading, headTerms, headCounts, headNames, headText}
 use Rattle.reading.specs.Stored.{comes, crowded, linesIn, refusing, readFor}
 use Rattle.reading.specs.declared.Answer.the-variants.{Bad}
@@ -45,12 +46,12 @@ head-joins text =
     names-join
 
 -- what is returned of a bad line
-pub bad-result : (f : Fault) {line : ℕ} {x : Reading} {r : Read} → badLine (faultOf f) line ≡ x → r ≡ refusing (Bad f line) → r ≡ readFor (comes x)
-bad-result f {line} q h = h ∙ ap (λ g. refusing (Bad g line)) (sym (fault-back f)) ∙ ap (λ x. readFor (comes x)) q
+pub bad-result : (f : Flaw) {line : ℕ} {x : Reading} {r : Read} → badLine (flawOf f) line ≡ x → r ≡ refusing (Bad f line) → r ≡ readFor (comes x)
+bad-result f {line} q h = h ∙ ap (λ g. refusing (Bad g line)) (sym (flaw-back f)) ∙ ap (λ x. readFor (comes x)) q
 
 -- All lines, by what those before the terms come to.
 module _ (text : Text) (room : ℕ) where
-  pub lines-halt : {f : M.Fault} {line : ℕ} → halted f line ≡ headText text → comes (badLine f line) ≡ linesIn room text
+  pub lines-halt : {f : M.Flaw} {line : ℕ} → halted f line ≡ headText text → comes (badLine f line) ≡ linesIn room text
   unfolding linesIn
   lines-halt q = rw (← head-joins text, ← q)
 

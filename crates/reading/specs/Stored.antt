@@ -17,7 +17,7 @@ use Rattle.reading.specs.declared.Answer.{Answer}
 use Rattle.reading.specs.declared.Answer.the-variants.{Fine, NoRoom, TooLong, Bad}
 use Rattle.reading.specs.declared.Read.{Read}
 use Rattle.sections.specs.Laying.{tableAfter, listsOver}
-pub use Rattle.sections.specs.Sections.{faultFor}
+pub use Rattle.faults.specs.CodedFaults.{flawFor}
 use Rattle.heads.specs.Heads.{Heading, headText}
 
 -- What a text comes to where there are so many words for lists: what it reads as; or crowded, where the lines before the terms are
@@ -47,7 +47,7 @@ refusing a = record { answer = a; order = All }
 abbrev pub readFor : Coming → Read
 readFor (comes (read d o)) = record { answer = Fine; order = orderFor o }
 readFor (comes overlong) = refusing TooLong
-readFor (comes (badLine f line)) = refusing (Bad (faultFor f) line)
+readFor (comes (badLine f line)) = refusing (Bad (flawFor f) line)
 readFor crowded = refusing NoRoom
 
 -- What the areas hold afterwards: the description over what was there; the same as before; or 0.

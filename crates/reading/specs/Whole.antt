@@ -13,7 +13,7 @@ use Rattle.lists.specs.Lists.{overlaid}
 use Rattle.grammar.specs.Reading.{Reading, read, overlong, badLine, described, fromTerms}
 use Rattle.keyed.specs.declared.Progress.{Progress}
 use Rattle.keyed.specs.declared.Progress.the-variants.{To, Bad}
-use Rattle.keyed.specs.declared.orders.Ordered.{Ordered}
+use Rattle.orderlines.specs.declared.Ordered.{Ordered}
 use Rattle.reading.specs.declared.Answer.{Answer}
 use Rattle.reading.specs.declared.Answer.the-variants as A
 use Rattle.reading.specs.declared.Read.{Read}

@@ -1,11 +1,11 @@
-// Bytes to a table and its lists, or the refusal with its number and line.
+// Bytes to a table and its lists, or the refusal with its number, line and column.
 mod whole;
 
 ghost use Rattle.reading.specs.Stored.{tooMuch, Stored};
 ghost use mathlib.Core.Path.{_≡_};
 use crate::whole::read_lines;
 use areas::clear;
-use faults::Fault;
+use faults::Flaw;
 use table::LIST_WORDS;
 use table::LISTS_WORDS;
 use table::Order;
@@ -15,12 +15,12 @@ use table::TABLE_WORDS;
 pub const TEXT_BYTES: usize = 8192;
 
 // Read; the lists have no room for so many terms; the text is too long, or the table or the order's words are too few; or the first bad
-// line, with its fault.
+// line, by its fault with its column, and its number.
 pub enum Answer {
     Fine,
     NoRoom,
     TooLong,
-    Bad(Fault, usize),
+    Bad(Flaw, usize),
 }
 
 // What is read of a text besides its table: its order, whose labels are in words of their own. It is all after a refusal.

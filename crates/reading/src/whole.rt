@@ -9,7 +9,7 @@ use crate::Read;
 use feet::read_end;
 use heads::read_head;
 use keyed::Progress;
-use keyed::orders::Ordered;
+use orderlines::Ordered;
 use table::LIST_WORDS;
 use table::Order;
 use table::bodies_of;

@@ -78,7 +78,7 @@ module _ (text : Text) (work answer : ℕ) where
   -- A refusal that is due is what the call comes to.
   pub due→ : (r : Refusal) → Due text work answer r → call text work answer ≡ refusing r
   due→ tooLong due = call-long due (tooShort work answer) refl
-  due→ (inLine f line) due = call-read (due .0) (due .1)
+  due→ (inLine f line column) due = call-read (due .0) (due .1)
   due→ large due =
       let l = due .1 in
       call-read (due .0) (l .reads) ∙ ap (ofOutcome (l .given)) (sym (answer-only (l .given) (l .order) tooLarge (l .passes)))
@@ -115,7 +115,7 @@ module _ (m : Made) where
   by-reading : Roomy (length (m .work)) (length (m .answer)) → (x : Reading) → readText (m .text) ≡ x → Answered m ⊎ Refused m
   by-reading roomy (read d o) e = by-outcome roomy e (A.answer d o) refl
   by-reading roomy overlong e = inr (due-refused tooLong (inr (inr (overlong→ (m .text) e))))
-  by-reading roomy (badLine f line) e = inr (due-refused (inLine f line) (roomy, e))
+  by-reading roomy (badLine f line) e = inr (due-refused (inLine (f .fault) line (f .column)) (roomy, e))
 
   by-areas : (b : Bool) → tooShort (length (m .work)) (length (m .answer)) ≡ b → Answered m ⊎ Refused m
   by-areas true e = inr (due-refused tooLong (elim (short→ {work = length (m .work)} {answer = length (m .answer)} e) [ inl h ↦ inl h | inr h ↦ inr (inl h) ]))
@@ -124,27 +124,27 @@ module _ (m : Made) where
   pub answered-or-refused : Answered m ⊎ Refused m
   answered-or-refused = by-areas (tooShort (length (m .work)) (length (m .answer))) refl
 
--- A refusal from its number and line.
-refusalFrom : ℕ → ℕ → Refusal
-refusalFrom zero line = tooLong
-refusalFrom (suc zero) line = tooLong
-refusalFrom (suc (suc zero)) line = inLine form line
-refusalFrom (suc (suc (suc zero))) line = inLine name line
-refusalFrom (suc (suc (suc (suc zero)))) line = inLine range line
-refusalFrom (suc (suc (suc (suc (suc zero))))) line = inLine amount line
-refusalFrom (suc (suc (suc (suc (suc (suc n)))))) line = large
+-- A refusal from its number, line and column.
+refusalFrom : (reason line column : ℕ) → Refusal
+refusalFrom zero line column = tooLong
+refusalFrom (suc zero) line column = tooLong
+refusalFrom (suc (suc zero)) line column = inLine form line column
+refusalFrom (suc (suc (suc zero))) line column = inLine name line column
+refusalFrom (suc (suc (suc (suc zero)))) line column = inLine range line column
+refusalFrom (suc (suc (suc (suc (suc zero))))) line column = inLine amount line column
+refusalFrom (suc (suc (suc (suc (suc (suc n)))))) line column = large
 
-refusal-back : (r : Refusal) → refusalFrom (A.refused r .reason) (A.refused r .line) ≡ r
+refusal-back : (r : Refusal) → refusalFrom (A.refused r .reason) (A.refused r .line) (A.refused r .column) ≡ r
 unfolding refusalFrom
 refusal-back tooLong = refl
-refusal-back (inLine form line) = refl
-refusal-back (inLine name line) = refl
-refusal-back (inLine range line) = refl
-refusal-back (inLine amount line) = refl
+refusal-back (inLine form line column) = refl
+refusal-back (inLine name line column) = refl
+refusal-back (inLine range line column) = refl
+refusal-back (inLine amount line column) = refl
 refusal-back large = refl
 
 pub refusal-unique : {r r′ : Refusal} {v : Verdict} → A.refused r ≡ v → A.refused r′ ≡ v → r ≡ r′
-refusal-unique p q = alike-through A.refused (λ (v : Verdict). refusalFrom (v .reason) (v .line)) refusal-back p q
+refusal-unique p q = alike-through A.refused (λ (v : Verdict). refusalFrom (v .reason) (v .line) (v .column)) refusal-back p q
 
 pub no-answer : (r : Refusal) → A.refused r .reason ≡ 0 → ⊥
 no-answer r e = omega (arith, e, refusals-numbered r)
@@ -175,7 +175,7 @@ read→right m {d} {o} reads roomy =
 
 pub seven-large : (m : Made) (r : Refusal) → DueOf m r → reasonOf r ≡ 7 → Large (m .text)
 seven-large m tooLong due e = absurd (omega (arith, e))
-seven-large m (inLine f line) due e = absurd (omega (arith, e, faults-below f))
+seven-large m (inLine f line column) due e = absurd (omega (arith, e, faults-below f))
 seven-large m large due e = due .1
 
 -- Demand 3.
@@ -220,9 +220,9 @@ unfolding answerText
 answer-ok words rounds labels area = refl
 
 -- a refusal says otherwise in its eighth byte
-refusal-not-ok : (reason at : ℕ) (area : Text) → SaysOk (withStart (refusedText reason at) area) → ⊥
+refusal-not-ok : (reason at column : ℕ) (area : Text) → SaysOk (withStart (refusedText reason at column) area) → ⊥
 unfolding refusedText
-refusal-not-ok reason at area e = let k = ap (λ (t : Text). getD t 7 0) e in omega arith
+refusal-not-ok reason at column area e = let k = ap (λ (t : Text). getD t 7 0) e in omega arith
 
 -- areas of the call's own are long enough
 own : Roomy workWords answerWords
@@ -242,7 +242,7 @@ module _ (c : Called) {d : Description} {o : Order} (reads : readText (c .text) 
       ∙ ap (λ (x : Call). withStart (textOf x) (c .area)) (call-read (c .text) workWords answerWords own reads ∙ ap (ofOutcome d) e)
 
   of-outcome : (x : Outcome) → A.answer d o ≡ x → SaysOk (c .area′) → PrintedAnswer c d o
-  of-outcome tooLarge e ok = absurd (refusal-not-ok 7 0 (c .area) (subst SaysOk (outcome-shown e) ok))
+  of-outcome tooLarge e ok = absurd (refusal-not-ok 7 0 0 (c .area) (subst SaysOk (outcome-shown e) ok))
   of-outcome (listed rounds labels) e ok = record { rounds = rounds; labels = labels; is = e; shown = outcome-shown e }
 
   pub printed-answer : SaysOk (c .area′) → PrintedAnswer c d o
@@ -274,7 +274,7 @@ text-some (answering words rounds labels) = omega arith
 
 verdict-below : (c : Call) → verdictOf c .reason < 8
 verdict-below (refusing tooLong) = omega arith
-verdict-below (refusing (inLine f line)) = omega (arith, faults-below f)
+verdict-below (refusing (inLine f line column)) = omega (arith, faults-below f)
 verdict-below (refusing large) = omega arith
 verdict-below (answering words rounds labels) = omega arith
 

@@ -26,13 +26,13 @@ pub not-both : (m : Made)
     → ⊥
 not-both m a r = no-answer (r .refusal) (reason-eq (sym (r .refused .says) ∙ a .says))
 
--- The other way: a refusal that is due is given, with its number and line, and what each area holds is fixed.
+-- The other way: a refusal that is due is given, with its number, line and column, and what each area holds is fixed.
 pub due-refused : (m : Made) (r : Refusal)
     → DueOf m r
     → RefusedWith m r
 due-refused m r due = refused-by m (due→ (m .text) (length (m .work)) (length (m .answer)) r due)
 
--- So number and line tell which refusal was due, and no two are due at once.
+-- So number, line and column tell which refusal was due, and no two are due at once.
 pub refused-exactly : (m : Made) (r : Refusal) → (verdictGiven m ≡ A.refused r) ↔ DueOf m r
 refused-exactly m r = (given (demand-1 m), λ due. due-refused m r due .says)
   where

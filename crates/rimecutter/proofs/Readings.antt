@@ -14,11 +14,11 @@ use Rattle.meaning.specs.Legal.{Legal}
 use Rattle.meaning.specs.Rounds.{pick}
 use Rattle.meaning.specs.Answers.{Fault, form, name, range, amount}
 use Rattle.grammar.specs.Reading.{Walk, reached, halted, Reading, read, overlong, badLine, readText}
-use Rattle.faults.specs.CodedFaults.{faultOf}
+use Rattle.faults.specs.CodedFaults.{faultOf, flawOf, faultFor}
 use Rattle.table.specs.declared.Order.{Order}
 use Rattle.table.specs.Holding.{Holds, HoldsOrder}
 use Rattle.heads.specs.Heads.{Heading, headText}
-use Rattle.reading.specs.Stored.{Coming, comes, crowded, unlessCrowded, linesIn, readIn, faultFor, readFor, Stored}
+use Rattle.reading.specs.Stored.{Coming, comes, crowded, unlessCrowded, linesIn, readIn, readFor, Stored}
 use Rattle.reading.specs.declared.Answer as A
 use Rattle.reading.specs.declared.Answer.the-variants.{Fine, NoRoom, TooLong, Bad}
 use Rattle.reading.specs.declared.Read.{Read}
@@ -55,7 +55,7 @@ abbrev pub Refused : Text → (room : ℕ) → A.Answer → Type 0
 Refused text room Fine = ⊥
 Refused text room NoRoom = 3072 ≤ room → ⊥
 Refused text room TooLong = readText text ≡ overlong
-Refused text room (Bad f line) = readText text ≡ badLine (faultOf f) line
+Refused text room (Bad f line) = readText text ≡ badLine (flawOf f) line
 
 pub fault-back : (f : Fault) → faultOf (faultFor f) ≡ f
 fault-back form = refl
@@ -91,7 +91,7 @@ module _ {text : Text} {table lists listed table′ lists′ listed′ : List �
       by : (c : Coming) → coming ≡ c → Refused text (length lists) (r .answer)
       by (comes (read d o)) q = absurd (some (answered q))
       by (comes overlong) q = rw (answered q) (came q)
-      by (comes (badLine f line)) q = rw (answered q, fault-back f) (came q)
+      by (comes (badLine f line)) q = rw (answered q, fault-back (f .fault)) (came q)
       by crowded q =
           rw (answered q) (λ roomy.
           let full = read-in-full text (length table) (length lists) (length listed) (omega arith) roomy (omega arith) in

@@ -15,12 +15,12 @@ use Rattle.meaning.specs.Answers as A
 use Rattle.meaning.specs.Answers.{Outcome, tooLarge, listed, tooLong, inLine, large}
 use Rattle.meaning.proofs.Tests.{or-false→}
 use Rattle.grammar.specs.Reading.{readText}
+use Rattle.faults.specs.CodedFaults.{faultFor}
 use Rattle.table.specs.declared.Order.{Order}
 use Rattle.table.specs.Encoded.{filled, wordOf}
 use Rattle.table.specs.Holding.{namesIn}
 use Rattle.table.proofs.Holdings.{names-held}
 use Rattle.areas.proofs.Zeroes.{zeroed-front}
-use Rattle.reading.specs.Stored.{faultFor}
 use Rattle.reading.specs.declared.Answer as ReadAnswer
 use Rattle.reading.specs.declared.Answer.the-variants as B
 use Rattle.rounds.specs.declared.Answer as RoundsAnswer
@@ -66,14 +66,14 @@ short-responded text work answer r said e =
 -- The work area, from what is told.
 answerOf : Call → Answer
 answerOf (refusing tooLong) = TooLong
-answerOf (refusing (inLine f line)) = Bad (faultFor f) line
+answerOf (refusing (inLine f line column)) = Bad (record { fault = faultFor f; column = column }) line
 answerOf (refusing large) = TooLarge
 answerOf (answering words rounds labels) = Listed rounds (length labels)
 
 told-once : (c : Call) → verdictFor (answerOf c) ≡ verdictOf c
 unfolding answerOf
 told-once (refusing tooLong) = refl
-told-once (refusing (inLine f line)) = ap (λ (x : A.Fault). A.refused (inLine x line)) (fault-back f)
+told-once (refusing (inLine f line column)) = ap (λ (x : A.Fault). A.refused (inLine x line column)) (fault-back f)
 told-once (refusing large) = refl
 told-once (answering words rounds labels) = refl
 
@@ -81,7 +81,7 @@ module _ (work : List ℕ) (long : workWords ≤ length work) where
   cleared-after : (c : Call) → clearedUnless (answerOf c) work ≡ workAfter c work
   unfolding answerOf
   cleared-after (refusing tooLong) = refl
-  cleared-after (refusing (inLine f line)) = zeroed-front workWords work long
+  cleared-after (refusing (inLine f line column)) = zeroed-front workWords work long
   cleared-after (refusing large) = zeroed-front workWords work long
   cleared-after (answering words rounds labels) = zeroed-front workWords work long
 

@@ -9,7 +9,8 @@ use native.Mathlib.Omega.{arith}
 use lib.Dec.{T, leb, leb→le}
 use Rattle.meaning.proofs.Tests.{and-left, and-right, or-cases}
 use lib.ListN.{length, take, drop, length-map, length-take, length-append}
-use Rattle.printing.proofs.Lengths.{length-answer, length-refusal}
+use Rattle.printing.proofs.Lengths.{length-answer}
+use Rattle.printing.proofs.Refusals.{length-refusal}
 use lib.Seq.{take-at}
 use Rattle.meaning.specs.Bytes.{Text}
 use Rattle.meaning.specs.Labels.{Label, size, number}
@@ -17,9 +18,9 @@ use Rattle.meaning.specs.Descriptions.{Description, Order, names}
 use Rattle.meaning.specs.Legal.{Each}
 use Rattle.meaning.specs.Answers as A
 use Rattle.meaning.specs.Answers.{Outcome, tooLarge, listed, Lists, Answers, Refusal, tooLong, inLine, large, Fault, form}
-use Rattle.meaning.specs.Answers.{name, range, amount, faultNumber, reasonOf, lineOf, Verdict}
+use Rattle.meaning.specs.Answers.{name, range, amount, faultNumber, reasonOf, lineOf, columnOf, Verdict}
 use Rattle.meaning.proofs.Digits.{size→small}
-use Rattle.meaning.proofs.Answers.{reason-eq, line-eq, rounds-eq, labels-eq, answer-right}
+use Rattle.meaning.proofs.Answers.{reason-eq, rounds-eq, labels-eq, answer-right}
 use Rattle.meaning.proofs.Members.{each-in}
 use Rattle.meaning.proofs.Listings.{listed-held, listed-few}
 use Rattle.grammar.specs.Reading.{Reading, read, overlong, badLine, readText}
@@ -42,9 +43,9 @@ use Rattle.rimecutter.specs.declared.calls.Response.{Response}
 use Rattle.rimecutter.specs.declared.Answer.the-variants.{Listed, TooLong, Bad, TooLarge}
 use Rattle.rimecutter.proofs.Responses.{Told}
 
--- A refusal's text is that of its number and line.
-refused-text : (c : Call) (v : Verdict) → v ≡ verdictOf c → (v .reason ≡ 0 → ⊥) → textOf c ≡ refusedText (v .reason) (v .line)
-refused-text (refusing r) v e some = ap₂ refusedText (reason-eq (sym e)) (line-eq (sym e))
+-- A refusal's text is that of its number, line and column.
+refused-text : (c : Call) (v : Verdict) → v ≡ verdictOf c → (v .reason ≡ 0 → ⊥) → textOf c ≡ refusedText (v .reason) (v .line) (v .column)
+refused-text (refusing r) v e some = ap (λ (x : Verdict). refusedText (x .reason) (x .line) (x .column)) (sym e)
 refused-text (answering words rounds labels) v e some = absurd (some (reason-eq e))
 
 -- No refusal has number 0.
@@ -62,7 +63,7 @@ faults-below amount = omega arith
 
 pub refusals-numbered : (r : Refusal) → 1 ≤ reasonOf r
 refusals-numbered tooLong = omega arith
-refusals-numbered (inLine f line) = faults-numbered f
+refusals-numbered (inLine f line column) = faults-numbered f
 refusals-numbered large = omega arith
 
 -- An answer comes from a description that was read.
@@ -110,7 +111,7 @@ module _ (text : Text) (words : List Text) (rounds : ℕ) (labels : List Label) 
   from-reading : (x : Reading) → readText text ≡ x → ofReading x ≡ this → Origin text words rounds labels
   from-reading (read d o) r e = from-outcome d o (A.answer d o) r (answer-right d o) e
   from-reading overlong r e = absurd (no-refusal tooLong e)
-  from-reading (badLine f line) r e = absurd (no-refusal (inLine f line) e)
+  from-reading (badLine f line) r e = absurd (no-refusal (inLine (f .fault) line (f .column)) e)
 
   from-call : (b : Bool) → unlessShort b (readText text) ≡ this → Origin text words rounds labels
   from-call true e = absurd (no-refusal tooLong e)
@@ -201,7 +202,7 @@ module _ (text : Text) (answer answer′ : List ℕ) (r : Response) (h : Told (o
       listed-text text (ownCall text) refl rounds labels (r .names) answer answer′ (ap verdictFor (sym e) ∙ h .0) (h .2) (h .1) .says
   told-text TooLong e = refused-text (ownCall text) (verdictFor TooLong) (ap verdictFor (sym e) ∙ h .0) (λ z. omega arith)
   told-text (Bad f line) e =
-      refused-text (ownCall text) (verdictFor (Bad f line)) (ap verdictFor (sym e) ∙ h .0) (λ z. omega (arith, faults-numbered (faultOf f)))
+      refused-text (ownCall text) (verdictFor (Bad f line)) (ap verdictFor (sym e) ∙ h .0) (λ z. omega (arith, faults-numbered (faultOf (f .fault))))
   told-text TooLarge e = refused-text (ownCall text) (verdictFor TooLarge) (ap verdictFor (sym e) ∙ h .0) (λ z. omega arith)
 
   pub told-printed : {area area′ : Text} {n : ℕ} → TextWritten r answer′ area area′ n → Printed (textOf (ownCall text)) area area′ n
@@ -213,15 +214,15 @@ pub text-fits : (text : Text) → length (textOf (ownCall text)) ≤ 155648
 text-fits text = fits (ownCall text) refl
   where
     fits : (c : Call) → ownCall text ≡ c → length (textOf c) ≤ 155648
-    fits (refusing r) e = omega (arith, length-refusal (reasonOf r) (lineOf r))
+    fits (refusing r) e = omega (arith, length-refusal (reasonOf r) (lineOf r) (columnOf r))
     fits (answering words k ls) e =
         let names = filled 12 0 (map wordOf words) in
         let l = listed-text text (answering words k ls) e k (length ls) names [] (map number ls ++ drop (length ls) []) refl refl refl in
         let shown = take (length ls) (map number ls ++ drop (length ls) []) in
         omega (arith, l .few, ap length (l .says), length-answer names k shown, length-take (length ls) (map number ls ++ drop (length ls) []))
 
--- A text that is too long is refused with 1, without a line.
-pub long-printed : (text : Text) {area area′ : List ℕ} {n : ℕ} → 8192 < length text → Printed (refusedText 1 0) area area′ n
+-- A text that is too long is refused with 1, without a line or a column.
+pub long-printed : (text : Text) {area area′ : List ℕ} {n : ℕ} → 8192 < length text → Printed (refusedText 1 0 0) area area′ n
     → Printed (textOf (ownCall text)) area area′ n
 unfolding call
 long-printed text {area} {area′} {n} h p = subst (λ (r : Reading). Printed (textOf (ofReading r)) area area′ n) (sym (→overlong text h)) p

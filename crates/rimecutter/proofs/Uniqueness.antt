@@ -3,32 +3,43 @@
 use mathlib.Core.Path.{_≡_, refl}
 use mathlib.Core.List.{List}
 use Prim.Native.Nat.{ℕ, zero, suc}
-use Rattle.meaning.specs.Answers.{Verdict}
+use Rattle.meaning.specs.Answers.{faultNumber, inLine, Verdict, refused}
 use Rattle.meaning.proofs.Alike.{alike, alike-through}
+use Rattle.faults.specs.CodedFaults.{faultOf}
+use Rattle.faults.specs.declared.Fault.{Fault}
 use Rattle.faults.specs.declared.Fault.the-variants.{Form, Name, Range, Amount}
 use Rattle.rimecutter.specs.declared.Answer.{Answer}
 use Rattle.rimecutter.specs.declared.Answer.the-variants.{Listed, TooLong, Bad, TooLarge}
 use Rattle.rimecutter.specs.Calls.{Call, verdictOf}
 use Rattle.rimecutter.specs.Answers.{verdictFor, Settled}
 
+-- A bad line, by its fault.
+abbrev badFrom : Fault → Verdict → Answer
+badFrom f v = Bad (record { fault = f; column = v .column }) (v .line)
+
 -- The case of an answer from its number.
 answerFrom : ℕ → Verdict → Answer
 answerFrom zero v = Listed (v .rounds) (v .labels)
 answerFrom (suc zero) v = TooLong
-answerFrom (suc (suc zero)) v = Bad Form (v .line)
-answerFrom (suc (suc (suc zero))) v = Bad Name (v .line)
-answerFrom (suc (suc (suc (suc zero)))) v = Bad Range (v .line)
-answerFrom (suc (suc (suc (suc (suc zero))))) v = Bad Amount (v .line)
+answerFrom (suc (suc zero)) v = badFrom Form v
+answerFrom (suc (suc (suc zero))) v = badFrom Name v
+answerFrom (suc (suc (suc (suc zero)))) v = badFrom Range v
+answerFrom (suc (suc (suc (suc (suc zero))))) v = badFrom Amount v
 answerFrom (suc (suc (suc (suc (suc (suc n)))))) v = TooLarge
+
+bad-back : (f : Fault) (line column : ℕ) → answerFrom (faultNumber (faultOf f)) (refused (inLine (faultOf f) line column))
+    ≡ Bad (record { fault = f; column = column }) line
+unfolding answerFrom
+bad-back Form line column = refl
+bad-back Name line column = refl
+bad-back Range line column = refl
+bad-back Amount line column = refl
 
 answer-back : (a : Answer) → answerFrom (verdictFor a .reason) (verdictFor a) ≡ a
 unfolding answerFrom
 answer-back (Listed rounds labels) = refl
 answer-back TooLong = refl
-answer-back (Bad Form line) = refl
-answer-back (Bad Name line) = refl
-answer-back (Bad Range line) = refl
-answer-back (Bad Amount line) = refl
+answer-back (Bad f line) = bad-back (f .fault) line (f .column)
 answer-back TooLarge = refl
 
 -- A verdict is that of one answer only.

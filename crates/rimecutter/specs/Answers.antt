@@ -24,9 +24,9 @@ use Rattle.rimecutter.specs.Calls.{Call, refusing, answering, verdictOf,
 
 -- The number and the values of each case (docs/FORMAT.md, "What is printed"): number 0 for an answer, its rounds and its number of labels.
 abbrev pub verdictFor : Answer → Verdict
-verdictFor (Listed rounds labels) = record { reason = 0; line = 0; rounds = rounds; labels = labels }
+verdictFor (Listed rounds labels) = record { reason = 0; line = 0; column = 0; rounds = rounds; labels = labels }
 verdictFor TooLong = A.refused tooLong
-verdictFor (Bad f line) = A.refused (inLine (faultOf f) line)
+verdictFor (Bad f line) = A.refused (inLine (faultOf (f .fault)) line (f .column))
 verdictFor TooLarge = A.refused large
 
 -- A call settles its answer and every word of both areas.
@@ -74,9 +74,9 @@ pub record Cleared (r : Response) (work work′ : List ℕ) (a : Response) : Typ
 -- The text of a response, whose labels are the first words of an area.
 abbrev pub saidText : Answer → (names words : List ℕ) → Text
 saidText (Listed rounds labels) names words = answerText (nameTexts names) rounds (map countsOf (take labels words))
-saidText TooLong names words = refusedText 1 0
-saidText (Bad f line) names words = refusedText (A.faultNumber (faultOf f)) line
-saidText TooLarge names words = refusedText 7 0
+saidText TooLong names words = refusedText 1 0 0
+saidText (Bad f line) names words = refusedText (A.faultNumber (faultOf (f .fault))) line (f .column)
+saidText TooLarge names words = refusedText 7 0 0
 
 abbrev pub listedIn : Answer → ℕ
 listedIn (Listed rounds labels) = labels

@@ -35,7 +35,7 @@ ofOutcome d (listed rounds labels) = answering (d .words) rounds labels
 abbrev pub ofReading : Reading → Call
 ofReading (read d o) = ofOutcome d (A.answer d o)
 ofReading overlong = refusing tooLong
-ofReading (badLine f line) = refusing (inLine f line)
+ofReading (badLine f line) = refusing (inLine (f .fault) line (f .column))
 
 abbrev pub unlessShort : Bool → Reading → Call
 unlessShort true r = refusing tooLong
@@ -48,7 +48,7 @@ call text work answer = unlessShort (tooShort work answer) (readText text)
 abbrev pub ownCall : Text → Call
 ownCall text = call text workWords answerWords
 
--- The number, line, rounds and number of labels.
+-- The number, line, column, rounds and number of labels.
 abbrev pub verdictOf : Call → Verdict
 verdictOf (refusing r) = A.refused r
 verdictOf (answering words rounds labels) = A.verdict (listed rounds labels)
@@ -64,7 +64,7 @@ cleared area = replicate workWords 0 ++ drop workWords area
 
 abbrev pub workAfter : Call → List ℕ → List ℕ
 workAfter (refusing tooLong) area = area
-workAfter (refusing (inLine f line)) area = cleared area
+workAfter (refusing (inLine f line column)) area = cleared area
 workAfter (refusing large) area = cleared area
 workAfter (answering words rounds labels) area = cleared area
 

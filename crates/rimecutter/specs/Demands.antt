@@ -31,7 +31,7 @@ pub record Made : Type 0 where
   pub result : Answer
   pub kept : Settled (call text (length work) (length answer)) work work′ answer answer′ result
 
--- The number, line, rounds and number of labels that it answered.
+-- The number, line, column, rounds and number of labels that it answered.
 abbrev pub verdictGiven : Made → Verdict
 verdictGiven m = verdictFor (m .result)
 

@@ -45,7 +45,7 @@ fn unread(said: reading::Answer) -> Response
     ensures { λ r. ⌜ r .answer ≡ refusalFor said ⌝ }
 {
     let answer = match said {
-        reading::Answer::Bad(fault, line) => Answer::Bad(fault, line),
+        reading::Answer::Bad(flaw, line) => Answer::Bad(flaw, line),
         reading::Answer::TooLong => Answer::TooLong,
         _ => Answer::TooLarge,
     };

@@ -9,7 +9,7 @@ use crate::calls::Response;
 use crate::calls::respond;
 use crate::calls::respond_few;
 use crate::calls::respond_full;
-use faults::Fault;
+use faults::Flaw;
 use faults::number_of;
 use printing::write_answer;
 use printing::write_refusal;
@@ -18,11 +18,11 @@ use rounds::ANSWER_WORDS;
 use rounds::WORK_WORDS;
 use rounds::few::FEW_LABELS;
 
-// Listed with the rounds and the number of labels; or refused: with 1, with a fault of a line, or with 7.
+// Listed with the rounds and the number of labels; or refused: with 1; with the fault of a line, its column and the line's number; or with 7.
 pub enum Answer {
     Listed(usize, usize),
     TooLong,
-    Bad(Fault, usize),
+    Bad(Flaw, usize),
     TooLarge,
 }
 
@@ -46,6 +46,8 @@ pub const TOO_LARGE: usize = 7;
 
 const NO_LINE: usize = 0;
 
+const NO_COLUMN: usize = 0;
+
 // The text of a response, whose labels are the first words of an area.
 fn write_response(text: &mut [u8], response: Response, answer: &[u64]) -> usize
     ensures { λ r. ⌜ TextWritten response (now (answer .entry)) (now (text .entry)) (now (text .exit)) r ⌝ }
@@ -59,9 +61,12 @@ fn write_response(text: &mut [u8], response: Response, answer: &[u64]) -> usize
             }
             write_answer(text, names, rounds, &answer[..labels])
         }
-        Answer::TooLong => write_refusal(text, TOO_LONG, NO_LINE),
-        Answer::Bad(fault, line) => write_refusal(text, number_of(fault), line),
-        Answer::TooLarge => write_refusal(text, TOO_LARGE, NO_LINE),
+        Answer::TooLong => write_refusal(text, TOO_LONG, NO_LINE, NO_COLUMN),
+        Answer::Bad(flaw, line) => {
+            let fault = flaw.fault;
+            write_refusal(text, number_of(fault), line, flaw.column)
+        }
+        Answer::TooLarge => write_refusal(text, TOO_LARGE, NO_LINE, NO_COLUMN),
     }
 }
 
@@ -97,7 +102,7 @@ pub fn alphabet_text(description: &[u8], text: &mut [u8]) -> usize
     ensures { λ r. ⌜ Printed (textOf (call (now (description .entry)) workWords answerWords)) (now (text .entry)) (now (text .exit)) r ⌝ }
 {
     if TEXT_BYTES < description.len() {
-        return write_refusal(text, TOO_LONG, NO_LINE);
+        return write_refusal(text, TOO_LONG, NO_LINE, NO_COLUMN);
     }
     if MANY_BYTES < description.len() {
         return text_full(description, text);

@@ -6,9 +6,8 @@ use native.Mathlib.Omega.{arith}
 use lib.ListN.{length, drop, length-drop}
 use lib.Seq.{drop-drop}
 use Rattle.meaning.specs.Bytes.{Text}
-use Rattle.meaning.specs.Answers.{Fault}
 use Rattle.words.proofs.Steps.{restAt, rest-drop}
-use Rattle.grammar.specs.Reading.{Walk, reached, halted, walk}
+use Rattle.grammar.specs.Reading.{Flaw, Walk, reached, halted, walk}
 
 module _ (text : Text) (from : ℕ) (h : from ≤ length text) where
   drop-rest : (took : ℕ) → drop took (restAt text from) ≡ drop (from + took) text
@@ -23,7 +22,7 @@ module _ (text : Text) (from : ℕ) (h : from ≤ length text) where
         → reached a line (drop (from + took) text) ≡ due (drop from text)
     rest-to {a} {line} took q = ap (reached a line) (sym (drop-rest took)) ∙ q ∙ ap due (rest-drop text from h)
 
-    pub rest-bad : {f : Fault} {line : ℕ} → halted f line ≡ due (restAt text from) → halted f line ≡ due (drop from text)
+    pub rest-bad : {f : Flaw} {line : ℕ} → halted f line ≡ due (restAt text from) → halted f line ≡ due (drop from text)
     rest-bad q = q ∙ ap due (rest-drop text from h)
 
 -- What follows lines that were read, and what a bad line leaves of it.
@@ -31,5 +30,5 @@ module _ {A B : Type 0} {due : Walk A} (g : A → ℕ → Text → Walk B) where
   pub goes-on : {a : A} {line : ℕ} {s : Text} {w : Walk B} → reached a line s ≡ due → w ≡ g a line s → w ≡ walk due g
   goes-on q e = e ∙ ap (λ d. walk d g) q
 
-  pub stops-there : {f : Fault} {line : ℕ} → halted f line ≡ due → halted f line ≡ walk due g
+  pub stops-there : {f : Flaw} {line : ℕ} → halted f line ≡ due → halted f line ≡ walk due g
   stops-there q = ap (λ d. walk d g) q

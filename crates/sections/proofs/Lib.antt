@@ -11,9 +11,10 @@ pub mod Lent
 pub mod Tests
 -- SoFar, set-within, within-both: lines that are read alike, each with a word that is laid behind those before it
 pub mod LaidLines
--- given-roomy, given-narrow: what is promised for areas of any lengths, by whether there is room; room-told, no-room-told: by a test
+-- given-roomy, given-narrow: what is promised for areas of any lengths, by whether there is room; bad-first: what is returned where there
+-- is none; room-told, no-room-told: what a test told
 pub mod Given
--- walk-walk, ends-bad, ends-on, fault-back: sections that are lines of the whole text
+-- walk-walk, ends-bad, ends-on: sections that are lines of the whole text
 pub mod Joins
 -- comes-once, given-once: a section's answer is settled, and so is what it leaves where no line is bad
 pub mod Uniqueness

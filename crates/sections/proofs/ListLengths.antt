@@ -2,42 +2,24 @@
 -- Assumes nothing.
 use mathlib.Core.Path.{_≡_, sym, subst}
 use mathlib.Core.List.{List, [], _∷_, map}
-use Prim.Native.Nat.{ℕ, _+_, _≤_, _<_, zero-le}
+use Prim.Native.Nat.{ℕ, _≤_, _<_, zero-le}
 use native.Mathlib.Omega.{arith}
-use lib.Dec.{T, leb, leb→le, ltb→lt}
 use lib.ListN.{length, length-map}
 use Rattle.meaning.specs.Bytes.{Text}
 use Rattle.meaning.specs.Labels.{number}
 use Rattle.meaning.specs.Descriptions as D
-use Rattle.meaning.specs.Legal.{LegalOperator}
-use Rattle.meaning.specs.Answers.{range, amount}
-use Rattle.meaning.proofs.Tests.{and-left, and-right}
+use Rattle.meaning.specs.Legal.{Each, LegalOperator}
 use Rattle.table.specs.Encoded.{pairWord, operatorWords, termWords}
 use Rattle.table.proofs.PackedTerms.{rising-few, rising-pairs}
 use Rattle.table.proofs.TableTerms.{length-ruleWords}
-use Rattle.grammar.specs.Text.{past}
+use Rattle.grammar.specs.Text.{past, Placed}
 use Rattle.grammar.specs.Forms.{Listed, block, hide, rename, comm, allow, Line, plain, acts, wraps, termLine}
-use Rattle.grammar.specs.Faults.{Found, fine, unless, worse, worst, above, rising, nameNumber, nameFault, pairFault, ruleFault, labelFault, wordsFault}
-use Rattle.grammar.specs.Faults.{pairsFault, rulesFault, labelsFault, listFault, numberSaid, labelSaid, pairSaid, ruleSaid, operatorSaid}
-use Rattle.grammar.specs.Faults.{inRange, termSaid, wordsOfFault, termFault}
-use Rattle.grammar.proofs.Findings.{IsFine, fine-worse, fine-unless}
+use Rattle.grammar.specs.Faults.{Found, fine, itemsFault, nameNumber, nameFault, pairFault, ruleFault, labelFault, wordsFault, pairsFault, rulesFault, labelsFault}
+use Rattle.grammar.specs.Faults.{listFault, labelSaid, pairSaid, ruleSaid, operatorSaid, termSaid, placesOf, rangeFault, wordsOfFault, termFault}
+use Rattle.grammar.proofs.Findings.{IsFine, fine-worse}
+use Rattle.grammar.proofs.Items.{item, items-say, weigh-alike}
 use Rattle.grammar.proofs.Atoms.{known-says}
 use Rattle.grammar.proofs.TermLines.{Sayable, writes-term}
-
--- Entries without fault, whose keys ascend below a bound: there are no more than the bound.
-module _ {A : Type 0} (fault : A → Found) (key : A → ℕ) (m : ℕ) (low : (a : A) → IsFine (fault a) → key a < m) where
-  keys-below : (x : A) (xs : List A) → IsFine (worst fault (x ∷ xs)) → T (rising (map key (x ∷ xs))) → key x + length (x ∷ xs) ≤ m
-  unfolding worst rising
-  keys-below x [] f r = omega (arith, low x (fine-worse (fault x) fine .0 f .0))
-  keys-below x (y ∷ ys) f r =
-      let up = ltb→lt (key x) (key y) (and-left (above (key x) (map key (y ∷ ys))) (rising (map key (y ∷ ys))) r) in
-      let ih = keys-below y ys (fine-worse (fault x) (worst fault (y ∷ ys)) .0 f .1)
-      (and-right (above (key x) (map key (y ∷ ys))) (rising (map key (y ∷ ys))) r) in
-      omega arith
-
-  keys-few : (xs : List A) → IsFine (worst fault xs) → T (rising (map key xs)) → length xs ≤ m
-  keys-few [] f r = zero-le
-  keys-few (x ∷ xs) f r = omega (arith, keys-below x xs f r)
 
 -- A legal list has at most 32 words.
 pub operator-fits : (names : ℕ) → names ≤ 12 → (o : D.Operator) → LegalOperator names o → length (operatorWords o) ≤ 32
@@ -63,41 +45,48 @@ sayable-few (D.lmerge t u) l = zero-le
 sayable-few (D.sync t u) l = zero-le
 sayable-few (D.wrap o t) l = operator-fits 0 (omega arith) o (l .1)
 
+-- Entries without fault, whose keys ascend below a bound: there are no more than the bound.
+module _ {X Y : Type 0} (says : X → Y) (own : X → Found) (from : X → ℕ) (key : Y → ℕ) where
+  keys-below : (m : ℕ) → ((x : X) → IsFine (own x) → key (says x) < m) → (xs : List X) → Each (λ x. IsFine (own x)) xs
+      → Each (λ n. n < m) (map key (map says xs))
+  keys-below m low [] f = tt
+  keys-below m low (x ∷ xs) f = (low x (f .0), keys-below m low xs (f .1))
+
+  keys-few : (m : ℕ) → ((x : X) → IsFine (own x) → key (says x) < m) → (xs : List X)
+      → IsFine (itemsFault 0 (map (item says own from key (λ _. 0) 0) xs)) → length (map says xs) ≤ m
+  keys-few m low xs f =
+      let k = items-say says own from key (λ _. 0) 0 xs .0 f in
+      omega (arith, rising-few m (map key (map says xs)) (k .1) (keys-below m low xs (k .0)), length-map (map says xs) key)
+
+  -- where each counts for one, there are no more than the limit
+  ones-few : (limit : ℕ) (xs : List X) → IsFine (itemsFault limit (map (item says own from key (λ _. 1) limit) xs)) → length (map says xs) ≤ limit
+  ones-few limit xs f = omega (arith, items-say says own from key (λ _. 1) limit xs .0 f .2, weigh-alike 1 (map says xs))
+
 module _ (words : List Text) (few : length words ≤ 12) where
-  names-few : (ws : List Text) → IsFine (wordsFault words ws) → length ws ≤ 12
+  names-few : (ws : List (Placed Text)) → IsFine (wordsFault words ws) → length (map (λ w. nameNumber words (w .it)) ws) ≤ 12
   unfolding wordsFault
   names-few ws f =
-      let ordered = rising (map (nameNumber words) ws) in
-      let k = fine-worse (worst (nameFault words) ws) (unless ordered amount) .0 f in
-      omega (arith, keys-few (nameFault words) (nameNumber words) (length words) (λ w. known-says words w .0) ws (k .0) (fine-unless ordered amount .0 (k .1)))
+      omega (arith, keys-few (λ w. nameNumber words (w .it)) (nameFault words) (λ w. w .from) (λ n. n) (length words) (λ w. known-says words w .0) ws f)
 
   list-few : (l : Listed) → IsFine (listFault words l) → length (operatorWords (operatorSaid words l)) ≤ 32
   unfolding pairsFault rulesFault labelsFault
-  list-few (block ws) f = omega (arith, names-few ws f, length-map ws (nameNumber words))
-  list-few (hide ws) f = omega (arith, names-few ws f, length-map ws (nameNumber words))
+  list-few (block ws) f = omega (arith, names-few ws f)
+  list-few (hide ws) f = omega (arith, names-few ws f)
   list-few (rename ps) f =
-      let ordered = rising (map (λ p. nameNumber words (p .left)) ps) in
-      let k = fine-worse (worst (pairFault words) ps) (unless ordered amount) .0 f in
-      let n = keys-few (pairFault words) (λ p. nameNumber words (p .left)) (length words)
-      (λ p g. known-says words (p .left) .0 (fine-worse (nameFault words (p .left)) (nameFault words (p .right)) .0 g .0)) ps (k .0)
-      (fine-unless ordered amount .0 (k .1)) in
-      omega (arith, length-map (map (pairSaid words) ps) pairWord, length-map ps (pairSaid words))
+      let n = keys-few (λ p. pairSaid words (p .it)) (λ p. pairFault words (p .it)) (λ p. p .from) (λ p. p .left) (length words)
+      (λ p g. known-says words (p .it .left) .0 (fine-worse (nameFault words (p .it .left)) (nameFault words (p .it .right)) .0 g .0)) ps f in
+      omega (arith, length-map (map (λ p. pairSaid words (p .it)) ps) pairWord)
   list-few (comm rs) f =
-      let ordered = unless (rising (map (λ r. numberSaid words (r .left)) rs)) amount in
-      let k = fine-worse ordered (unless (leb (length rs) 8) amount) .0
-      (fine-worse (worst (ruleFault words) rs) (worse ordered (unless (leb (length rs) 8) amount)) .0 f .1) in
-      let n = leb→le (length rs) 8 (fine-unless (leb (length rs) 8) amount .0 (k .1)) in
-      omega (arith, length-ruleWords (map (ruleSaid words) rs), length-map rs (ruleSaid words))
+      let n = ones-few (λ r. ruleSaid words (r .it)) (λ r. ruleFault words (r .from) (r .it)) (λ r. r .from) (λ r. number (r .left)) 8 rs f in
+      omega (arith, length-ruleWords (map (λ r. ruleSaid words (r .it)) rs))
   list-few (allow ls) f =
-      let ordered = unless (rising (map (numberSaid words) ls)) amount in
-      let k = fine-worse ordered (unless (leb (length ls) 32) amount) .0
-      (fine-worse (worst (labelFault words) ls) (worse ordered (unless (leb (length ls) 32) amount)) .0 f .1) in
-      let n = leb→le (length ls) 32 (fine-unless (leb (length ls) 32) amount .0 (k .1)) in
-      omega (arith, length-map (map (labelSaid words) ls) number, length-map ls (labelSaid words))
+      let n = ones-few (λ l. labelSaid words (l .it)) (λ l. labelFault words (l .from) (l .it)) (λ l. l .from) number 32 ls f in
+      omega (arith, length-map (map (λ l. labelSaid words (l .it)) ls) number)
 
   line-few : (s r : Text) (l : Line) → termLine s ≡ past l r → IsFine (wordsOfFault words l) → length (termWords (termSaid words l)) ≤ 32
   unfolding wordsOfFault
-  line-few s r (plain t) e f = let m = writes-term [] (tt, tt, tt) .sound s .holds (plain t) r e tt in rw (m .builds) (sayable-few (m .source) (m .legal))
+  line-few s r (plain t at) e f =
+      let m = writes-term [] (tt, tt, tt) .sound s .holds (plain t at) r e tt in rw (m .builds) (sayable-few (m .source) (m .legal))
   line-few s r (acts w) e f = zero-le
   line-few s r (wraps l t) e f = list-few l f
 
@@ -105,4 +94,4 @@ module _ (words : List Text) (few : length words ≤ 12) where
       → length (termWords (termSaid words l)) ≤ 32
   unfolding termFault
   list-fits equations n s r l q e =
-      line-few s r l q (fine-worse (wordsOfFault words l) (unless (inRange equations n (termSaid words l)) range) .0 (subst IsFine (sym e) tt) .0)
+      line-few s r l q (fine-worse (wordsOfFault words l) (rangeFault equations n (termSaid words l) (placesOf l)) .0 (subst IsFine (sym e) tt) .0)

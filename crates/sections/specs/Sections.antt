@@ -6,10 +6,7 @@ use mathlib.Core.List.{List}
 use Prim.Native.Nat.{ℕ, _≤_}
 use lib.ListN.{length, drop}
 use Rattle.meaning.specs.Bytes.{Text}
-use Rattle.meaning.specs.Answers.{Fault, form, name, range, amount}
-use Rattle.faults.specs.CodedFaults.{faultOf}
-use Rattle.faults.specs.declared.Fault as F
-use Rattle.faults.specs.declared.Fault.the-variants.{Form, Name, Range, Amount}
+use Rattle.faults.specs.CodedFaults.{flawOf}
 use Rattle.grammar.specs.Reading.{Walk, reached, halted}
 use Rattle.keyed.specs.declared.Progress.{Progress}
 use Rattle.keyed.specs.declared.Progress.the-variants.{To, Bad}
@@ -21,17 +18,10 @@ pub record Section {A : Type 0} (text : Text) (due : Walk A) (next : A → ℕ) 
   pub within : took ≤ length text
   pub left : Left v read
 
--- or the fault of a line, with its number
+-- or the fault of a line with its column, and the line's number
 abbrev pub Comes : {A : Type 0} → Text → Walk A → (A → ℕ) → (ℕ → A → Type 0) → Progress → Type 0
 Comes text due next Left (To v took) = Section text due next Left v took
-Comes text due next Left (Bad f line) = halted (faultOf f) line ≡ due
-
--- The fault of the code for each of the definition.
-abbrev pub faultFor : Fault → F.Fault
-faultFor form = Form
-faultFor name = Name
-faultFor range = Range
-faultFor amount = Amount
+Comes text due next Left (Bad f line) = halted (flawOf f) line ≡ due
 
 -- No more than the first so many words of an area are touched.
 pub record Within (n : ℕ) (before after : List ℕ) : Type 0 where

@@ -1,5 +1,5 @@
 -- The laws that the readers' proofs cite, and the uniqueness of what is promised; each file after those that it cites.
--- ended-here, ended-not, one-seen, two-seen, tail-act, act-no-space, act-line: what follows the word of a kind without a list
+-- ended-here, ended-not, operand-read, last-read, two-read, tail-act, act-no-space, act-line: what follows the word of a kind without a list
 pub mod Operands
 -- wrap-stuck, wrap-went, no-operand, no-space, no-list, no-end, wrap-line: the kinds with a list
 pub mod WrapLines

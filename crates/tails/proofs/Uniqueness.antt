@@ -11,15 +11,16 @@ use Rattle.slots.specs.declared.Term.{Term}
 use Rattle.table.specs.Encoded.{termWords, termFor}
 use Rattle.grammar.specs.Text.{Past, past, stuck}
 use Rattle.grammar.specs.Forms.{Line}
-use Rattle.grammar.specs.Faults.{Found, fine, termSaid, wordsOfFault}
+use Rattle.grammar.specs.Faults.{Found, fine, termSaid}
 use Rattle.faults.specs.CodedFaults.{foundOf}
 use Rattle.faults.specs.declared.Found as G
 use Rattle.faults.specs.declared.Found.the-variants.{Fine}
 use Rattle.faults.proofs.Uniqueness.{found-unique}
 use Rattle.words.proofs.Uniqueness.{place-unique, apart}
 use Rattle.lists.specs.Lists.{overlaid}
-use Rattle.tails.specs.Lines.{LineRead}
+use Rattle.tails.specs.Lines.{faultIn, LineRead}
 use Rattle.tails.specs.Tails.{TailRead}
+use Rattle.ranges.specs.declared.Bounds.{Bounds}
 use Rattle.tails.specs.declared.TermStep.{TermStep}
 use Rattle.tails.specs.declared.TermStep.the-variants as T
 
@@ -97,30 +98,35 @@ same-step line (T.Stuck p) (T.To y g n) h k e = let z : _≡_ {A = ℕ} 0 1 = cc
 same-step line (T.Stuck p) (T.Stuck q) h k e =
     let t : drop p line ≡ drop q line = cc in ap T.Stuck (place-unique line p q h k t)
 
-module _ (words : List Text) (n : ℕ) (line : Text) (due : Past Line) (before : List ℕ) where
+module _ (words : List Text) (bounds : Bounds) (line : Text) (due : Past Line) (before : List ℕ) where
   abbrev made : Line → Term
-  made l = termFor n (termSaid words l)
+  made l = termFor (bounds .term) (termSaid words l)
+
+  abbrev faults : Line → Found
+  faults = faultIn words bounds
 
   abbrev stores : Line → List ℕ
   stores l = overlaid (termWords (termSaid words l)) before
 
-  line-meets : (after : List ℕ) (r : TermStep) → LineRead words n line due before after r
-      → Meets due made (wordsOfFault words) stores after (termSeen line r) × Inside line r
+  line-meets : (after : List ℕ) (r : TermStep) → LineRead words bounds line due before after r
+      → Meets due made faults stores after (termSeen line r) × Inside line r
   unfolding Meets
   line-meets after (T.To x f t) p = (record { line = p .line; says = p .says; made = p .term; found = p .faults; stored = p .stored }, p .within)
   line-meets after (T.Stuck q) p = (p .says, p .within)
 
-  line-unique : (after₁ after₂ : List ℕ) (r s : TermStep) → LineRead words n line due before after₁ r → LineRead words n line due before after₂ s
+  line-unique : (after₁ after₂ : List ℕ) (r s : TermStep)
+      → LineRead words bounds line due before after₁ r
+      → LineRead words bounds line due before after₂ s
       → (r ≡ s) × ((x : Term) (t : ℕ) → r ≡ T.To x Fine t → after₁ ≡ after₂)
   line-unique after₁ after₂ r s p q =
       let a = line-meets after₁ r p in
       let b = line-meets after₂ s q in
-      let u = seen-unique due made (wordsOfFault words) stores after₁ after₂ (termSeen line r) (termSeen line s) (a .0) (b .0) in
+      let u = seen-unique due made faults stores after₁ after₂ (termSeen line r) (termSeen line s) (a .0) (b .0) in
       (same-step line r s (a .1) (b .1) (u .0), λ x t e. u .1 x (drop t line) (ap (termSeen line) e))
 
 -- the store is settled where there is no fault
-pub tail-unique : (names : List ℕ) (n k : ℕ) (line : Text) (before after₁ after₂ : List ℕ) (r s : TermStep)
-    → TailRead names n k line before after₁ r
-    → TailRead names n k line before after₂ s
+pub tail-unique : (names : List ℕ) (bounds : Bounds) (k : ℕ) (line : Text) (before after₁ after₂ : List ℕ) (r s : TermStep)
+    → TailRead names bounds k line before after₁ r
+    → TailRead names bounds k line before after₂ s
     → (r ≡ s) × ((x : Term) (t : ℕ) → r ≡ T.To x Fine t → after₁ ≡ after₂)
-tail-unique names n k line before after₁ after₂ r s p q = line-unique _ n line _ before after₁ after₂ r s p q
+tail-unique names bounds k line before after₁ after₂ r s p q = line-unique _ bounds line _ before after₁ after₂ r s p q

@@ -7,9 +7,10 @@ use Rattle.meaning.specs.Bytes.{Text}
 use Rattle.meaning.specs.Rounds.{pick}
 use Rattle.slots.specs.Packing.{operatorAt}
 use Rattle.slots.specs.declared.Term.the-variants.{Wrap}
-use Rattle.grammar.specs.Text.{Past, separated}
+use Rattle.grammar.specs.Text.{Past, Placed}
 use Rattle.grammar.specs.Forms as F
-use Rattle.grammar.specs.Forms.{Listed, Parts, WordPair, WordRule, comma, wordList, pair, rule, labelList}
+use Rattle.grammar.specs.Forms.{Listed, Parts, WordPair, WordRule, wordList, pairList, ruleList, labelList}
+use Rattle.faults.specs.declared.Found.{Found}
 use Rattle.lists.specs.declared.Said.{Said}
 use Rattle.lists.specs.declared.ListKind.{ListKind}
 use Rattle.lists.specs.declared.ListKind.the-variants.{Names, Pairs, Rules, Labels}
@@ -31,17 +32,17 @@ listKind Comm = Rules
 listKind Allow = Labels
 
 abbrev pub ContentsOf : WrapKind → Type 0
-ContentsOf Block = List Text
-ContentsOf Hide = List Text
-ContentsOf Rename = List WordPair
-ContentsOf Comm = List WordRule
-ContentsOf Allow = List Parts
+ContentsOf Block = List (Placed Text)
+ContentsOf Hide = List (Placed Text)
+ContentsOf Rename = List (Placed WordPair)
+ContentsOf Comm = List (Placed WordRule)
+ContentsOf Allow = List (Placed Parts)
 
 abbrev pub contents : (w : WrapKind) → Text → Past (ContentsOf w)
 contents Block = wordList
 contents Hide = wordList
-contents Rename = separated comma pair
-contents Comm = separated comma rule
+contents Rename = pairList
+contents Comm = ruleList
 contents Allow = labelList
 
 abbrev pub wrapListed : (w : WrapKind) → ContentsOf w → Listed
@@ -51,6 +52,6 @@ wrapListed Rename ps = F.rename ps
 wrapListed Comm rs = F.comm rs
 wrapListed Allow ls = F.allow ls
 
--- the term of a kind with a list, at its number, with the list's fault
-abbrev pub wrapStep : ℕ → ℕ → ℕ → Said → ℕ → TermStep
-wrapStep k t n said took = T.To (Wrap (operatorAt k (record { at = n; entries = said .first })) t) (said .fault) took
+-- the term of a kind with a list, at its number, with the fault of its line
+abbrev pub wrapStep : ℕ → ℕ → ℕ → Said → Found → ℕ → TermStep
+wrapStep k t n said fault took = T.To (Wrap (operatorAt k (record { at = n; entries = said .first })) t) fault took

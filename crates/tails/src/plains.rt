@@ -7,13 +7,17 @@ ghost use Rattle.table.specs.Terms.{IsPlain, bareTerm};
 ghost use Rattle.grammar.specs.Text.{past, onward, ended, byte, number};
 ghost use Rattle.grammar.specs.Forms.{space, plain, ofName, ofOne, ofTwo};
 ghost use Rattle.words.specs.Steps.{Steps};
-ghost use Rattle.tails.specs.Lines.{Storeless};
+ghost use Rattle.tails.specs.Lines.{Storeless, Unbounded};
+ghost use Rattle.ranges.specs.Ranges.{placesFor};
 ghost use Rattle.tails.specs.Plains.{PlainRead, madeOf, plainTail};
 use crate::TermStep;
-use faults::Found;
 use lists::SaidStep;
 use lists::read_name;
 use lists::said_stuck_at;
+use ranges::Bounds;
+use ranges::Places;
+use ranges::left_at;
+use ranges::range_fault;
 use slots::Term;
 use slots::packing::plain;
 use words::Step;
@@ -21,15 +25,16 @@ use words::literals::sign_at;
 use words::numbers::number_after;
 use words::stuck_at;
 
-// A term with nothing after it.
-fn finish(rest: &[u8], at: usize, x: Term) -> TermStep
+// A term with nothing after it, whose numbers begin at these places.
+fn finish(rest: &[u8], at: usize, x: Term, places: Places, bounds: Bounds) -> TermStep
     requires { ⌜ (at ≤ length (now rest)) × IsPlain x ⌝ }
-    ensures { λ r. ⌜ PlainRead (now (rest .entry)) (onward (ended (drop at (now (rest .entry)))) (λ _ s. past (plain (bareTerm x)) s)) r ⌝ }
+    ensures { λ r. ⌜ PlainRead bounds (now (rest .entry))
+        (onward (ended (drop at (now (rest .entry)))) (λ _ s. past (plain (bareTerm x) (placesFor places)) s)) r ⌝ }
 {
     if !sign_at(rest, at, b'\n') {
         return TermStep::Stuck(at);
     }
-    TermStep::To(x, Found::Fine, at + 1)
+    TermStep::To(x, range_fault(x, places, bounds), at + 1)
 }
 
 // A number after a space, at a place of what is lent; the answer's place is one of that too.
@@ -44,32 +49,44 @@ fn read_operand(rest: &[u8], at: usize) -> Step
     Step::To(n, at + bytes)
 }
 
-// The last number of a line, or the only one. A kind has the same number here, by its word's place, as in the table.
-fn read_last(k: usize, t: usize, rest: &[u8], at: usize) -> TermStep
-    requires { ⌜ at ≤ length (now rest) ⌝ }
-    ensures { λ r. ⌜ PlainRead (now (rest .entry)) (ofOne (madeOf k t) (drop at (now (rest .entry)))) r ⌝ }
+// One number. A kind has the same number here, by its word's place, as in the table.
+fn read_one(k: usize, rest: &[u8], bounds: Bounds) -> TermStep
+    ensures { λ r. ⌜ PlainRead bounds (now (rest .entry)) (ofOne (madeOf k 0) (now (rest .entry))) r ⌝ }
 {
-    let last = read_operand(rest, at);
-    let Step::To(u, next) = last else {
-        return TermStep::Stuck(stuck_at(last));
+    let only = read_operand(rest, 0);
+    let Step::To(t, next) = only else {
+        return TermStep::Stuck(stuck_at(only));
     };
-    finish(rest, next, plain(k, t, u as usize))
+    let from = left_at(rest, 1);
+    let places = Places {
+        first: from,
+        second: from,
+    };
+    finish(rest, next, plain(k, 0, t as usize), places, bounds)
 }
 
 // Two numbers.
-fn read_two(k: usize, rest: &[u8]) -> TermStep
-    ensures { λ r. ⌜ PlainRead (now (rest .entry)) (ofTwo (madeOf k) (now (rest .entry))) r ⌝ }
+fn read_two(k: usize, rest: &[u8], bounds: Bounds) -> TermStep
+    ensures { λ r. ⌜ PlainRead bounds (now (rest .entry)) (ofTwo (madeOf k) (now (rest .entry))) r ⌝ }
 {
-    let first = number_after(rest, b' ');
+    let first = read_operand(rest, 0);
     let Step::To(t, after) = first else {
         return TermStep::Stuck(stuck_at(first));
     };
-    read_last(k, t as usize, rest, after)
+    let second = read_operand(rest, after);
+    let Step::To(u, next) = second else {
+        return TermStep::Stuck(stuck_at(second));
+    };
+    let places = Places {
+        first: left_at(rest, 1),
+        second: left_at(rest, after + 1),
+    };
+    finish(rest, next, plain(k, t as usize, u as usize), places, bounds)
 }
 
 // A name, whose number is the term's.
 fn read_act(rest: &[u8], names: &[u64]) -> TermStep
-    ensures { λ r. ⌜ Storeless (map (nameOf 8) (now (names .entry))) (now (rest .entry)) (ofName (now (rest .entry))) r ⌝ }
+    ensures { λ r. ⌜ Unbounded (map (nameOf 8) (now (names .entry))) (now (rest .entry)) (ofName (now (rest .entry))) r ⌝ }
 {
     if !sign_at(rest, 0, b' ') {
         return TermStep::Stuck(0);
@@ -87,20 +104,24 @@ fn read_act(rest: &[u8], names: &[u64]) -> TermStep
 }
 
 // What follows the word of the kind at a place before those with a list.
-pub fn read_plain(k: usize, rest: &[u8], names: &[u64]) -> TermStep
-    ensures { λ r. ⌜ Storeless (map (nameOf 8) (now (names .entry))) (now (rest .entry)) (plainTail k (now (rest .entry))) r ⌝ }
+pub fn read_plain(k: usize, rest: &[u8], names: &[u64], bounds: Bounds) -> TermStep
+    ensures { λ r. ⌜ Storeless bounds (map (nameOf 8) (now (names .entry))) (now (rest .entry)) (plainTail k (now (rest .entry))) r ⌝ }
 {
+    let nowhere = Places {
+        first: 0,
+        second: 0,
+    };
     if k < 1 {
-        return finish(rest, 0, Term::Delta);
+        return finish(rest, 0, Term::Delta, nowhere, bounds);
     }
     if k < 2 {
-        return finish(rest, 0, Term::Tau);
+        return finish(rest, 0, Term::Tau, nowhere, bounds);
     }
     if k < 3 {
         return read_act(rest, names);
     }
     if k < 6 {
-        return read_last(k, 0, rest, 0);
+        return read_one(k, rest, bounds);
     }
-    read_two(k, rest)
+    read_two(k, rest, bounds)
 }

@@ -5,14 +5,21 @@ ghost use mathlib.Core.List.{map};
 ghost use lib.ListN.{length};
 ghost use Rattle.table.specs.Decoded.{nameOf};
 ghost use Rattle.grammar.specs.Forms.{ofList};
+ghost use Rattle.grammar.specs.Faults.{worse, numberFault};
+ghost use Rattle.faults.specs.CodedFaults.{foundOf};
 ghost use Rattle.tails.specs.Lines.{LineRead};
 ghost use Rattle.tails.specs.Wraps.{wrapOf, listKind, contents, wrapListed, wrapStep};
 use crate::TermStep;
+use faults::Found;
+use faults::worse_of;
 use lists::ListKind;
 use lists::Said;
 use lists::SaidStep;
 use lists::read_whole;
 use lists::said_stuck_at;
+use ranges::Bounds;
+use ranges::left_at;
+use ranges::number_fault;
 use slots::Place;
 use slots::Term;
 use slots::packing::operator;
@@ -34,23 +41,36 @@ fn list_kind(k: usize) -> ListKind
     }
 }
 
+// The fault of a list and of an operand, which begins at this place.
+fn joined(said: Said, t: usize, n: usize, from: usize) -> Found
+    ensures { λ r. ⌜ foundOf r ≡ worse (foundOf (said .fault)) (numberFault n t from) ⌝ }
+{
+    let listed = said.fault;
+    worse_of(listed, number_fault(t, n, from))
+}
+
 // The term of a kind with a list, at its number, which is the list's too.
-fn wrapped(k: usize, t: usize, n: usize, said: Said, took: usize) -> TermStep
-    ensures { λ r. ⌜ r ≡ wrapStep k t n said took ⌝ }
+fn wrapped(k: usize, t: usize, n: usize, said: Said, fault: Found, took: usize) -> TermStep
+    ensures { λ r. ⌜ r ≡ wrapStep k t n said fault took ⌝ }
 {
     let place = Place {
         at: n,
         entries: said.first as usize,
     };
-    let fault = said.fault;
     let with_list = operator(k, place);
     TermStep::To(Term::Wrap(with_list, t), fault, took)
 }
 
 // What follows the word of a kind with a list.
-pub fn read_wrap(k: usize, rest: &[u8], names: &[u64], n: usize, store: &mut [u64]) -> TermStep
+pub fn read_wrap(
+    k: usize,
+    rest: &[u8],
+    names: &[u64],
+    bounds: Bounds,
+    store: &mut [u64],
+) -> TermStep
     requires { ⌜ length (now names) ≤ 12 ⌝ }
-    ensures { λ r. ⌜ LineRead (map (nameOf 8) (now (names .entry))) n (now (rest .entry))
+    ensures { λ r. ⌜ LineRead (map (nameOf 8) (now (names .entry))) bounds (now (rest .entry))
         (ofList (contents (wrapOf k)) (wrapListed (wrapOf k)) (now (rest .entry))) (now (store .entry)) (now (store .exit)) r ⌝ }
 {
     let operand = number_after(rest, b' ');
@@ -70,5 +90,7 @@ pub fn read_wrap(k: usize, rest: &[u8], names: &[u64], n: usize, store: &mut [u6
     if !sign_at(rest, next, b'\n') {
         return TermStep::Stuck(next);
     }
-    wrapped(k, t as usize, n, said, next + 1)
+    let n = bounds.term;
+    let fault = joined(said, t as usize, n, left_at(rest, 1));
+    wrapped(k, t as usize, n, said, fault, next + 1)
 }

@@ -19,10 +19,10 @@ use Rattle.tally_verdicts.specs.Verdicts.{counted}
 refusal-given : (r : Refusal) → given (counted (refused r)) ≡ true
 unfolding given refusalGiven among
 refusal-given tooLong = refl
-refusal-given (inLine form line) = refl
-refusal-given (inLine name line) = refl
-refusal-given (inLine range line) = refl
-refusal-given (inLine amount line) = refl
+refusal-given (inLine form line column) = refl
+refusal-given (inLine name line column) = refl
+refusal-given (inLine range line column) = refl
+refusal-given (inLine amount line column) = refl
 refusal-given large = refl
 
 -- An answer is that of a description within the limits: it lists few labels, and its rounds have an end.

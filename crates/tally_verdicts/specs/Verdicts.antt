@@ -1,4 +1,4 @@
--- What is counted of what a call says: all but the line.
+-- What is counted of what a call says: all but the line and the column.
 -- Assumes nothing.
 use Rattle.meaning.specs.Answers as A
 use Rattle.tally.specs.declared.Verdict.{Verdict}

@@ -19,7 +19,7 @@ fn refusal(reason: usize) -> Verdict
     }
 }
 
-// What is counted of an answer. The line that is to blame is not: a tally has no place for it.
+// What is counted of an answer. The line and the column that are to blame are not: a tally has no place for them.
 pub fn counted_of(said: Answer) -> Verdict
     ensures { λ r. ⌜ r ≡ counted (verdictFor said) ⌝ }
 {
@@ -30,7 +30,10 @@ pub fn counted_of(said: Answer) -> Verdict
             labels,
         },
         Answer::TooLong => refusal(TOO_LONG),
-        Answer::Bad(fault, _) => refusal(number_of(fault)),
+        Answer::Bad(flaw, _) => {
+            let fault = flaw.fault;
+            refusal(number_of(fault))
+        }
         Answer::TooLarge => refusal(TOO_LARGE),
     }
 }

@@ -12,17 +12,19 @@ use Rattle.table.specs.Decoded.{nameOf}
 use Rattle.table.specs.Encoded.{slotOf, termWords}
 use Rattle.table.specs.Holding.{namesIn}
 use Rattle.words.proofs.Steps.{restAt}
-use Rattle.grammar.specs.Reading.{takeTerm, oneLine}
-use Rattle.faults.specs.declared.Fault as F
+use Rattle.grammar.specs.Reading.{takeTerm, atFirst, oneLine}
+use Rattle.faults.specs.CodedFaults.{flawOf}
+use Rattle.faults.specs.declared.Flaw as F
 use Rattle.keyed.specs.declared.Progress.{Progress}
 use Rattle.keyed.specs.declared.Progress.the-variants.{To, Bad}
 use Rattle.keyed.proofs.Sequences.{lines-halt}
 use Rattle.sections.specs.Laying.{laidAt, listsOver}
 use Rattle.sections.specs.Sections.{Comes, Section, Within}
-use Rattle.termlines.specs.Terms.{TermLeft, TermRead, TermsRead}
+use Rattle.termlines.specs.Terms.{TermLeft, TermRead, TermsRead, TermsRefused}
 use Rattle.sections.proofs.Laid.{part-put-back, drop-put-back, lists-more}
 use Rattle.sections.proofs.Places.{names-after-terms}
 use Rattle.sections.proofs.Lent.{rest-within}
+use Rattle.sections.proofs.Given.{bad-first}
 use Rattle.sections.proofs.LaidLines.{within-same, within-both, SoFar, so-far-start, so-far-within, so-far-long, so-far-step, so-far-end, all-counted}
 
 -- The words of a term's list, as they are lent, and the lists with those put back.
@@ -93,7 +95,7 @@ module _ {text : Text} {line equations count : ℕ} {before store table lists : 
           (TermLeft (s .read) (own n lists) after) r
       said = rw same-names at (t .came (s .read) (sym (s .lines .counted)))
 
-      pub terms-halt : {f : F.Fault} {l : ℕ} → r ≡ Bad f l → TermsRead text line equations count before store table (withOwn n after lists) r
+      pub terms-halt : {f : F.Flaw} {l : ℕ} → r ≡ Bad f l → TermsRead text line equations count before store table (withOwn n after lists) r
       terms-halt e =
           let q = rw e at said in
           rw e (record { tabled = tabled; listing = terms-stored; came = λ words w. rw (← w) (lines-halt (s .lines .onto) more q) })
@@ -133,3 +135,7 @@ module _ {text : Text} {line equations count : ℕ} {before store table lists : 
               let n = all-counted (s .lines) even h in
               rw (← w) (so-far-end (s .lines) even h (record { plain = refl; counted = n; laid = s .lines .laid; listed = s .listed }));
         }
+
+-- None is read where there is no room for all.
+pub terms-refused : {line : ℕ} {table lists : List ℕ} {f : F.Flaw} → flawOf f ≡ atFirst → TermsRefused line table lists table lists (Bad f line)
+terms-refused e = record { answered = bad-first e; tabled = refl; listing = refl }

@@ -2,7 +2,7 @@
 -- Assumes nothing.
 use mathlib.Core.Path.{_≡_, refl, sym, ap, _∙_}
 use mathlib.Core.List.{List, [], _∷_, _++_, map}
-use Prim.Native.Nat.{ℕ, _≤_}
+use Prim.Native.Nat.{ℕ, _-_, _≤_}
 use lib.ListN.{length, drop, length-map}
 use Rattle.meaning.specs.Bytes.{Text}
 use Rattle.meaning.specs.Descriptions as D
@@ -11,22 +11,23 @@ use Rattle.slots.specs.declared.Term.{Term}
 use Rattle.slots.specs.Packing.{termWord}
 use Rattle.table.specs.Decoded.{nameOf}
 use Rattle.table.specs.Encoded.{termFor, slotOf}
-use Rattle.grammar.specs.Text.{Past, stuck}
+use Rattle.grammar.specs.Text.{stuck}
 use Rattle.grammar.specs.Forms.{Line, termLine}
 use Rattle.grammar.specs.Faults.{termSaid, termFault}
-use Rattle.grammar.specs.Reading.{Taken, taken, faulty, takenUnless, formed, takeTerm, afterLine}
-use Rattle.faults.specs.CodedFaults.{faultOf}
+use Rattle.grammar.specs.Reading.{Taken, taken, faulty, takenUnless, formed, takeTerm, flawIn, afterLine}
+use Rattle.faults.specs.CodedFaults.{faultOf, flawOf}
 use Rattle.faults.specs.declared.Fault as F
-use Rattle.faults.specs.declared.Fault.the-variants.{Form}
+use Rattle.faults.specs.declared.Flaw.{Flaw}
 use Rattle.faults.specs.declared.Found as G
 use Rattle.faults.specs.declared.Found.the-variants.{Fine, Faulty}
 use Rattle.tails.specs.declared.TermStep.{TermStep}
 use Rattle.tails.specs.declared.TermStep.the-variants as T
 use Rattle.tails.proofs.Room.{room}
-use Rattle.forms.specs.Terms.{TermTaken, TermAnswer}
+use Rattle.forms.specs.Terms.{termPlace, TermTaken, TermAnswer}
 use Rattle.forms.specs.Terms as S
 use Rattle.keyed.specs.declared.Progress.the-variants.{To, Bad}
-use Rattle.keyed.proofs.LineFaults.{found-fine, taken-fine, taken-faulty}
+use Rattle.keyed.proofs.Walks.{line-bad}
+use Rattle.keyed.proofs.LineFaults.{formed-stuck, found-fine, taken-fine, taken-faulty}
 use Rattle.termlines.specs.Terms.{TermRead}
 use Rattle.sections.proofs.ListLengths.{list-fits}
 
@@ -55,24 +56,23 @@ same-word n (D.wrap o t) = same-operator n t o
 
 -- What a line makes of the terms before it.
 module _ (words : List Text) (equations : ℕ) (terms : List D.Term) (text : Text) where
-  abbrev then-term : Past Line → Taken (List D.Term)
-  then-term d = formed d (λ x. takenUnless (termFault words equations (length terms) x) (terms ++ (termSaid words x ∷ [])))
+  abbrev then-term : Line → Text → Taken (List D.Term)
+  then-term x = takenUnless (termFault words equations (length terms) x) (terms ++ (termSaid words x ∷ []))
 
-  term-stuck : {t : Text} → stuck t ≡ termLine text → faulty form ≡ takeTerm words equations terms text
+  term-stuck : (p : ℕ) → stuck (drop p text) ≡ termLine text → faulty form (length text - p) ≡ takeTerm words equations terms text
   unfolding takeTerm
-  term-stuck q = ap then-term q
+  term-stuck p q = formed-stuck then-term text p q
 
   module _ {before after : List ℕ} {x : Term} {f : G.Found} {took : ℕ}
       (k : TermTaken words equations (length terms) text (termLine text) before after x f took) where
-    term-line : takenUnless (termFault words equations (length terms) (k .line)) (terms ++ (termSaid words (k .line) ∷ [])) (drop took text)
-        ≡ takeTerm words equations terms text
+    term-line : then-term (k .line) (drop took text) ≡ takeTerm words equations terms text
     unfolding takeTerm
-    term-line = ap then-term (k .says)
+    term-line = ap (λ d. formed d then-term) (k .says)
 
     term-fine : f ≡ Fine → taken (terms ++ (termSaid words (k .line) ∷ [])) (drop took text) ≡ takeTerm words equations terms text
     term-fine e = taken-fine (k .faults) (terms ++ (termSaid words (k .line) ∷ [])) (drop took text) term-line e
 
-    term-faulty : {g : F.Fault} → f ≡ Faulty g → faulty (faultOf g) ≡ takeTerm words equations terms text
+    term-faulty : {g : F.Fault} {from : ℕ} → f ≡ Faulty g from → faulty (faultOf g) from ≡ takeTerm words equations terms text
     term-faulty e = taken-faulty (k .faults) (terms ++ (termSaid words (k .line) ∷ [])) (drop took text) term-line e
 
 -- The line by what its reader came to.
@@ -84,10 +84,12 @@ module _ (text : Text) (line : ℕ) (names : List ℕ) (equations n : ℕ) (befo
   answer : S.TermRead words equations n text (termLine text) before after s
   answer = rw (← room names few (termLine text) text) at r
 
-  pub line-stuck : {p : ℕ} → s ≡ T.Stuck p → TermRead text line names equations n before after (Bad Form line)
-  line-stuck e =
-      let k = rw e at answer in
-      record { long = k .1; came = λ terms counted. ap (afterLine line) (term-stuck words equations terms text (k .0)) }
+  pub line-stuck : {p at : ℕ} {w : Flaw} → s ≡ T.Stuck p → at ≡ termPlace s → flawOf w ≡ flawIn text form (length text - at)
+      → TermRead text line names equations n before after (Bad w line)
+  line-stuck {at = at} e q f =
+      let there : s ≡ T.Stuck at = e ∙ ap T.Stuck (sym (q ∙ ap termPlace e)) in
+      let k = rw there at answer in
+      record { long = k .1; came = λ terms counted. line-bad line text f (term-stuck words equations terms text at (k .0)) }
 
   module _ {x : Term} {f : G.Found} {took : ℕ} (e : s ≡ T.To x f took) where
     answered : TermTaken words equations n text (termLine text) before after x f took
@@ -97,11 +99,12 @@ module _ (text : Text) (line : ℕ) (names : List ℕ) (equations n : ℕ) (befo
     after-terms : (terms : List D.Term) → n ≡ length terms → TermTaken words equations (length terms) text (termLine text) before after x f took
     after-terms terms counted = rw counted at answered
 
-    pub line-faulty : {g : F.Fault} → f ≡ Faulty g → TermRead text line names equations n before after (Bad g line)
-    line-faulty b =
+    pub line-faulty : {g : F.Fault} {from : ℕ} {w : Flaw} → f ≡ Faulty g from → flawOf w ≡ flawIn text (faultOf g) from
+        → TermRead text line names equations n before after (Bad w line)
+    line-faulty b q =
         record {
           long = answered .long;
-          came = λ terms counted. ap (afterLine line) (term-faulty words equations terms text (after-terms terms counted) b);
+          came = λ terms counted. line-bad line text q (term-faulty words equations terms text (after-terms terms counted) b);
         }
 
     pub line-fine : {w : ℕ} → f ≡ Fine → w ≡ termWord x → TermRead text line names equations n before after (To w took)
@@ -114,7 +117,7 @@ module _ (text : Text) (line : ℕ) (names : List ℕ) (equations n : ℕ) (befo
               let clear = sym (found-fine (k .faults) b) in
               record {
                 read = terms ++ (said ∷ []);
-                says = ap (afterLine line) (term-fine words equations terms text k b);
+                says = ap (afterLine line text) (term-fine words equations terms text k b);
                 within = k .within;
                 left = record {
                   term = said;

@@ -10,8 +10,8 @@ use Rattle.table.specs.Decoded.{nameOf}
 use Rattle.table.specs.Encoded.{slotOf, termWords}
 use Rattle.table.specs.Holding.{namesIn}
 use Rattle.lists.specs.Lists.{overlaid}
-use Rattle.grammar.specs.Reading.{takeTerm, oneLine, lines}
-use Rattle.faults.specs.declared.Fault.the-variants.{Form}
+use Rattle.grammar.specs.Reading.{takeTerm, atFirst, oneLine, lines}
+use Rattle.faults.specs.CodedFaults.{flawFor}
 use Rattle.keyed.specs.declared.Progress.{Progress}
 use Rattle.keyed.specs.declared.Progress.the-variants.{Bad}
 use Rattle.sections.specs.Laying.{withTerms, listsOver}
@@ -50,7 +50,7 @@ TermsRoom line count table lists = (line ≤ 16) × (count ≤ 96) × (128 ≤ l
 
 -- Else all is refused as if the first line were bad, and the areas stay as they were.
 pub record TermsRefused (line : ℕ) (table lists table′ lists′ : List ℕ) (r : Progress) : Type 0 where
-  pub answered : r ≡ Bad Form line
+  pub answered : r ≡ Bad (flawFor atFirst) line
   pub tabled : table′ ≡ table
   pub listing : lists′ ≡ lists
 

@@ -4,7 +4,11 @@ ghost use lib.ListN.{length};
 ghost use Rattle.termlines.specs.Terms.{TermRead, TermsRoom, TermsRead, TermsGiven};
 use faults::Fault;
 use faults::Found;
+use faults::first_flaw;
+use faults::flaw_after;
+use faults::flaw_in;
 use forms::terms::read_term;
+use forms::terms::term_stuck_at;
 use keyed::Progress;
 use slots::packing::pack;
 use table::LIST_WORDS;
@@ -31,10 +35,10 @@ fn take_term(
 {
     let step = read_term(text, names, equations, n, list);
     let TermStep::To(term, found, took) = step else {
-        return Progress::Bad(Fault::Form, line);
+        return Progress::Bad(flaw_after(text, Fault::Form, term_stuck_at(step)), line);
     };
-    if let Found::Faulty(f) = found {
-        return Progress::Bad(f, line);
+    if let Found::Faulty(f, from) = found {
+        return Progress::Bad(flaw_in(text, f, from), line);
     }
     Progress::To(pack(term), took)
 }
@@ -89,16 +93,16 @@ pub fn read_terms(
         (now (table .exit)) (now (lists .exit)) r ⌝ }
 {
     if FIRST_LINE < line {
-        return Progress::Bad(Fault::Form, line);
+        return Progress::Bad(first_flaw(), line);
     }
     if TERMS < count {
-        return Progress::Bad(Fault::Form, line);
+        return Progress::Bad(first_flaw(), line);
     }
     if table.len() < TABLE_WORDS {
-        return Progress::Bad(Fault::Form, line);
+        return Progress::Bad(first_flaw(), line);
     }
     if lists.len() / LIST_WORDS < count {
-        return Progress::Bad(Fault::Form, line);
+        return Progress::Bad(first_flaw(), line);
     }
     take_terms(text, line, equations, count, table, lists)
 }

@@ -89,11 +89,6 @@ become e s = rw e at s
 pub arrived : {A : Type 0} {line : Text} {at : ℕ} (a : A) → at ≤ length line → Stands line at (past a (drop at line)) (past a (drop at line))
 arrived a h = record { says = refl; within = h }
 
--- two steps in one
-pub onward-assoc : {A B C : Type 0} (x : Past A) (f : A → Text → Past B) (g : B → Text → Past C) → onward (onward x f) g ≡ onward x (λ a r. onward (f a r) g)
-onward-assoc (past a r) f g = refl
-onward-assoc (stuck r) f g = refl
-
 -- What was read, back from what it says.
 abbrev pub textIn : {A : Type 0} → Past A → Text
 textIn (past a r) = r

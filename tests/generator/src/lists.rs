@@ -41,6 +41,25 @@ pub fn difference(whole: &Label, part: &Label) -> Option<Label> {
     whole.iter().zip(part).map(|(a, b)| a.checked_sub(*b)).collect()
 }
 
+/// The entries of a long list of this kind: as many labels or rules, a name or a
+/// pair for each name.
+pub fn entries(
+    random: &mut Random,
+    kind: &str,
+    names: &[String],
+    labels: usize,
+    rules: usize,
+) -> Vec<String> {
+    let lists = Lists::new(names, &[]);
+    let split = |list: String| list.split(',').map(String::from).collect();
+    match kind {
+        "allow" | "order" => split(lists.many_labels(random, labels)),
+        "comm" => split(lists.many_rules(random, rules)),
+        "rename" => names.iter().map(|name| format!("{}>{}", name, random.pick(names))).collect(),
+        _ => names.to_vec(),
+    }
+}
+
 /// Writes lists over some names, with labels that matter more than others.
 pub struct Lists<'a> {
     names: &'a [String],

@@ -4,7 +4,9 @@
 //! `--seed N` gives others, `--size PERCENT` more or fewer. `--classes FILE`
 //! writes the class of each record, in the same order, into a file.
 
+mod columns;
 mod communication;
+mod cut_lines;
 mod draft;
 mod exact_kinds;
 mod fault_pairs;
@@ -52,12 +54,16 @@ const CLASSES: &[Class] = &[
     ("counts", reading_limits::counts, 1_500),
     ("list-lengths", reading_limits::list_lengths, 8_000),
     ("long-labels", reading_limits::long_labels, 2_000),
+    ("columns", columns::record, 8_000),
     ("slips", slips::record, 60_000),
     ("soups", soups::record, 15_000),
 ];
 
-const WHOLE_CLASSES: &[WholeClass] =
-    &[("fault-pairs", fault_pairs::records), ("token-strings", token_strings::records)];
+const WHOLE_CLASSES: &[WholeClass] = &[
+    ("cut-lines", cut_lines::records),
+    ("fault-pairs", fault_pairs::records),
+    ("token-strings", token_strings::records),
+];
 
 const DEFAULT_SEED: u64 = 1_516;
 

@@ -104,12 +104,7 @@ pub fn list_lengths(random: &mut Random) -> Vec<u8> {
     let top = draft.root;
     let kind = random.pick(&["allow", "order", "comm", "block", "hide", "rename"]);
     let names = draft.names.clone();
-    let mut entries: Vec<String> = match kind {
-        "allow" | "order" => split(&Lists::new(&names, &[]).many_labels(random, 34)),
-        "comm" => split(&Lists::new(&names, &[]).many_rules(random, 10)),
-        "rename" => names.iter().map(|name| format!("{}>{}", name, random.pick(&names))).collect(),
-        _ => names,
-    };
+    let mut entries = lists::entries(random, kind, &names, 34, 10);
     let most = entries.len();
     entries.truncate(most - random.below(5.min(most)));
     if random.chance(50) {
@@ -170,8 +165,4 @@ fn some_sets(random: &mut Random) -> Draft {
     let both = draft.two("merge", first, second);
     draft.two("merge", both, first);
     draft
-}
-
-fn split(list: &str) -> Vec<String> {
-    list.split(',').map(String::from).collect()
 }

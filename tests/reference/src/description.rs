@@ -1,10 +1,18 @@
 //! A description as it is written, and what it may be refused with.
 
-/// A refusal: its number, and the line it is given for (0 for none).
+/// A refusal: its number, the line it is given for, and the column of that line
+/// where the fault begins (0 and 0 where it is given for no line).
 #[derive(Clone, Copy, Debug, PartialEq, Eq)]
 pub struct Refusal {
     pub reason: u8,
     pub line: usize,
+    pub column: usize,
+}
+
+impl Refusal {
+    pub fn of_no_line(reason: u8) -> Refusal {
+        Refusal { reason, line: 0, column: 0 }
+    }
 }
 
 /// A label as written: names with counts, in the order they stand in.

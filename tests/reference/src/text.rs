@@ -31,7 +31,7 @@ pub fn worked_out(input: &[u8]) -> Result<(Description, Outcome), Refusal> {
     let description = reading::read(input)?;
     match rounds::work_out(&description) {
         Ok(outcome) => Ok((description, outcome)),
-        Err(_too_large) => Err(Refusal { reason: 7, line: 0 }),
+        Err(_too_large) => Err(Refusal::of_no_line(7)),
     }
 }
 
@@ -54,7 +54,8 @@ fn lines_of<'a>(names: &[String], labels: impl Iterator<Item = &'a Bag>) -> Stri
 }
 
 fn refused(refusal: Refusal) -> String {
-    format!("answer=refused\nreason={}\nline={}\n", refusal.reason, refusal.line)
+    let Refusal { reason, line, column } = refusal;
+    format!("answer=refused\nreason={}\nline={}\ncolumn={}\n", reason, line, column)
 }
 
 fn label_text(names: &[String], label: &Bag) -> String {

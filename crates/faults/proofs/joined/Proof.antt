@@ -15,10 +15,12 @@ returns c =
     rw (c .before .if1 .taken, c .if2 .taken) (h ∙ sym (worse-fine _))
 
 -- one of the tests failed
-amounts : (c : tie.Joined1) → let a = c .before .before .args in fault amount ≡ worse (unless (a .ordered) amount) (unless (a .within) amount)
+amounts : (c : tie.Joined1)
+    → let a = c .before .before .args in
+    fault amount (a .from) ≡ worse (unless (a .ordered) amount (a .from)) (unless (a .within) amount (a .from))
 amounts c =
     let a = c .before .before .args in
-    ⊎-elim (λ w. rw (w .1 .left) (second-fails (a .ordered))) (λ w. rw (w .left) (first-fails (a .within))) (c .if1 .came)
+    ⊎-elim (λ w. rw (w .1 .left) (second-fails (a .ordered) (a .from))) (λ w. rw (w .left) (first-fails (a .within) (a .from))) (c .if1 .came)
 
 returns-2 : tie.Need-returns-2
 returns-2 c = c .worse-of2 .ensures ∙ ap₂ worse (c .before .before .worse-of .ensures) (amounts (c .before))

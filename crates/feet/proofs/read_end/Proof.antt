@@ -1,12 +1,13 @@
 -- `feet::read_end` meets its contract: the bodies and the root, and the order, where there is room.
 -- Assumes nothing.
 use borrow.Author.Needs.{needs}
-use mathlib.Core.Path.{refl}
+use mathlib.Core.Path.{refl, ap}
 use native.Mathlib.Omega.{arith}
 use lib.ListN.{length}
 use Rattle.faults.proofs.Calls.{asks-nothing}
 use Rattle.words.proofs.Steps.{rest-drop}
-use Rattle.sections.proofs.Given.{given-roomy, given-narrow, room-told, no-room-told}
+use Rattle.table.specs.declared.Order.the-variants.{All}
+use Rattle.sections.proofs.Given.{given-roomy, given-narrow, bad-first, room-told, no-room-told}
 use Rattle.feet.specs.Ends.{EndRoom}
 use Rattle.feet.proofs.EndLines.{foot-refused, foot-taken, end-read}
 use Rattle.feet.proofs.read_end.Statement.{statement}
@@ -14,8 +15,9 @@ use Rattle.feet.proofs.read_end.Tie as tie
 
 returns : tie.Need-returns
 returns c =
-    given-narrow (no-room-told (c .before .has-room .result) (c .if1 .taken) (c .before .has-room .ensures))
-    (record { answered = refl; tabled = refl; ordered = refl })
+    let none = c .before in
+    given-narrow (no-room-told (none .before .has-room .result) (none .if1 .taken) (none .before .has-room .ensures))
+    (record { answered = ap (λ p. record { progress = p; order = All }) (bad-first (c .first-flaw .ensures)); tabled = refl; ordered = refl })
 
 read-foot-requires : tie.Need-read-foot-requires
 read-foot-requires c κs = room-told (c .before .before .has-room .result) (c .before .if1 .left) (c .before .before .has-room .ensures)
@@ -83,5 +85,5 @@ returns-3 c =
 pub read-end-spec : {M : Type 1} → statement M
 read-end-spec =
     tie.close
-    (tie.spec asks-nothing returns read-foot-requires enum-known-foot enum-told same-length returns-2 sub-take-order part-take-order-start
+    (tie.spec asks-nothing asks-nothing returns read-foot-requires enum-known-foot enum-told same-length returns-2 sub-take-order part-take-order-start
     part-take-order-end add-take-order add-take-order-2 asks-nothing asks-nothing same-length-2 same-length-3 returns-3)

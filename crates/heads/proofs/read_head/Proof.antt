@@ -3,14 +3,14 @@
 use mathlib.Core.Path.{refl, _∙_}
 use native.Mathlib.Omega.{arith}
 use Rattle.faults.proofs.Calls.{asks-nothing}
-use Rattle.sections.proofs.Given.{given-roomy, given-narrow}
+use Rattle.sections.proofs.Given.{given-roomy, given-narrow, bad-first}
 use Rattle.heads.proofs.HeadLines.{head-bad, head-few, head-within, head-names-bad, head-names-within}
 use Rattle.heads.proofs.HeadLines.{head-counts-bad, head-counts-within, head-end}
 use Rattle.heads.proofs.read_head.Statement.{statement}
 use Rattle.heads.proofs.read_head.Tie as tie
 
 returns : tie.Need-returns
-returns c = given-narrow (λ long. omega (arith, c .if1 .taken)) (refl, refl)
+returns c = given-narrow (λ long. omega (arith, c .before .if1 .taken)) (bad-first (c .first-flaw .ensures), refl)
 
 slice-aggregate-take-number : tie.Need-slice-aggregate-take-number
 slice-aggregate-take-number c = refl
@@ -147,6 +147,6 @@ returns-5 c =
 pub read-head-spec : {M : Type 1} → statement M
 read-head-spec =
     tie.close
-    (tie.spec returns slice-aggregate-take-number asks-nothing enum-known-given enum-told returns-2 sub-read-names part-read-names-start part-read-names-end
-    read-names-requires enum-known-names enum-told-2 same-length returns-3 add-next sub-read-counts part-read-counts-start part-read-counts-end
-    read-counts-requires enum-known-counts enum-told-3 same-length-2 returns-4 add-t14 same-length-3 returns-5)
+    (tie.spec asks-nothing returns slice-aggregate-take-number asks-nothing enum-known-given enum-told returns-2 sub-read-names part-read-names-start
+    part-read-names-end read-names-requires enum-known-names enum-told-2 same-length returns-3 add-next sub-read-counts part-read-counts-start
+    part-read-counts-end read-counts-requires enum-known-counts enum-told-3 same-length-2 returns-4 add-t14 same-length-3 returns-5)

@@ -7,7 +7,7 @@ use mathlib.Core.List.{List, [], _∷_, _++_, map}
 use Prim.Native.Nat.{_+_, _-_, _≤_, _<_, _^_}
 use native.Mathlib.Omega.{arith}
 use borrow.Author.Tests.{not-true, not-false}
-use lib.ListN.{length, drop, length-map}
+use lib.ListN.{length, drop, length-drop, length-map}
 use Rattle.table.specs.Decoded.{nameOf}
 use Rattle.grammar.specs.Text.{past}
 use Rattle.grammar.specs.Forms.{comma}
@@ -30,7 +30,8 @@ use Rattle.lists.proofs.read_list.Tie as tie
 -- Some entries were read; the tally, the count and the store are theirs. (Each took two bytes at least, with its comma.)
 abbrev Inv-loop : tie.InvT-loop
 Inv-loop kind rest names store₀ shape tally₀ entries₀ index₀ from₀ starts₀ store tally entries index from starts =
-    (es : List Said) × Progress comma (entryOf (map (nameOf 8) names) kind) rest from es × Tallied (λ e. weightFor kind) (limitFor kind) es tally
+    (es : List Said) × Progress comma (entryOf (map (nameOf 8) names) kind) rest from es
+    × Tallied (λ e. weightFor kind) (λ e. e .from) (limitFor kind) es tally
     × Filled kind store₀ es entries index store × (entries ≤ from) × (shape .size ≡ wordCount kind) × (shape .weight ≡ weightFor kind)
     × (shape .limit ≡ limitFor kind) × Starting names starts
 
@@ -50,7 +51,7 @@ entry l = l .before .before .before .before .before .before
 loop-holds : tie.Need-loop-holds Inv-loop μ-loop
 loop-holds c =
     let shape = c .before .shape-of .ensures in
-    ([], begun _ _ _, tallied-none _ _ (c .empty-tally .ensures), filled-none _ _, omega arith, shape .0, shape .1, shape .2, starts-alike _ 0)
+    ([], begun _ _ _, tallied-none _ _ _ (c .empty-tally .ensures), filled-none _ _, omega arith, shape .0, shape .1, shape .2, starts-alike _ 0)
 
 starts-of-requires : tie.Need-starts-of-requires Inv-loop μ-loop
 starts-of-requires c κs = entry (c .before) .pre
@@ -93,30 +94,31 @@ returns c =
     (said-stays-on (entryOf (map (nameOf 8) (a .names .now)) (a .kind)) (a .rest .now) (loop .from) (loop .inv .1 .within)
     (read .read-entry .ensures)
     (said-stuck-there (c .before .enum-told .given .1) (c .said-stuck-at .ensures))) in
-    record { read = record { stands = stuck-with (listEntry (a .kind)) s }; stored = λ es p h. absurd (not-read (s .says) h) }
+    record { read = record { stands = stuck-with (listEntry (length (a .rest .now)) (a .kind)) s }; stored = λ es p h. absurd (not-read (s .says) h) }
 
 add-t27 : tie.Need-add-t27 Inv-loop μ-loop
 add-t27 c = let s = returns c .read .stands .within in omega arith
 
--- the entry that was read, in the line
+-- what the entry that was read says, and where it stands in the line
+abbrev told : tie.After-known-told Inv-loop μ-loop → Said
+told c = saidOf (length (drop (turn c .loop .from) (entry (turn c) .args .rest .now))) (c .before .entry .given .0 .0)
+
 went : (c : tie.After-known-told Inv-loop μ-loop)
-    → let read = c .before .before .before in
-    let from = read .before .before .before .before .loop .from in
-    let a = entry (read .before .before .before .before) .args in
+    → let from = turn c .loop .from in
+    let a = entry (turn c) .args in
     let next = from + c .before .entry .given .0 .1 .0 in
-    Stands (a .rest .now) next (past (saidOf (c .before .entry .given .0 .0)) (drop next (a .rest .now)))
-    (entryOf (map (nameOf 8) (a .names .now)) (a .kind) (drop from (a .rest .now)))
+    Stands (a .rest .now) next (past (told c) (drop next (a .rest .now))) (entryOf (map (nameOf 8) (a .names .now)) (a .kind) (drop from (a .rest .now)))
 went c =
-    let read = c .before .before .before in
-    let loop = read .before .before .before .before .loop in
-    let start = entry (read .before .before .before .before) in
-    let a = start .args in
+    let loop = turn c .loop in
+    let a = entry (turn c) .args in
     said-went-on (entryOf (map (nameOf 8) (a .names .now)) (a .kind)) (a .rest .now) (loop .from) (loop .inv .1 .within)
-    (read .read-entry .ensures)
-    (c .before .entry .given .1)
+    (c .before .before .before .read-entry .ensures) (c .before .entry .given .1)
 
 add-next : tie.Need-add-next Inv-loop μ-loop
 add-next c = let s = went c .within in omega arith
+
+sub-counted : tie.Need-sub-counted Inv-loop μ-loop
+sub-counted c = omega (arith, went c .within)
 
 entered : (c : tie.After-known-told Inv-loop μ-loop)
     → let e = c .before .entry .given .0 .0 in
@@ -132,16 +134,16 @@ entry-word-requires c κs = entered (c .before) .1
 tallied : (c : tie.After-counted Inv-loop μ-loop)
     → let l = turn (c .before) in
     let kind = entry l .args .kind in
-    Tallied (λ e. weightFor kind) (limitFor kind) (l .loop .inv .0 ++ (saidOf (c .before .before .entry .given .0 .0) ∷ [])) (c .counted .result)
+    Tallied (λ e. weightFor kind) (λ e. e .from) (limitFor kind) (l .loop .inv .0 ++ (told (c .before) ∷ [])) (c .counted .result)
 tallied c =
     let l = turn (c .before) in
     let kind = entry l .args .kind in
     let i = l .loop .inv in
     let w = weight-most kind in
     let m = limit-most kind in
-    tallied-more (λ e. weightFor kind) (limitFor kind) (saidOf (c .before .before .entry .given .0 .0)) (i .2)
+    tallied-more (λ e. weightFor kind) (λ e. e .from) (limitFor kind) (told (c .before)) (i .2)
     (record { keys = entered (c .before) .0; totals = omega (arith, i .2 .totals); weights = omega arith; limits = omega arith })
-    (counted-as (i .6) (i .7) (c .counted .ensures))
+    (counted-as (i .6) (i .7) (sym (length-drop (l .loop .from) (entry l .args .rest .now))) (c .counted .ensures))
 
 -- There are fewer entries before this one than bytes, so that twice as many words can be counted.
 counts : (c : tie.After-known-told Inv-loop μ-loop)
@@ -161,14 +163,14 @@ put-entry-requires c κs = let n = counts (c .before .before .before) in omega a
 filled : (c : tie.After-put-entry Inv-loop μ-loop)
     → let l = turn (c .before .before .before .before) in
     let a = entry l .args in
-    Filled (a .kind) (a .store .now) (l .loop .inv .0 ++ (saidOf (c .before .before .before .before .before .entry .given .0 .0) ∷ [])) (l .loop .entries + 1)
+    Filled (a .kind) (a .store .now) (l .loop .inv .0 ++ (told (c .before .before .before .before) ∷ [])) (l .loop .entries + 1)
     (l .loop .index + l .before .before .shape-of .result .size) (c .put-entry .last .0)
 filled c =
     let l = turn (c .before .before .before .before) in
     let a = entry l .args in
     let e = c .before .before .before .before .before .entry .given .0 .0 in
     let size = l .before .before .shape-of .result .size in
-    filled-more (a .kind) (a .store .now) (saidOf e) (l .loop .inv .3) (l .loop .inv .5)
+    filled-more (a .kind) (a .store .now) (told (c .before .before .before .before)) (l .loop .inv .3) (l .loop .inv .5)
     (c .put-entry .ensures
     ∙ ap (λ w. entryStored size (l .loop .store) (l .loop .index) w (e .second)) (c .before .before .entry-word .ensures))
 
@@ -196,7 +198,11 @@ returns-2 c =
     let f = filled put in
     record {
       read =
-          record { stands = otherwise (ended-with (listEntry (a .kind)) s) (said-same (tallied (put .before .before .before) .faults) (f .entries-are) refl) };
+          record {
+            stands =
+                otherwise (ended-with (listEntry (length (a .rest .now)) (a .kind)) s)
+                (said-same (tallied (put .before .before .before) .faults) (f .entries-are) refl);
+          };
       stored = λ es p h. f .store-is ∙ ap (λ l. overlaid (listWords (a .kind) l) (a .store .now)) (as-read (s .says) h);
     }
 
@@ -207,7 +213,7 @@ loop-again c =
     let known = put .before .before .before .before in
     let i = turn known .loop .inv in
     let p = list-goes-on (i .1) (went known) (omega arith) (sym (c .before .sign-at .ensures) ∙ not-false _ (c .if2 .left)) in (
-      i .0 ++ (saidOf (known .before .entry .given .0 .0) ∷ []),
+      i .0 ++ (told known ∷ []),
       p,
       tallied (put .before .before .before),
       filled put,
@@ -232,5 +238,5 @@ pub read-list-spec : {M : Type 1} → statement M
 read-list-spec =
     tie.close
     (tie.spec Inv-loop μ-loop asks-nothing asks-nothing loop-holds starts-of-requires sub-read-entry part-read-entry-start part-read-entry-end
-    read-entry-requires enum-known-entry enum-told asks-nothing add-t27 same-length returns add-next asks-nothing entry-word-requires put-entry-requires
-    add-index add-entries asks-nothing same-length-2 returns-2 add-from loop-less loop-again)
+    read-entry-requires enum-known-entry enum-told asks-nothing add-t27 same-length returns add-next sub-counted asks-nothing entry-word-requires
+    put-entry-requires add-index add-entries asks-nothing same-length-2 returns-2 add-from loop-less loop-again)

@@ -1,4 +1,4 @@
--- `printing::refusal_fits` meets its contract: no refusal is longer than the longest head. Any other room is held to the length of the
+-- `printing::refusal_fits` meets its contract: no refusal is longer than 112 bytes. Any shorter room is held to the length of the
 -- text, which fits in the scratch area.
 -- Assumes nothing.
 use mathlib.Core.Path.{refl, sym, ap}
@@ -8,20 +8,20 @@ use borrow.Author.Tests.{le-leb}
 use lib.Dec.{leb}
 use lib.ListN.{length}
 use Rattle.grammar.specs.Printed.{refusedText}
-use Rattle.printing.proofs.Lengths.{length-refusal}
+use Rattle.printing.proofs.Refusals.{length-refusal}
 use Rattle.printing.proofs.refusal_fits.Statement.{statement}
 use Rattle.printing.proofs.refusal_fits.Tie as tie
 
 returns : tie.Need-returns
 returns c =
     let a = c .before .args in
-    sym (le-leb (length (refusedText (a .reason) (a .line))) (a .room) (omega (arith, length-refusal (a .reason) (a .line))))
+    sym (le-leb (length (refusedText (a .reason) (a .line) (a .column))) (a .room) (omega (arith, length-refusal (a .reason) (a .line) (a .column))))
 
 slice-aggregate-write-fitting-refusal : tie.Need-slice-aggregate-write-fitting-refusal
 slice-aggregate-write-fitting-refusal c = refl
 
 write-fitting-refusal-requires : tie.Need-write-fitting-refusal-requires
-write-fitting-refusal-requires c κs = let a = c .before .before .args in length-refusal (a .reason) (a .line)
+write-fitting-refusal-requires c κs = let a = c .before .before .args in length-refusal (a .reason) (a .line) (a .column)
 
 returns-2 : tie.Need-returns-2
 returns-2 c = ap (λ (k : ℕ). leb k (c .before .before .before .before .args .room)) (c .before .write-fitting-refusal .ensures .size)

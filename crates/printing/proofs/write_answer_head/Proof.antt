@@ -6,15 +6,6 @@ use Rattle.printing.specs.Steps.{answerHead}
 use Rattle.printing.proofs.write_answer_head.Statement.{statement}
 use Rattle.printing.proofs.write_answer_head.Tie as tie
 
-slice-aggregate-write-head : tie.Need-slice-aggregate-write-head
-slice-aggregate-write-head c = refl
-
-slice-aggregate-write-head-2 : tie.Need-slice-aggregate-write-head-2
-slice-aggregate-write-head-2 c = refl
-
-slice-aggregate-write-head-3 : tie.Need-slice-aggregate-write-head-3
-slice-aggregate-write-head-3 c = refl
-
 write-head-requires : tie.Need-write-head-requires
 unfolding answerHead
 write-head-requires c κs = search needs
@@ -29,4 +20,4 @@ returns c = c .before .before .write-head .ensures
 pub write-answer-head-spec : {M : Type 1} → statement M
 write-answer-head-spec =
     tie.close
-    (tie.spec slice-aggregate-write-head slice-aggregate-write-head-2 slice-aggregate-write-head-3 write-head-requires same-length returns)
+    (tie.spec (λ c. refl) (λ c. refl) (λ c. refl) write-head-requires same-length returns)

@@ -14,7 +14,7 @@ write-fitting-refusal-requires : tie.Need-write-fitting-refusal-requires
 write-fitting-refusal-requires c κs =
     let tested = c .before .before in
     let a = tested .before .before .args in
-    test-fits (length (refusedText (a .reason) (a .line))) (length (a .text .now)) (tested .refusal-fits .ensures) (c .before .if1 .taken)
+    test-fits (length (refusedText (a .reason) (a .line) (a .column))) (length (a .text .now)) (tested .refusal-fits .ensures) (c .before .if1 .taken)
 
 same-length : tie.Need-same-length
 same-length c = search needs

@@ -20,9 +20,9 @@ returns-2 : tie.Need-returns-2
 returns-2 c =
     let few = c .before .before in
     let a = few .before .before .before .before .args in
-    line-become (map (nameOf 8) (a .names .now)) (a .n) (a .rest .now) (a .store .now) (a .store .now) (c .read-plain .result)
+    line-become (map (nameOf 8) (a .names .now)) (a .bounds) (a .rest .now) (a .store .now) (a .store .now) (c .read-plain .result)
     (plain-room (a .names .now) (few .if1 .left) (a .k) (a .rest .now) (c .before .if2 .taken))
-    (c .read-plain .ensures (a .n) (a .store .now))
+    (c .read-plain .ensures (a .store .now))
 
 read-wrap-requires : tie.Need-read-wrap-requires
 read-wrap-requires c κs = omega arith
@@ -36,7 +36,7 @@ returns-3 c =
     let listed = read .before .before in
     let few = listed .before in
     let a = few .before .before .before .before .args in
-    line-become (map (nameOf 8) (a .names .now)) (a .n) (a .rest .now) (a .store .now) _ (read .read-wrap .result)
+    line-become (map (nameOf 8) (a .names .now)) (a .bounds) (a .rest .now) (a .store .now) _ (read .read-wrap .result)
     (wrap-room (a .names .now) (few .if1 .left) (a .k) (a .rest .now) (listed .if2 .left))
     (read .read-wrap .ensures)
 

@@ -1,23 +1,24 @@
 -- `termlines::read_terms` meets its contract: the lines are read where there is room for them.
 -- Assumes nothing.
 use borrow.Author.Needs.{needs}
-use mathlib.Core.Path.{refl}
 use native.Mathlib.Omega.{arith}
+use Rattle.faults.proofs.Calls.{asks-nothing}
 use Rattle.sections.proofs.Given.{given-roomy, given-narrow}
+use Rattle.termlines.proofs.StoredTerms.{terms-refused}
 use Rattle.termlines.proofs.read_terms.Statement.{statement}
 use Rattle.termlines.proofs.read_terms.Tie as tie
 
 returns : tie.Need-returns
-returns c = given-narrow (λ room. omega (arith, c .if1 .taken, room .0)) (record { answered = refl; tabled = refl; listing = refl })
+returns c = given-narrow (λ room. omega (arith, c .before .if1 .taken, room .0)) (terms-refused (c .first-flaw .ensures))
 
 returns-2 : tie.Need-returns-2
-returns-2 c = given-narrow (λ room. omega (arith, c .if2 .taken, room .1)) (record { answered = refl; tabled = refl; listing = refl })
+returns-2 c = given-narrow (λ room. omega (arith, c .before .if2 .taken, room .1)) (terms-refused (c .first-flaw2 .ensures))
 
 returns-3 : tie.Need-returns-3
-returns-3 c = given-narrow (λ room. omega (arith, c .if3 .taken, room .2)) (record { answered = refl; tabled = refl; listing = refl })
+returns-3 c = given-narrow (λ room. omega (arith, c .before .if3 .taken, room .2)) (terms-refused (c .first-flaw3 .ensures))
 
 returns-4 : tie.Need-returns-4
-returns-4 c = given-narrow (λ room. omega (arith, c .if4 .taken, room .3)) (record { answered = refl; tabled = refl; listing = refl })
+returns-4 c = given-narrow (λ room. omega (arith, c .before .if4 .taken, room .3)) (terms-refused (c .first-flaw4 .ensures))
 
 take-terms-requires : tie.Need-take-terms-requires
 take-terms-requires c κs =
@@ -38,4 +39,7 @@ returns-5 c =
     (read .take-terms .ensures)
 
 pub read-terms-spec : {M : Type 1} → statement M
-read-terms-spec = tie.close (tie.spec returns returns-2 returns-3 returns-4 take-terms-requires same-length same-length-2 returns-5)
+read-terms-spec =
+    tie.close
+    (tie.spec asks-nothing returns asks-nothing returns-2 asks-nothing returns-3 asks-nothing returns-4 take-terms-requires same-length same-length-2
+    returns-5)

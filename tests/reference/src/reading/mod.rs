@@ -2,13 +2,16 @@
 //!
 //! A line goes through the refusals in the order of their numbers: its form
 //! (2), its names (3), its numbers (4), its lists (5). Each step looks at the
-//! whole line, so the smallest number decides.
+//! whole line, so the smallest number decides; and of several faults with that
+//! number each step finds the leftmost.
 
 mod checks;
-mod forms;
+pub mod columns;
+pub mod forms;
 mod lines;
 mod naming;
-mod words;
+pub mod shapes;
+pub mod words;
 
 use crate::description::{Description, Order, Refusal, Term};
 use crate::limits::{EQUATIONS, MOST_BYTES, NAMES, TERMS};
@@ -17,7 +20,7 @@ use std::ops::RangeInclusive;
 
 pub fn read(input: &[u8]) -> Result<Description, Refusal> {
     if input.len() > MOST_BYTES {
-        return Err(Refusal { reason: 1, line: 0 });
+        return Err(Refusal::of_no_line(1));
     }
     let mut lines = Lines::new(input);
     let names = read_names(&mut lines)?;
@@ -42,11 +45,10 @@ fn read_names(lines: &mut Lines) -> Result<Vec<String>, Refusal> {
     let count = read_count(lines, "names", NAMES)?;
     let mut names: Vec<String> = Vec::new();
     for _ in 0..count {
-        let value = lines.value("name")?;
-        let word = words::name(value).ok_or_else(|| lines.refuse(2))?;
+        let word = lines.read("name", words::name, &shapes::NAME)?;
         let name = String::from_utf8_lossy(word).into_owned();
         if words::is_reserved(word) || names.contains(&name) {
-            return Err(lines.refuse(3));
+            return Err(lines.refuse(3, columns::value));
         }
         names.push(name);
     }
@@ -57,12 +59,12 @@ fn read_names(lines: &mut Lines) -> Result<Vec<String>, Refusal> {
 /// is due next would not be known.
 fn read_count(
     lines: &mut Lines,
-    key: &str,
+    key: &'static str,
     range: RangeInclusive<usize>,
 ) -> Result<usize, Refusal> {
-    let count = words::number(lines.value(key)?).ok_or_else(|| lines.refuse(2))?;
+    let count = lines.read(key, words::number, &shapes::NUMBER)?;
     if !range.contains(&count) {
-        return Err(lines.refuse(2));
+        return Err(lines.refuse(2, columns::value));
     }
     Ok(count)
 }
@@ -73,30 +75,32 @@ fn read_term(
     equations: usize,
     own_number: usize,
 ) -> Result<Term<usize>, Refusal> {
-    let form = forms::term(lines.value("term")?).ok_or_else(|| lines.refuse(2))?;
-    let term = naming::term(names, &form).ok_or_else(|| lines.refuse(3))?;
-    if !checks::numbers_in_range(&term, own_number, equations) {
-        return Err(lines.refuse(4));
+    let form = lines.read("term", forms::term, &shapes::TERM)?;
+    let unknown = || lines.refuse(3, |line| columns::unknown_name(line, names));
+    let term = naming::term(names, &form).ok_or_else(unknown)?;
+    if let Some(number) = checks::number_out_of_range(&term, own_number, equations) {
+        return Err(lines.refuse(4, |line| columns::operand(line, number)));
     }
-    if !checks::list_is_orderly(names.len(), &term) {
-        return Err(lines.refuse(5));
+    if let Some(entry) = checks::disorderly_entry(names.len(), &term) {
+        return Err(lines.refuse(5, |line| columns::entry(line, entry)));
     }
     Ok(term)
 }
 
-fn read_term_number(lines: &mut Lines, key: &str, terms: usize) -> Result<usize, Refusal> {
-    let number = words::number(lines.value(key)?).ok_or_else(|| lines.refuse(2))?;
+fn read_term_number(lines: &mut Lines, key: &'static str, terms: usize) -> Result<usize, Refusal> {
+    let number = lines.read(key, words::number, &shapes::NUMBER)?;
     if number >= terms {
-        return Err(lines.refuse(4));
+        return Err(lines.refuse(4, columns::value));
     }
     Ok(number)
 }
 
 fn read_order(lines: &mut Lines, names: &[String]) -> Result<Order<usize>, Refusal> {
-    let form = forms::order(lines.value("order")?).ok_or_else(|| lines.refuse(2))?;
-    let order = naming::order(names, &form).ok_or_else(|| lines.refuse(3))?;
-    if !checks::order_is_orderly(names.len(), &order) {
-        return Err(lines.refuse(5));
+    let form = lines.read("order", forms::order, &shapes::ORDER)?;
+    let unknown = || lines.refuse(3, |line| columns::unknown_name(line, names));
+    let order = naming::order(names, &form).ok_or_else(unknown)?;
+    if let Some(entry) = checks::disorderly_entry_of_order(names.len(), &order) {
+        return Err(lines.refuse(5, |line| columns::entry(line, entry)));
     }
     Ok(order)
 }

@@ -14,7 +14,7 @@ fn answers(mut input: &[u8]) -> Result<String, String> {
 fn each_record_gets_its_text() {
     let input = format!("{}\n{}0\n3\n\n\n\n{}\n{}", LISTED.len(), LISTED, LISTED.len(), LISTED);
     let answer = "38\nanswer=ok\nrounds=1\nlabels=1\nlabel=a:1\n";
-    let refusal = "31\nanswer=refused\nreason=2\nline=1\n";
+    let refusal = "40\nanswer=refused\nreason=2\nline=1\ncolumn=1\n";
     assert_eq!(answers(input.as_bytes()), Ok([answer, refusal, refusal, answer].concat()));
     assert_eq!(answers(b""), Ok(String::new()));
 }

@@ -99,18 +99,18 @@ fn stripe_of_sixteen() {
 fn dies_with_three_reports() {
     let sixteen = dies(reports_start_done_or_busy, 16, None);
     assert!(sixteen.starts_with("answer=ok\nrounds=2\nlabels=968\n"), "{}", sixteen);
-    assert_eq!(dies(reports_start_done_or_busy, 17, None), refused(7, 0));
+    assert_eq!(dies(reports_start_done_or_busy, 17, None), refused(7, 0, 0));
 }
 
 #[test]
 fn as_many_dies_as_a_label_has_actions() {
     assert_eq!(dies(reports_done, 31, None), answered(2, &dones(31)));
-    assert_eq!(dies(reports_done, 32, None), refused(7, 0));
+    assert_eq!(dies(reports_done, 32, None), refused(7, 0, 0));
 }
 
 #[test]
 fn growing_without_end() {
     let terms = &["act a", "ref 0", "merge 1 1", "seq 0 2"];
     let case = Case { names: &["a"], terms, bodies: &[3], root: 3, order: "all" };
-    assert_eq!(case.text(), refused(7, 0));
+    assert_eq!(case.text(), refused(7, 0, 0));
 }

@@ -2,6 +2,7 @@
 
 mod additions;
 mod batches;
+mod columns;
 mod document_examples;
 mod reading_limits;
 mod refusals;
@@ -56,8 +57,8 @@ fn label_lines(labels: &[&str]) -> String {
     labels.iter().map(|label| format!("label={}\n", label)).collect()
 }
 
-fn refused(reason: u8, line: usize) -> String {
-    format!("answer=refused\nreason={}\nline={}\n", reason, line)
+fn refused(reason: u8, line: usize, column: usize) -> String {
+    format!("answer=refused\nreason={}\nline={}\ncolumn={}\n", reason, line, column)
 }
 
 /// Adds the merge of so many copies of term 0, built by doubling, and gives

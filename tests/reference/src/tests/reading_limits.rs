@@ -18,9 +18,9 @@ fn text(names: usize, terms: usize, equations: usize, last: &str, order: &str) -
 fn counts_of_lines() {
     let is_read = |text: String| text.starts_with("answer=ok\n");
     assert!(is_read(text(12, 96, 16, "act n11", "all")));
-    assert_eq!(text(13, 96, 16, "act n11", "all"), refused(2, 1));
-    assert_eq!(text(12, 96, 17, "act n11", "all"), refused(2, 14));
-    assert_eq!(text(12, 97, 16, "act n11", "all"), refused(2, 15));
+    assert_eq!(text(13, 96, 16, "act n11", "all"), refused(2, 1, 7));
+    assert_eq!(text(12, 96, 17, "act n11", "all"), refused(2, 14, 11));
+    assert_eq!(text(12, 97, 16, "act n11", "all"), refused(2, 15, 7));
 }
 
 /// Lists of 32 and 33 labels, in an allow and in the order. The further
@@ -36,12 +36,14 @@ fn labels_of_a_list() {
         let list = labels(count, last);
         let in_allow = text(12, 2, 0, &format!("allow 0 {}", list), "all");
         let in_order = text(12, 2, 0, "tau", &list);
-        let expected = |line| match reason {
+        // A label without a count is found at its end.
+        let in_list = if reason == 2 { list.len() } else { list.len() - last.len() };
+        let expected = |line, list_column| match reason {
             0 => answered(1, "n0:1"),
-            _ => refused(reason, line),
+            _ => refused(reason, line, list_column + in_list),
         };
-        assert_eq!(in_allow, expected(17), "{}", list);
-        assert_eq!(in_order, expected(19), "{}", list);
+        assert_eq!(in_allow, expected(17, 14), "{}", list);
+        assert_eq!(in_order, expected(19, 7), "{}", list);
     }
 }
 
@@ -53,7 +55,7 @@ fn actions_of_a_long_label() {
     for (others, count, is_legal) in cases {
         let others = (1..=others).map(|name| format!(".n{}:{}", name, count));
         let label = format!("n0:14{}", others.collect::<String>());
-        let expected = if is_legal { answered(1, "") } else { refused(5, 19) };
+        let expected = if is_legal { answered(1, "") } else { refused(5, 19, 7) };
         assert_eq!(text(12, 2, 0, "tau", &label), expected, "{}", label);
     }
 }

@@ -192,6 +192,6 @@ fn each_kind_is_exact_or_not() {
 
 #[test]
 fn a_refusal_is_told_as_it_is() {
-    assert_eq!(met(&["act a", "ref 0", "merge 1 1", "seq 0 2"], &[3], "all"), refused(7, 0));
-    assert_eq!(met(&["act e"], &[], "all"), refused(3, 8));
+    assert_eq!(met(&["act a", "ref 0", "merge 1 1", "seq 0 2"], &[3], "all"), refused(7, 0, 0));
+    assert_eq!(met(&["act e"], &[], "all"), refused(3, 8, 10));
 }

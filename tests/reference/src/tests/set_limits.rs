@@ -72,8 +72,8 @@ fn labels_of_one_set() {
     let forty_one = terms.add(format!("choice {} {}", forty, other));
     let twenty_five = terms.grid(&[("e", 4), ("f", 4)]);
     let root = terms.merge(forty_one, twenty_five);
-    assert_eq!(terms.text(&[], root), refused(7, 0), "1,025 labels");
-    assert_eq!(terms.text(&[], 0), refused(7, 0), "1,025 labels that the root does not use");
+    assert_eq!(terms.text(&[], root), refused(7, 0, 0), "1,025 labels");
+    assert_eq!(terms.text(&[], 0), refused(7, 0, 0), "1,025 labels that the root does not use");
 }
 
 /// 873 more labels fill the sets up: 27 times a set of 32 and nine single
@@ -94,7 +94,7 @@ fn labels_of_all_sets() {
         terms.add(String::from("delta"));
         assert_eq!(terms.text(&[], root), only_tau(1), "2,048 labels and an empty set");
         terms.add(String::from(single));
-        assert_eq!(terms.text(&[], root), refused(7, 0), "2,049 labels");
+        assert_eq!(terms.text(&[], root), refused(7, 0, 0), "2,049 labels");
     }
 }
 
@@ -112,7 +112,7 @@ fn actions_of_one_label() {
             let all = format!("act a|{}|{}", terms, wrapping);
             let terms: Vec<&str> = all.split('|').collect();
             let case = Case { names: NAMES, terms: &terms, bodies: &[], root: 0, order: "all" };
-            let refusal = case.text() == refused(7, 0);
+            let refusal = case.text() == refused(7, 0, 0);
             assert_eq!(refusal, passes, "{}", all);
         }
     }
@@ -125,7 +125,7 @@ fn actions_of_merged_dies() {
         let root = merge_dies(&mut terms, dies);
         let terms = as_strs(&terms);
         let case = Case { names: NAMES, terms: &terms, bodies: &[], root, order: "all" };
-        assert_eq!(case.text() == refused(7, 0), passes, "{} dies", dies);
+        assert_eq!(case.text() == refused(7, 0, 0), passes, "{} dies", dies);
     }
 }
 
@@ -171,6 +171,6 @@ fn growing_by_recursion() {
     ];
     for (terms, body, passes) in cases {
         let case = Case { names: NAMES, terms, bodies: &[*body], root: 0, order: "all" };
-        assert_eq!(case.text() == refused(7, 0), *passes, "{:?}, body {}", terms, body);
+        assert_eq!(case.text() == refused(7, 0, 0), *passes, "{:?}, body {}", terms, body);
     }
 }

@@ -84,7 +84,7 @@ shifted-requires c κs =
     let start = entry (known .before .before .before) in
     let a = start .args in
     let w =
-    tail-within (found known) (a .names .now) (a .n) (a .list .now) (read .read-tail .last .1 .1 .1 .1 .0) (read .read-tail .result)
+    tail-within (found known) (a .names .now) (a .bounds) (a .list .now) (read .read-tail .last .1 .1 .1 .1 .0) (read .read-tail .result)
     (read .read-tail .ensures) in
     omega (arith, start .good .1 .0)
 
@@ -100,9 +100,9 @@ returns-3 c =
     let after = read .read-tail .last .1 .1 .1 .1 .0 in
     let next = known .before .kind .given .0 .1 .0 in
     rw (c .shifted .ensures)
-    (line-become (map (nameOf 8) (a .names .now)) (a .n) (a .text .now) (a .list .now) after (shiftedStep next (read .read-tail .result))
+    (line-become (map (nameOf 8) (a .names .now)) (a .bounds) (a .text .now) (a .list .now) after (shiftedStep next (read .read-tail .result))
     (passed (known .before .before .before))
-    (line-there (found known) (a .names .now) (a .n) (a .list .now) after (read .read-tail .result) (read .read-tail .ensures) (start .pre)))
+    (line-there (found known) (a .names .now) (a .bounds) (a .list .now) after (read .read-tail .result) (read .read-tail .ensures) (start .pre)))
 
 pub read-line-spec : {M : Type 1} → statement M
 read-line-spec =

@@ -3,15 +3,16 @@
 use borrow.Author.Needs.{needs}
 use mathlib.Core.Path.{_≡_, sym, _∙_}
 use mathlib.Core.List.{List, [], _∷_, _++_, map}
-use Prim.Native.Nat.{_+_, _-_}
+use Prim.Native.Nat.{ℕ, _+_, _-_}
 use native.Mathlib.Omega.{arith}
 use borrow.Author.Tests.{not-true, not-false}
 use lib.ListN.{length, drop, length-map}
+use Rattle.meaning.specs.Bytes.{Text}
 use Rattle.meaning.specs.Legal.{Each}
 use Rattle.table.specs.Decoded.{nameOf}
 use Rattle.grammar.specs.Forms.{part, dot}
 use Rattle.words.specs.Steps.{Stands}
-use Rattle.grammar.specs.Text.{past}
+use Rattle.grammar.specs.Text.{Past, past}
 use Rattle.faults.proofs.Calls.{asks-nothing}
 use Rattle.words.proofs.Steps.{otherwise, become}
 use Rattle.lists.specs.Tallies.{Said}
@@ -23,17 +24,21 @@ use Rattle.lists.proofs.Parts.{Known, sizes, parts-none, partsNumber, p
 use Rattle.lists.proofs.labels.read_label.Statement.{statement}
 use Rattle.lists.proofs.labels.read_label.Tie as tie
 
+-- a part of the label that a text begins with
+abbrev partIn : List ℕ → Text → Text → Past Said
+partIn names rest = seen (partSaid (map (nameOf 8) names) (length rest)) part
+
 -- Some parts were read; the tally and the number are theirs.
 abbrev Inv-loop : tie.InvT-loop
 Inv-loop rest names starts tally₀ number₀ from₀ tally number from =
-    (es : List Said) × Progress dot (seen (partSaid (map (nameOf 8) names)) part) rest from es × Tallied sizes 31 es tally × Each Known es
-    × (number ≡ partsNumber es)
+    (es : List Said) × Progress dot (partIn names rest) rest from es × Tallied sizes (λ e. length rest) 31 es tally × Each Known es
+    × (number ≡ partsNumber (length rest) es)
 
 abbrev μ-loop : tie.MeasureT-loop
 μ-loop rest names starts tally₀ number₀ from₀ tally number from = length rest - from
 
 loop-holds : tie.Need-loop-holds Inv-loop μ-loop
-loop-holds c = ([], begun _ _ _, tallied-none sizes 31 (c .empty-tally .ensures), tt, parts-none)
+loop-holds c = ([], begun _ _ _, tallied-none sizes _ 31 (c .empty-tally .ensures), tt, parts-none _)
 
 sub-read-part : tie.Need-sub-read-part Inv-loop μ-loop
 sub-read-part c = omega (arith, c .loop .inv .1 .within)
@@ -61,58 +66,67 @@ returns c =
     record {
       stands =
           become (label-seen _ (a .rest .now))
-          (stuck-with partsEntry
+          (stuck-with (partsEntry (length (a .rest .now)))
           (list-stuck (loop .inv .1)
-          (said-stays-on (seen (partSaid (map (nameOf 8) (a .names .now))) part) (a .rest .now) (loop .from) (loop .inv .1 .within) (read .read-part .ensures)
+          (said-stays-on (partIn (a .names .now) (a .rest .now)) (a .rest .now) (loop .from) (loop .inv .1 .within) (read .read-part .ensures)
           (said-stuck-there (c .before .enum-told .given .1) (c .said-stuck-at .ensures)))));
     }
 
-add-t19 : tie.Need-add-t19 Inv-loop μ-loop
-add-t19 c = let s = returns c .stands .within in omega arith
+add-t20 : tie.Need-add-t20 Inv-loop μ-loop
+add-t20 c = let s = returns c .stands .within in omega arith
 
--- the part that was read, in the line
+-- what the part that was read says, and where it stands in the line
+abbrev told : tie.After-known-told Inv-loop μ-loop → Said
+told c =
+    let read = c .before .before .before in
+    let rest = read .before .before .before .before .before .before .args .rest .now in
+    saidOf (length (drop (read .before .before .loop .from) rest)) (c .before .part .given .0 .0)
+
 went : (c : tie.After-known-told Inv-loop μ-loop)
     → let read = c .before .before .before in
     let from = read .before .before .loop .from in
     let a = read .before .before .before .before .before .before .args in
     let next = from + c .before .part .given .0 .1 .0 in
-    Stands (a .rest .now) next (past (saidOf (c .before .part .given .0 .0)) (drop next (a .rest .now)))
-    (seen (partSaid (map (nameOf 8) (a .names .now))) part (drop from (a .rest .now)))
+    Stands (a .rest .now) next (past (told c) (drop next (a .rest .now))) (partIn (a .names .now) (a .rest .now) (drop from (a .rest .now)))
 went c =
     let read = c .before .before .before in
     let loop = read .before .before .loop in
     let a = read .before .before .before .before .before .before .args in
-    said-went-on (seen (partSaid (map (nameOf 8) (a .names .now))) part) (a .rest .now) (loop .from) (loop .inv .1 .within) (read .read-part .ensures)
+    said-went-on (partIn (a .names .now) (a .rest .now)) (a .rest .now) (loop .from) (loop .inv .1 .within) (read .read-part .ensures)
     (c .before .part .given .1)
 
 add-next : tie.Need-add-next Inv-loop μ-loop
 add-next c = let s = went c .within in omega arith
 
-known : (c : tie.After-known-told Inv-loop μ-loop) → Known (saidOf (c .before .part .given .0 .0))
+known : (c : tie.After-known-told Inv-loop μ-loop) → Known (told c)
 known c =
     let read = c .before .before .before in
-    part-known _ (rw length-map (read .before .before .before .before .before .before .pre .0)) _ (went c .says)
+    part-known _ _ (rw length-map (read .before .before .before .before .before .before .pre .0)) _ (went c .says)
+
+-- the length of the line, which is the place of the label
+abbrev whole : tie.After-counted Inv-loop μ-loop → ℕ
+whole c = length (c .before .before .before .before .before .before .before .before .before .before .args .rest .now)
 
 tallied : (c : tie.After-counted Inv-loop μ-loop)
     → let l = c .before .before .before .before .before .before .loop in
-    Tallied sizes 31 (l .inv .0 ++ (saidOf (c .before .before .part .given .0 .0) ∷ [])) (c .counted .result)
+    Tallied sizes (λ e. whole c) 31 (l .inv .0 ++ (told (c .before) ∷ [])) (c .counted .result)
 tallied c =
     let t = c .before .before .before .before .before .before .loop .inv .2 in
     let k = known (c .before) in
-    tallied-more sizes 31 (saidOf (c .before .before .part .given .0 .0)) t
+    tallied-more sizes (λ e. whole c) 31 (told (c .before)) t
     (record { keys = omega (arith, k .low); totals = omega (arith, t .totals); weights = k .few; limits = omega arith }) (c .counted .ensures)
 
 added-requires : tie.Need-added-requires Inv-loop μ-loop
 added-requires c κs =
     let l = c .before .before .before .before .before .before .loop in
-    room-for (l .inv .0) (saidOf (c .before .before .part .given .0 .0)) (l .inv .3) (known (c .before)) (l .number) (l .inv .4) (tallied c .faults)
+    room-for (whole c) (l .inv .0) (told (c .before)) (l .inv .3) (known (c .before)) (l .number) (l .inv .4) (tallied c .faults)
 
 summed : (c : tie.After-added Inv-loop μ-loop)
     → let l = c .before .before .before .before .before .before .before .loop in
-    c .added .result ≡ partsNumber (l .inv .0 ++ (saidOf (c .before .before .before .part .given .0 .0) ∷ []))
+    c .added .result ≡ partsNumber (whole (c .before)) (l .inv .0 ++ (told (c .before .before) ∷ []))
 summed c =
     let l = c .before .before .before .before .before .before .before .loop in
-    sum-more (l .inv .0) (saidOf (c .before .before .before .part .given .0 .0)) (l .inv .3) (known (c .before .before)) (l .number) (l .inv .4)
+    sum-more (whole (c .before)) (l .inv .0) (told (c .before .before)) (l .inv .3) (known (c .before .before)) (l .number) (l .inv .4)
     (tallied (c .before) .faults) (c .added .ensures)
 
 returns-2 : tie.Need-returns-2 Inv-loop μ-loop
@@ -125,7 +139,8 @@ returns-2 c =
       stands =
           become (label-seen _ (a .rest .now))
           (otherwise
-          (ended-with partsEntry (list-ends (l .inv .1) (went (added .before .before)) (sym (c .before .sign-at .ensures) ∙ not-true _ (c .if1 .taken))))
+          (ended-with (partsEntry (length (a .rest .now)))
+          (list-ends (l .inv .1) (went (added .before .before)) (sym (c .before .sign-at .ensures) ∙ not-true _ (c .if1 .taken))))
           (said-same (tallied (added .before) .faults) (summed added) (tallied (added .before) .totals)));
     }
 
@@ -133,7 +148,7 @@ loop-again : tie.Need-loop-again Inv-loop μ-loop
 loop-again c =
     let added = c .before .before in
     let l = added .before .before .before .before .before .before .before .loop in (
-      l .inv .0 ++ (saidOf (added .before .before .before .part .given .0 .0) ∷ []),
+      l .inv .0 ++ (told (added .before .before) ∷ []),
       list-goes-on (l .inv .1) (went (added .before .before)) (omega arith) (sym (c .before .sign-at .ensures) ∙ not-false _ (c .if1 .left)),
       tallied (added .before),
       each-snoc Known (l .inv .0) _ (l .inv .3) (known (added .before .before)),
@@ -151,4 +166,4 @@ pub read-label-spec : {M : Type 1} → statement M
 read-label-spec =
     tie.close
     (tie.spec Inv-loop μ-loop asks-nothing loop-holds sub-read-part part-read-part-start part-read-part-end read-part-requires enum-known-part enum-told
-    asks-nothing add-t19 returns add-next asks-nothing added-requires asks-nothing returns-2 add-from loop-less loop-again)
+    asks-nothing add-t20 returns add-next asks-nothing added-requires asks-nothing returns-2 add-from loop-less loop-again)

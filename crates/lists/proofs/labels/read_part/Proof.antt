@@ -23,7 +23,7 @@ enum-told : tie.Need-enum-told
 enum-told c = c .match .keys2
 
 returns : tie.Need-returns
-returns c = record { stands = become (part-seen _ _) (said-halted (c .before .before .name-from .ensures) _ (c .enum-told .given .1) .stands) }
+returns c = record { stands = become (part-seen _ _ _) (said-halted (c .before .before .name-from .ensures) _ (c .enum-told .given .1) .stands) }
 
 sub-number-after : tie.Need-sub-number-after
 sub-number-after c = let s = said-went (c .before .before .before .name-from .ensures) (c .before .name .given .1) in omega (arith, s .within)
@@ -49,15 +49,15 @@ returns-2 c =
     let s = said-went (read .name-from .ensures) (named .name .given .1) in
     record {
       stands =
-          become (part-seen _ _)
+          become (part-seen _ _ _)
           (goes _ s
           (stops _
           (stays-on (λ t. onward (byte colon t) (λ _ q. number q)) (a .rest .now) (named .name .given .0 .1 .0) (s .within) (count .number-after .ensures)
           (stuck-there (c .before .enum-told2 .given .1) (c .stuck-at .ensures)))));
     }
 
-add-t18 : tie.Need-add-t18
-add-t18 c = let s = returns-2 c .stands .within in omega arith
+add-t19 : tie.Need-add-t19
+add-t19 c = let s = returns-2 c .stands .within in omega arith
 
 returns-3 : tie.Need-returns-3
 returns-3 c =
@@ -73,18 +73,18 @@ returns-3 c =
     let known = named .name .given .0 .0 .fault in
     record {
       stands =
-          become (part-seen _ _)
+          become (part-seen _ _ _)
           (goes _ s
           (goes _ t
           (otherwise (arrived _ (t .within))
           (said-same (c .worse-of .ensures ∙ ap (worse (foundOf known)) (c .before .amount-unless .ensures)) refl refl))));
     }
 
-add-t14 : tie.Need-add-t14
-add-t14 c = let s = returns-3 c .stands .within in omega arith
+add-t15 : tie.Need-add-t15
+add-t15 c = let s = returns-3 c .stands .within in omega arith
 
 pub read-part-spec : {M : Type 1} → statement M
 read-part-spec =
     tie.close
     (tie.spec name-from-requires enum-known-name enum-told returns sub-number-after part-number-after-start part-number-after-end asks-nothing
-    enum-known-count enum-told-2 asks-nothing add-t18 returns-2 asks-nothing asks-nothing add-t14 returns-3)
+    enum-known-count enum-told-2 asks-nothing add-t19 returns-2 asks-nothing asks-nothing add-t15 returns-3)

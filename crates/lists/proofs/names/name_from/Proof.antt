@@ -18,7 +18,11 @@ enum-told c = c .match .keys2
 returns : tie.Need-returns
 returns c =
     let read = c .before .before .before in
-    record { stands = stops _ (steps-stuck (read .read-word .ensures) (stuck-there (c .before .enum-told .given .1) (c .stuck-at .ensures))) }
+    record {
+      stands =
+          stops _
+          (stops _ (steps-stuck (read .read-word .ensures) (stuck-there (c .before .enum-told .given .1) (c .stuck-at .ensures))));
+    }
 
 element-copy-out-wide : tie.Need-element-copy-out-wide
 element-copy-out-wide c = let h = c .letter-of .ensures .0 in omega arith
@@ -37,7 +41,7 @@ returns-2 c =
     start-found (a .names .now) (a .starts .now) _ (begun .pre) (known .letter-of .ensures) (start .wide .ensures) (found .find-from .ensures) in
     record {
       stands =
-          goes _ s
+          goes _ (goes _ s (arrived _ (s .within)))
           (otherwise (arrived _ (s .within)) (said-same (name-faulted (a .names .now) _ (c .name-fault .ensures) number) number refl));
     }
 

@@ -8,7 +8,7 @@ use native.Mathlib.Omega.{arith}
 use borrow.Author.Tests.{not-true, not-false}
 use lib.ListN.{length}
 use Rattle.table.specs.Decoded.{nameOf}
-use Rattle.grammar.specs.Text.{word}
+use Rattle.grammar.specs.Text.{placed, word}
 use Rattle.grammar.specs.Forms.{greater}
 use Rattle.faults.proofs.Calls.{asks-nothing}
 use Rattle.words.proofs.Rests.{sign-within}
@@ -35,7 +35,7 @@ returns-2 c =
     record {
       stands =
           rw (l .1)
-          (become (right-seen _ (saidOf (l .0 .0)) _)
+          (become (right-seen _ (saidOf _ (l .0 .0)) _)
           (no-sign greater (start .args .rest .now) (l .0 .1 .0) _ (sym (c .before .sign-at .ensures) ∙ not-true _ (c .if1 .taken))
           (rw (l .1) at (start .pre .0))));
     }
@@ -81,10 +81,11 @@ returns-3 c =
     record {
       stands =
           rw (l .1)
-          (become (right-seen _ (saidOf (l .0 .0)) _)
+          (become (right-seen _ (saidOf _ (l .0 .0)) _)
           (past-sign greater (a .rest .now) (l .0 .1 .0) _ (sym (tested .before .sign-at .ensures) ∙ not-false _ (tested .if1 .left))
           (stops _
-          (said-stays-on (seen (nameEntry (map (nameOf 8) (a .names .now))) word) (a .rest .now) (l .0 .1 .0 + 1) (passed tested) (read .name-from .ensures)
+          (said-stays-on (seen (nameEntry (map (nameOf 8) (a .names .now))) (placed word)) (a .rest .now) (l .0 .1 .0 + 1) (passed tested)
+          (read .name-from .ensures)
           (said-stuck-there (c .before .enum-told2 .given .1) (c .said-stuck-at .ensures))))));
     }
 
@@ -100,12 +101,12 @@ returns-4 c =
     let a = went .before .before .before .before .args in
     let l = went .left .given in
     let s =
-    said-went-on (seen (nameEntry (map (nameOf 8) (a .names .now))) word) (a .rest .now) (l .0 .1 .0 + 1) (passed tested) (read .name-from .ensures)
-    (named .right .given .1) in
+    said-went-on (seen (nameEntry (map (nameOf 8) (a .names .now))) (placed word)) (a .rest .now) (l .0 .1 .0 + 1) (passed tested)
+    (read .name-from .ensures) (named .right .given .1) in
     record {
       stands =
           rw (l .1)
-          (become (right-seen _ (saidOf (l .0 .0)) _)
+          (become (right-seen _ (saidOf _ (l .0 .0)) _)
           (past-sign greater (a .rest .now) (l .0 .1 .0) _ (sym (tested .before .sign-at .ensures) ∙ not-false _ (tested .if1 .left))
           (goes _ s (otherwise (arrived _ (s .within)) (said-same (c .worse-of .ensures) refl refl)))));
     }

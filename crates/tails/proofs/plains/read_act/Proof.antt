@@ -9,7 +9,7 @@ use native.Mathlib.Omega.{arith}
 use borrow.Author.Tests.{not-true, not-false}
 use lib.ListN.{length, drop}
 use Rattle.table.specs.Decoded.{nameOf}
-use Rattle.grammar.specs.Text.{past, stuck, starts, word}
+use Rattle.grammar.specs.Text.{past, stuck, starts, placed, word}
 use Rattle.grammar.specs.Forms.{space}
 use Rattle.faults.proofs.Calls.{asks-nothing}
 use Rattle.words.specs.Steps.{Stands}
@@ -21,7 +21,7 @@ use Rattle.tails.proofs.plains.read_act.Statement.{statement}
 use Rattle.tails.proofs.plains.read_act.Tie as tie
 
 returns : tie.Need-returns
-returns c n store =
+returns c bounds store =
     let a = c .before .before .before .before .args in
     act-no-space (map (nameOf 8) (a .names .now)) (a .rest .now) (sym (c .before .sign-at .ensures) ∙ not-true _ (c .if1 .taken))
 
@@ -51,32 +51,32 @@ enum-told c = c .match .keys2
 missed : (c : tie.After-said-stuck-at)
     → let a = c .before .before .before .before .before .before .before .before .before .args in
     let p = 1 + c .said-stuck-at .result in
-    Stands (a .rest .now) p (stuck (drop p (a .rest .now))) (seen (nameEntry (map (nameOf 8) (a .names .now))) word (drop 1 (a .rest .now)))
+    Stands (a .rest .now) p (stuck (drop p (a .rest .now))) (seen (nameEntry (map (nameOf 8) (a .names .now))) (placed word) (drop 1 (a .rest .now)))
 missed c =
     let read = c .before .before .before in
     let tested = read .before .before in
     let a = tested .before .before .before .before .args in
-    said-stays-on (seen (nameEntry (map (nameOf 8) (a .names .now))) word) (a .rest .now) 1 (passed tested) (read .read-name .ensures)
+    said-stays-on (seen (nameEntry (map (nameOf 8) (a .names .now))) (placed word)) (a .rest .now) 1 (passed tested) (read .read-name .ensures)
     (said-stuck-there (c .before .enum-told .given .1) (c .said-stuck-at .ensures))
 
 named : (c : tie.After-known-told)
     → let a = c .before .before .before .before .before .before .before .before .before .args in
     let e = c .before .name .given .0 in
     let next = 1 + e .1 .0 in
-    Stands (a .rest .now) next (past (saidOf (e .0)) (drop next (a .rest .now)))
-    (seen (nameEntry (map (nameOf 8) (a .names .now))) word (drop 1 (a .rest .now)))
+    Stands (a .rest .now) next (past (saidOf (length (drop 1 (a .rest .now))) (e .0)) (drop next (a .rest .now)))
+    (seen (nameEntry (map (nameOf 8) (a .names .now))) (placed word) (drop 1 (a .rest .now)))
 named c =
     let read = c .before .before .before in
     let tested = read .before .before in
     let a = tested .before .before .before .before .args in
-    said-went-on (seen (nameEntry (map (nameOf 8) (a .names .now))) word) (a .rest .now) 1 (passed tested) (read .read-name .ensures)
+    said-went-on (seen (nameEntry (map (nameOf 8) (a .names .now))) (placed word)) (a .rest .now) 1 (passed tested) (read .read-name .ensures)
     (c .before .name .given .1)
 
 add-t15 : tie.Need-add-t15
 add-t15 c = let s = missed c .within in omega arith
 
 returns-2 : tie.Need-returns-2
-returns-2 c n store =
+returns-2 c bounds store =
     let tested = c .before .before .before .before .before in
     let a = tested .before .before .before .before .args in
     act-no-name (map (nameOf 8) (a .names .now)) (a .rest .now) (spaced tested) (missed c)
@@ -85,7 +85,7 @@ add-next : tie.Need-add-next
 add-next c = let s = named c .within in omega arith
 
 returns-3 : tie.Need-returns-3
-returns-3 c n store =
+returns-3 c bounds store =
     let known = c .before .before in
     let tested = known .before .before .before .before .before in
     let a = tested .before .before .before .before .args in
@@ -93,15 +93,15 @@ returns-3 c n store =
     (sym (c .before .sign-at2 .ensures) ∙ not-true _ (c .if2 .taken))
 
 returns-4 : tie.Need-returns-4
-returns-4 c n store =
+returns-4 c bounds store =
     let known = c .before .before in
     let tested = known .before .before .before .before .before in
     let a = tested .before .before .before .before .args in
-    act-line (map (nameOf 8) (a .names .now)) (a .rest .now) (spaced tested) (known .before .name .given .0 .0) (named known) n store
+    act-line (map (nameOf 8) (a .names .now)) (a .rest .now) (spaced tested) (known .before .name .given .0 .0) (named known) bounds store
     (sym (c .before .sign-at2 .ensures) ∙ not-false _ (c .if2 .left))
 
 add-t17 : tie.Need-add-t17
-add-t17 c = let s = returns-4 c 0 [] .within in omega arith
+add-t17 c = let s = returns-4 c (record { equations = 0; term = 0 }) [] .within in omega arith
 
 pub read-act-spec : {M : Type 1} → statement M
 read-act-spec =

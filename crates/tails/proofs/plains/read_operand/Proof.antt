@@ -4,7 +4,7 @@ use borrow.Author.Needs.{needs}
 use native.Mathlib.Omega.{arith}
 use Rattle.faults.proofs.Calls.{asks-nothing}
 use Rattle.words.proofs.Steps.{stuck-there, went-on, stays-on}
-use Rattle.tails.proofs.Operands.{operand}
+use Rattle.tails.proofs.Operands.{spaced}
 use Rattle.tails.proofs.plains.read_operand.Statement.{statement}
 use Rattle.tails.proofs.plains.read_operand.Tie as tie
 
@@ -30,7 +30,7 @@ returns c =
     let a = start .args in
     record {
       stands =
-          stays-on operand (a .rest .now) (a .at) (start .pre) (read .number-after .ensures)
+          stays-on spaced (a .rest .now) (a .at) (start .pre) (read .number-after .ensures)
           (stuck-there (c .before .enum-told .given .1) (c .stuck-at .ensures));
     }
 
@@ -42,7 +42,7 @@ returns-2 c =
     let read = c .before .before .before in
     let start = read .before .before .before in
     let a = start .args in
-    record { stands = went-on operand (a .rest .now) (a .at) (start .pre) (read .number-after .ensures) (c .before .read .given .1) }
+    record { stands = went-on spaced (a .rest .now) (a .at) (start .pre) (read .number-after .ensures) (c .before .read .given .1) }
 
 add-t7 : tie.Need-add-t7
 add-t7 c = let s = returns-2 c .stands .within in omega arith

@@ -17,8 +17,8 @@ unfolding alone
 returns c =
     let tested = c .before in
     let a = tested .before .before .before .args in
-    plain→storeless (map (nameOf 8) (a .names .now)) (a .rest .now) (c .finish .result)
-    (tail-delta (a .k) (a .rest .now) (tested .if1 .taken)) (c .finish .ensures)
+    plain→storeless (a .bounds) (a .rest .now) (c .finish .result)
+    (tail-delta (a .k) (a .rest .now) (tested .if1 .taken)) (map (nameOf 8) (a .names .now)) (c .finish .ensures)
 
 finish-requires-2 : tie.Need-finish-requires-2
 finish-requires-2 c κs = (omega arith, tt)
@@ -28,34 +28,31 @@ unfolding alone
 returns-2 c =
     let tested = c .before .before in
     let a = tested .before .before .before .args in
-    plain→storeless (map (nameOf 8) (a .names .now)) (a .rest .now) (c .finish2 .result)
-    (tail-tau (a .k) (a .rest .now) (tested .if1 .left) (c .before .if2 .taken)) (c .finish2 .ensures)
+    plain→storeless (a .bounds) (a .rest .now) (c .finish2 .result)
+    (tail-tau (a .k) (a .rest .now) (tested .if1 .left) (c .before .if2 .taken)) (map (nameOf 8) (a .names .now)) (c .finish2 .ensures)
 
 returns-3 : tie.Need-returns-3
 returns-3 c =
     let tested = c .before .before in
     let a = tested .before .before .before .before .args in
-    storeless-become (map (nameOf 8) (a .names .now)) (a .rest .now) (c .read-act .result)
-    (tail-act (a .k) (a .rest .now) (tested .if2 .left) (c .before .if3 .taken)) (c .read-act .ensures)
-
-read-last-requires : tie.Need-read-last-requires
-read-last-requires c κs = omega arith
+    storeless-become (a .bounds) (a .rest .now) (c .read-act .result)
+    (tail-act (a .k) (a .rest .now) (tested .if2 .left) (c .before .if3 .taken)) (map (nameOf 8) (a .names .now)) (c .read-act .ensures (a .bounds))
 
 returns-4 : tie.Need-returns-4
 returns-4 c =
     let tested = c .before .before in
     let a = tested .before .before .before .before .before .args in
-    plain→storeless (map (nameOf 8) (a .names .now)) (a .rest .now) (c .read-last .result)
-    (tail-one (a .k) (a .rest .now) (tested .if3 .left) (c .before .if4 .taken)) (c .read-last .ensures)
+    plain→storeless (a .bounds) (a .rest .now) (c .read-one .result)
+    (tail-one (a .k) (a .rest .now) (tested .if3 .left) (c .before .if4 .taken)) (map (nameOf 8) (a .names .now)) (c .read-one .ensures)
 
 returns-5 : tie.Need-returns-5
 returns-5 c =
     let tested = c .before in
     let a = tested .before .before .before .before .before .before .args in
-    plain→storeless (map (nameOf 8) (a .names .now)) (a .rest .now) (c .read-two .result) (tail-two (a .k) (a .rest .now) (tested .if4 .left))
-    (c .read-two .ensures)
+    plain→storeless (a .bounds) (a .rest .now) (c .read-two .result) (tail-two (a .k) (a .rest .now) (tested .if4 .left))
+    (map (nameOf 8) (a .names .now)) (c .read-two .ensures)
 
 pub read-plain-spec : {M : Type 1} → statement M
 read-plain-spec =
     tie.close
-    (tie.spec finish-requires returns finish-requires-2 returns-2 asks-nothing returns-3 read-last-requires returns-4 asks-nothing returns-5)
+    (tie.spec finish-requires returns finish-requires-2 returns-2 asks-nothing returns-3 asks-nothing returns-4 asks-nothing returns-5)

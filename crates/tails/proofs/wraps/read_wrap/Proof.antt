@@ -10,6 +10,8 @@ use lib.ListN.{length, drop}
 use Rattle.table.specs.Decoded.{nameOf}
 use Rattle.grammar.specs.Text.{lf}
 use Rattle.grammar.specs.Forms.{space}
+use Rattle.grammar.specs.Faults.{worse, numberFault}
+use Rattle.faults.specs.CodedFaults.{foundOf}
 use Rattle.faults.proofs.Calls.{asks-nothing}
 use Rattle.words.proofs.Rests.{sign-within}
 use Rattle.words.proofs.Steps.{stuck-there, steps-to, steps-stuck}
@@ -98,8 +100,8 @@ enum-told-2 c = c .match2 .keys2
 same-length : tie.Need-same-length
 same-length c = search needs
 
-add-t25 : tie.Need-add-t25
-add-t25 c =
+add-t27 : tie.Need-add-t27
+add-t27 c =
     let read = c .before .before .before .before .before in
     let told = operand-read read in
     let start = entry told in
@@ -147,17 +149,20 @@ returns-4 c =
 -- the LF lies in the text
 add-wrapped : tie.Need-add-wrapped
 add-wrapped c =
-    let known = c .before .before in
+    let tested = c .before .before in
+    let known = tested .before .before in
     let told = operand-read (known .before .before .before .before .before) in
     let next = told .operand .given .0 .1 .0 + 1 + known .before .list .given .0 .1 .0 in
-    omega (arith, sign-within lf (entry told .args .rest .now) next (sym (c .before .sign-at2 .ensures) ∙ not-false _ (c .if2 .left)), entry told .good .1 .0)
+    let there = sym (tested .before .sign-at2 .ensures) ∙ not-false _ (tested .if2 .left) in
+    omega (arith, sign-within lf (entry told .args .rest .now) next there, entry told .good .1 .0)
 
 same-length-3 : tie.Need-same-length-3
 same-length-3 c = search needs
 
 returns-5 : tie.Need-returns-5
 returns-5 c =
-    let tested = c .before in
+    let left = c .before .before in
+    let tested = left .before in
     let known = tested .before .before in
     let read = known .before .before .before .before .before in
     let kind = read .before .before .before in
@@ -165,15 +170,17 @@ returns-5 c =
     let number = told .before .before in
     let a = number .before .before .before .before .args in
     let list = known .before .list .given in
+    let operandFault = numberFault (a .bounds .term) (told .operand .given .0 .0) in
     rw (c .wrapped .ensures)
     (wrap-line (wrapOf (a .k)) (map (nameOf 8) (a .names .now)) (a .rest .now) (steps-to (number .number-after .ensures) (told .operand .given .1))
     (sym (kind .before .before .sign-at .ensures) ∙ not-false _ (kind .before .if1 .left)) (kind .list-kind .ensures) (passed (kind .before)) (listed read)
-    (list .1) (a .n) (sym (tested .before .sign-at2 .ensures) ∙ not-false _ (tested .if2 .left))
-    (operator-wrapped (a .k) (record { at = a .n; entries = list .0 .0 .first })))
+    (list .1) (a .bounds) (sym (tested .before .sign-at2 .ensures) ∙ not-false _ (tested .if2 .left))
+    (operator-wrapped (a .k) (record { at = a .bounds .term; entries = list .0 .0 .first }))
+    (c .before .joined .ensures ∙ ap (λ p. worse (foundOf (list .0 .0 .fault)) (operandFault p)) (left .left-at .ensures)))
 
 pub read-wrap-spec : {M : Type 1} → statement M
 read-wrap-spec =
     tie.close
     (tie.spec asks-nothing enum-known-operand enum-told asks-nothing returns asks-nothing returns-2 asks-nothing add-behind sub-read-whole
-    part-read-whole-start part-read-whole-end asks-nothing enum-known-list enum-told-2 asks-nothing add-t25 same-length returns-3 add-next asks-nothing
-    same-length-2 returns-4 add-wrapped asks-nothing same-length-3 returns-5)
+    part-read-whole-start part-read-whole-end asks-nothing enum-known-list enum-told-2 asks-nothing add-t27 same-length returns-3 add-next asks-nothing
+    same-length-2 returns-4 asks-nothing asks-nothing add-wrapped asks-nothing same-length-3 returns-5)

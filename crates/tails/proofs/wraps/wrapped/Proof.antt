@@ -8,7 +8,7 @@ use Rattle.tails.proofs.wraps.wrapped.Statement.{statement}
 use Rattle.tails.proofs.wraps.wrapped.Tie as tie
 
 returns : tie.Need-returns
-returns c = ap (λ o. T.To (Wrap o (c .before .args .t)) (c .before .args .said .fault) (c .before .args .took)) (c .operator .ensures)
+returns c = ap (λ o. T.To (Wrap o (c .before .args .t)) (c .before .args .fault) (c .before .args .took)) (c .operator .ensures)
 
 pub wrapped-spec : {M : Type 1} → statement M
 wrapped-spec = tie.close (tie.spec asks-nothing returns)

@@ -1,25 +1,26 @@
 //! Each refusal number on each kind of line: one line of a well-formed
-//! description is replaced, and that line must be refused with that number.
+//! description is replaced, and that line must be refused with that number. At
+//! which column is asked in `columns`.
 
 mod head;
 mod lists;
 mod operands;
 mod tail;
 
-use super::{joined, refused};
+use super::joined;
 use crate::text;
 use std::collections::BTreeSet;
 
 /// A line of the well-formed description, and for each number the lines that
 /// are refused with it in its place; under 0 stand those that are read.
-type Row = (&'static str, &'static [(u8, &'static [&'static str])]);
+pub type Row = (&'static str, &'static [(u8, &'static [&'static str])]);
 
 const READ: u8 = 0;
 
-const TABLES: &[&[Row]] = &[head::ROWS, operands::ROWS, lists::ROWS, tail::ROWS];
+pub const TABLES: &[&[Row]] = &[head::ROWS, operands::ROWS, lists::ROWS, tail::ROWS];
 
 /// Every kind of line; the number of a line is its place here, from 1.
-const WELL_FORMED: &[&str] = &[
+pub const WELL_FORMED: &[&str] = &[
     "names=3", "name=a", "name=b", "name=c", "equations=1", "terms=17", "term=act a", "term=tau",
     "term=delta", "term=ref 0", "term=sum 0", "term=cond 0", "term=choice 0 1", "term=ifelse 0 1",
     "term=seq 0 1", "term=merge 0 1", "term=lmerge 0 1", "term=sync 0 1", "term=block 0 a",
@@ -51,7 +52,7 @@ fn each_replaced_line_gets_its_number() {
                 let text = text::answer(joined(&lines).as_bytes());
                 let expected = match *reason {
                     READ => String::from("answer=ok\n"),
-                    _ => refused(*reason, place + 1),
+                    _ => format!("answer=refused\nreason={}\nline={}\n", reason, place + 1),
                 };
                 assert!(text.starts_with(&expected), "{:?} got {}", replacement, text);
             }

@@ -1,0 +1,2 @@
+-- What the order's line gives, as the last of its text.
+pub mod Orders
