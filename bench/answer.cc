@@ -41,26 +41,35 @@ template <class Out> void put_line(Out &out, std::string_view key, unsigned valu
     out.put('\n');
 }
 
+// Those of one word, whose names these are.
+template <class Out> void put_parts(Out &out, const std::string_view *name, uint64_t word) {
+    for (; word != 0; word >>= BITS_OF_A_COUNT) {
+        if (unsigned count = word & ONE_COUNT) {
+            out.put(*name);
+            out.put(':');
+            put_number(out, count);
+            out.put('.');
+        }
+        ++name;
+    }
+}
+
 template <class Out> void put_label(Out &out, const Description &d, Label label) {
     out.put("label=");
     if (label == TAU) {
         out.put("tau.");
     }
-    for (unsigned n = 0; label >> shift_of(n) != 0; ++n) {
-        if (unsigned count = count_of(label, n)) {
-            out.put(d.names[n]);
-            out.put(':');
-            put_number(out, count);
-            out.put('.');
-        }
-    }
+    put_parts(out, d.names.data(), label.lower);
+    put_parts(out, d.names.data() + NAMES_OF_A_WORD, label.upper);
     // The last part has no dot behind it, but the end of the line.
     out.replace_last('\n');
 }
 
 constexpr size_t LONGEST_REFUSAL = sizeof "answer=refused\nreason=7\nline=130\ncolumn=8192\n";
 constexpr size_t LONGEST_HEAD = sizeof "answer=ok\nrounds=2049\nlabels=1024\n";
-constexpr size_t LONGEST_LABEL = sizeof "label=" + MOST_NAMES * sizeof "namename:31";
+
+// With all names. At most three counts of 31 actions have a second digit.
+size_t longest_label(const Description &d) { return sizeof "label=" + d.name_count * sizeof "namename:1" + 3; }
 
 // Puts a text that is no longer than `longest`. It is counted before only where the area might be too short for it.
 template <class Text> size_t write_if_it_fits(Text put_text, size_t longest, uint8_t *area, size_t area_length) {
@@ -106,5 +115,5 @@ size_t write_answer(const Description &d, Answer answer, uint8_t *area, size_t a
             put_label(out, d, label);
         }
     };
-    return write_if_it_fits(put_answer, LONGEST_HEAD + answer.labels.size() * LONGEST_LABEL, area, area_length);
+    return write_if_it_fits(put_answer, LONGEST_HEAD + answer.labels.size() * longest_label(d), area, area_length);
 }

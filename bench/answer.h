@@ -16,12 +16,6 @@ struct Answer {
     static Answer too_large() { return {true, 0, {}}; }
 };
 
-// 32 is 1 modulo 31, so the number of a label and the count of its actions leave the same rest.
-inline unsigned actions_of(Label label) {
-    unsigned rest = label % 31;
-    return rest == 0 && label != TAU ? 31 : rest;
-}
-
 // Both write a text from the start of an area and give its length. If it does not fit, nothing is written and 0 is given.
 size_t write_refusal(Refusal refusal, uint8_t *area, size_t area_length);
 size_t write_answer(const Description &description, Answer answer, uint8_t *area, size_t area_length);

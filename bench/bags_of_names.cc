@@ -80,7 +80,7 @@ class BagsOfNames {
     Label number(const Bag &x) const {
         Label sum = TAU;
         for (Name name : x) {
-            sum += single(name - names.data());
+            sum = sum + single(name - names.data());
         }
         return sum;
     }
@@ -100,31 +100,32 @@ class BagsOfNames {
 
     void prepare(const Term &term, Lists &l) const {
         l.kind = term.kind;
-        for (const Label *word = term.list.begin(); word < term.list.end(); ++word) {
+        for (const Label *label = term.list.begin(); label < term.list.end(); ++label) {
             switch (term.kind) {
             case Kind::rename:
-                l.renaming[&names[word[0]]] = &names[word[1]];
-                ++word;
+                l.renaming[name(label[0])] = name(label[1]);
+                ++label;
                 break;
             case Kind::comm:
-                l.rules.push_back({bag(word[0]), *bag(word[1]).begin()});
-                ++word;
+                l.rules.push_back({bag(label[0]), name(label[1])});
+                ++label;
                 break;
             case Kind::allow:
-                l.allowed.insert(bag(*word));
+                l.allowed.insert(bag(*label));
                 break;
             default:
-                l.names.insert(&names[*word]);
+                l.names.insert(name(*label));
             }
         }
     }
 
+    // The first of a label.
+    Name name(Label label) const { return &names[first_name(label)]; }
+
     Bag bag(Label label) const {
         Bag result;
-        for (unsigned n = 0; n < names.size(); ++n) {
-            for (unsigned i = 0; i < count_of(label, n); ++i) {
-                result.insert(&names[n]);
-            }
+        for (; label != TAU; label = label - single(first_name(label))) {
+            result.insert(name(label));
         }
         return result;
     }

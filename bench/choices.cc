@@ -6,19 +6,6 @@
 
 namespace {
 
-Choice choice_of(Label label, Label left) { return Choice{label} << 64 | left; }
-Label label_of(Choice choice) { return Label(choice >> 64); }
-Label left_of(Choice choice) { return Label(choice); }
-
-// The names of a label, with all the bits of their counts.
-Label names_of(Label label) {
-    Label names = 0;
-    for (unsigned n = 0; n < MOST_NAMES; ++n) {
-        names |= count_of(label, n) > 0 ? whole_count(n) : 0;
-    }
-    return names;
-}
-
 // Looks for ascending values in an ascending run, each from where the search before ended, by steps that double.
 template <class Value> class Seeker {
     const Value *at;
@@ -46,18 +33,18 @@ void RuleOrder::prepare(List list) {
     for (unsigned i = 0; i < count; ++i) {
         rules[i] = {list.first[2 * i], list.first[2 * i + 1], names_of(list.first[2 * i])};
     }
-    Label looked_for = 0;
+    Label looked_for = TAU;
     for (unsigned open = count; open > 0; --open) {
         auto cost = [=](const Rule &rule) {
             Label names = looked_for | rule.later;
-            auto adds_none = [=](const Rule &other) { return (other.later & ~names) == 0; };
-            int bits_added = __builtin_popcountll(names & ~looked_for);
-            return bits_added * int(MOST_RULES) - int(std::count_if(rules, rules + open, adds_none));
+            auto adds_none = [=](const Rule &other) { return (other.later & ~names) == TAU; };
+            int names_added = number_of_names(names & ~looked_for);
+            return names_added * int(MOST_RULES) - int(std::count_if(rules, rules + open, adds_none));
         };
         auto is_better = [=](const Rule &x, const Rule &y) { return cost(x) < cost(y); };
         Rule &last = rules[open - 1];
         std::swap(*std::min_element(rules, rules + open, is_better), last);
-        looked_for |= std::exchange(last.later, looked_for);
+        looked_for = looked_for | std::exchange(last.later, looked_for);
     }
 }
 
@@ -67,7 +54,7 @@ bool Choices::take_results(const RuleOrder &rules, Run fresh, Run operand, RunMe
     for (Label label : fresh) {
         auto fits = [=](const RuleOrder::Rule &rule) { return lies_inside(rule.left, label); };
         if (std::any_of(rules.begin(), rules.end(), fits)) {
-            choices.push_back(choice_of(label, label));
+            choices.push_back({label, label});
         }
     }
     for (const RuleOrder::Rule &rule : rules) {
@@ -91,11 +78,7 @@ bool Choices::apply(const RuleOrder::Rule &rule, Run operand, RunMerger &merger)
         }
     } while (!generations[number].empty());
     while (--number > 0) {
-        const std::vector<Choice> &older = generations[number - 1];
-        const std::vector<Choice> &younger = generations[number];
-        scratch.resize(older.size() + younger.size());
-        std::merge(older.begin(), older.end(), younger.begin(), younger.end(), scratch.begin());
-        std::swap(generations[number - 1], scratch);
+        add_new(generations[number], generations[number - 1]);
     }
     return true;
 }
@@ -105,26 +88,25 @@ bool Choices::apply(const RuleOrder::Rule &rule, Run operand, RunMerger &merger)
 bool Choices::take_generation(const RuleOrder::Rule &rule, unsigned number, Run operand, RunMerger &merger) {
     const std::vector<Choice> &known = generations[0];
     std::vector<Choice> &made = generations[number];
-    Choice change = choice_of(rule.right - rule.left, 0) - rule.left;
+    Label change = rule.right - rule.left;
     Seeker<Label> in_operand(operand.labels, operand.count);
     Seeker<Choice> in_known(known.data(), known.size());
     size_t count = 0;
     made.clear();
-    for (Choice choice : generations[number - 1]) {
-        if (!lies_inside(rule.left, left_of(choice))) {
+    for (const Choice &before : generations[number - 1]) {
+        if (!lies_inside(rule.left, before.left)) {
             continue;
         }
-        choice += change;
-        Label label = label_of(choice);
-        if (in_operand.finds(label) || in_known.finds(choice)) {
+        Choice choice = {before.label + change, before.left - rule.left};
+        if (in_operand.finds(choice.label) || in_known.finds(choice)) {
             continue;
         }
         made.push_back(choice);
-        if (count == 0 || merger.room()[count - 1] != label) {
+        if (count == 0 || merger.room()[count - 1] != choice.label) {
             if (count == MOST_LABELS_OF_A_SET) {
                 return false;
             }
-            merger.room()[count++] = label;
+            merger.room()[count++] = choice.label;
         }
     }
     return count == 0 || merger.take(count);
@@ -133,13 +115,12 @@ bool Choices::take_generation(const RuleOrder::Rule &rule, unsigned number, Run 
 // Choices that come to one label, and differ in what no later rule looks for, become one.
 void Choices::forget_all_but(Label names) {
     std::vector<Choice> &choices = generations[0];
-    Choice mask = choice_of(~Label{0}, names);
     for (Choice &choice : choices) {
-        choice &= mask;
+        choice.left = choice.left & names;
     }
     auto end = choices.end();
     for (auto first = choices.begin(); first != end;) {
-        auto last = std::find_if(first, end, [=](Choice choice) { return label_of(choice) != label_of(*first); });
+        auto last = std::find_if(first, end, [=](const Choice &choice) { return choice.label != first->label; });
         if (!std::is_sorted(first, last)) {
             std::sort(first, last);
         }

@@ -22,16 +22,21 @@ class RuleOrder {
     unsigned count;
 };
 
-// Disjoint parts of a label that were chosen: in the upper word what the label came to by it, in the lower one what is left of
-// it. A rule changes all choices that it can be applied to by the same amount, so that they stay ascending.
-using Choice = unsigned __int128;
+// Disjoint parts of a label that were chosen: what the label came to by it, and what is left of it. A rule changes all choices
+// that it can be applied to by the same amount, so that they stay ascending.
+struct Choice {
+    Label label;
+    Label left;
+
+    bool operator<(const Choice &other) const { return label != other.label ? label < other.label : left < other.left; }
+    bool operator==(const Choice &other) const { return label == other.label && left == other.left; }
+};
 
 class Choices {
     static constexpr unsigned MOST_PARTS = MOST_ACTIONS / 2;
 
     // What was chosen before a rule, and what comes of it when the rule is applied once, twice and so on.
     std::vector<Choice> generations[MOST_PARTS + 2];
-    std::vector<Choice> scratch;
 
   public:
     // Puts into the merger what the rules make of labels that are new in the operand. False where there is too much of it.

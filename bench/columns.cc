@@ -246,11 +246,11 @@ class RefusedLine {
             std::string_view part = piece(parts, at, ".");
             std::string_view name = piece(part, 0, ":");
             unsigned count = name == part ? 1 : value_of(part.substr(name.size() + 1));
-            Label one = single(number_of(name));
+            unsigned n = number_of(name);
             // All names before are smaller if their label is below one action of this name.
-            is_right = is_right && count != 0 && label < one;
+            is_right = is_right && count != 0 && label < single(n);
             actions += count;
-            label += count * one;
+            label = label + times(count, n);
             at += part.size() + 1;
         }
         return is_right && least_actions <= actions && actions <= MOST_ACTIONS;

@@ -27,7 +27,7 @@ class DescriptionReader : ListReader {
 
   public:
     DescriptionReader(std::string_view text, Description &description)
-        : ListReader(text, description.words.data()), text(text), d(description) {}
+        : ListReader(text, description.labels.data()), text(text), d(description) {}
 
     Refusal read() {
         bool is_read = read_names() && read_terms() && read_bodies() && passes(take_body("root=", d.root)) &&
@@ -110,7 +110,7 @@ class DescriptionReader : ListReader {
     }
 
     bool take_action(uint8_t &name) {
-        Label n;
+        unsigned n;
         bool has_form = take_name(n);
         name = n;
         return has_form;

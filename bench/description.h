@@ -1,37 +1,25 @@
 // A description in memory, and its reader. All peers share it, so that they differ in how they hold sets and in nothing else.
 #pragma once
 
+#include "labels.h"
+
 #include <array>
 #include <cstddef>
 #include <cstdint>
 #include <string_view>
 
-constexpr unsigned MOST_NAMES = 12;
 constexpr unsigned MOST_EQUATIONS = 16;
 constexpr unsigned MOST_TERMS = 96;
 constexpr unsigned MOST_RULES = 8;
 constexpr unsigned MOST_LABELS_OF_A_LIST = 32;
-constexpr unsigned MOST_ACTIONS = 31;
 constexpr size_t MOST_BYTES = 8192;
-
-// The number of a label: five bits for the count of each name.
-using Label = uint64_t;
-
-constexpr unsigned BITS_OF_A_COUNT = 5;
-constexpr Label ONE_COUNT = 31;
-constexpr Label TAU = 0;
-
-constexpr unsigned shift_of(unsigned name) { return BITS_OF_A_COUNT * name; }
-constexpr Label single(unsigned name) { return Label{1} << shift_of(name); }
-constexpr Label whole_count(unsigned name) { return ONE_COUNT << shift_of(name); }
-constexpr unsigned count_of(Label label, unsigned name) { return (label >> shift_of(name)) & ONE_COUNT; }
 
 enum class Kind : uint8_t {
     act, tau, delta, ref, sum, cond, choice, ifelse, seq, merge, lmerge, sync, block, hide, rename, comm, allow
 };
 
-// The words of a list that a term or the order has. Block and hide: the names. Rename: from and to, pair after pair. Comm: a
-// left label and the label of the right name, rule after rule. Allow and the order: the labels.
+// The labels of a list that a term or the order has. Block and hide: those of the names. Rename: from and to, pair after pair.
+// Comm: a left label and that of the right name, rule after rule.
 struct List {
     const Label *first;
     const Label *last;
@@ -59,12 +47,12 @@ struct Description {
     std::array<std::string_view, MOST_NAMES> names;
     std::array<Term, MOST_TERMS> terms;
     std::array<uint8_t, MOST_EQUATIONS> bodies;
-    // A list over its maximum is read to its end, too. There is room, as a word takes two bytes of text or more.
-    std::array<Label, MOST_BYTES / 2> words;
+    // A list over its maximum is read to its end, too. There is room, as a label takes two bytes of text or more.
+    std::array<Label, MOST_BYTES / 2> labels;
 
     // Left as it comes: what is not read is not used either, and clearing it would cost more than reading a small description.
     Description() {}
-    // The lists point into the words.
+    // The lists point into the labels.
     Description(const Description &) = delete;
 };
 

@@ -8,7 +8,7 @@
 //   mapped(t, x), what hide or rename of term t makes of x;
 //   rules(t), each with apply(rest, sum), which takes the left side out of both and adds the right side to the sum, where the
 //   left side lies inside the rest, and undo(rest, sum);
-//   number(x), the label's number.
+//   number(x), the packed label.
 #pragma once
 
 #include "answer.h"

@@ -1,4 +1,4 @@
-// Peer (b): a label is a word and a set is a std::set of words.
+// Peer (b): a label is packed in two words and a set is a std::set of such labels.
 #include "ordered_sets.h"
 #include "packed_words.h"
 #include "peers.h"
@@ -13,14 +13,14 @@ struct WordRule {
         if (!lies_inside(left, rest)) {
             return false;
         }
-        rest -= left;
-        sum += right - left;
+        rest = rest - left;
+        sum = sum - left + right;
         return true;
     }
 
     void undo(Label &rest, Label &sum) const {
-        rest += left;
-        sum += left - right;
+        rest = rest + left;
+        sum = sum - right + left;
     }
 };
 
@@ -43,18 +43,21 @@ class PackedWords {
     bool passes(unsigned t, Label x) const {
         const Term &term = d.terms[t];
         if (term.kind == Kind::block) {
-            return (x & lists[t].blocked) == 0;
+            return !lists[t].names[0].occur_in(x);
         }
         return x == TAU || std::binary_search(term.list.begin(), term.list.end(), x);
     }
 
-    Label mapped(unsigned t, Label x) const { return lists[t].map[0](x); }
+    Label mapped(unsigned t, Label x) const {
+        const ListedNames &names = lists[t].names[0];
+        return d.terms[t].kind == Kind::hide ? names.hidden_in(x) : names.renamed_in(x);
+    }
+
     const std::vector<WordRule> &rules(unsigned t) const { return lists[t].rules; }
 
   private:
     struct Lists {
-        Label blocked = 0;
-        std::vector<WordMap> map;
+        std::vector<ListedNames> names; // one, where there are some
         std::vector<WordRule> rules;
     };
 
@@ -62,10 +65,8 @@ class PackedWords {
     std::vector<Lists> lists;
 
     static void prepare(const Term &term, Lists &l) {
-        if (term.kind == Kind::block) {
-            l.blocked = whole_counts(term.list);
-        } else if (term.kind == Kind::hide || term.kind == Kind::rename) {
-            l.map.emplace_back(term);
+        if (lists_names(term.kind)) {
+            l.names.emplace_back().prepare(term);
         } else if (term.kind == Kind::comm) {
             for (const Label *rule = term.list.begin(); rule < term.list.end(); rule += 2) {
                 l.rules.push_back({rule[0], rule[1]});

@@ -31,6 +31,7 @@ struct GrowingSet {
 // Kept from call to call, so that a call allocates next to nothing.
 struct Workspace {
     GrowingSet sets[MOST_TERMS];
+    ListedNames names[MOST_TERMS];
     RuleOrder rules[MOST_TERMS];
     RunMerger merger;
     Choices choices;
@@ -62,6 +63,8 @@ class SortedVectors {
             note_operands(t);
             if (d.terms[t].kind == Kind::comm) {
                 w.rules[t].prepare(d.terms[t].list);
+            } else if (lists_names(d.terms[t].kind)) {
+                w.names[t].prepare(d.terms[t]);
             }
         }
         note_bodies();
@@ -122,7 +125,7 @@ class SortedVectors {
     bool keep(GrowingSet &set) {
         labels_together += set.fresh.size();
         add_new(set.fresh, set.all);
-        for (Label label : set.fresh) {
+        for (const Label &label : set.fresh) {
             set.most_actions = std::max(set.most_actions, actions_of(label));
         }
         return set.all.size() <= MOST_LABELS_OF_A_SET && labels_together <= MOST_LABELS_OF_ALL_SETS;
@@ -242,21 +245,22 @@ class SortedVectors {
         const Term &term = d.terms[t];
         const std::vector<Label> &from = operand.fresh;
         switch (term.kind) {
-        case Kind::block: {
-            Label blocked = whole_counts(term.list);
-            keep_if(from, set, [=](Label label) { return (label & blocked) == 0; });
+        case Kind::block:
+            keep_if(from, set, [&](Label label) { return !w.names[t].occur_in(label); });
             return true;
-        }
+        case Kind::hide:
+            add_mapped(from, set, [&](Label label) { return w.names[t].hidden_in(label); });
+            return true;
+        case Kind::rename:
+            add_mapped(from, set, [&](Label label) { return w.names[t].renamed_in(label); });
+            return true;
         case Kind::allow:
             keep_if(from, set, [&](Label label) {
                 return label == TAU || std::binary_search(term.list.begin(), term.list.end(), label);
             });
             return true;
-        case Kind::comm:
-            return add_communication(t, operand, set);
         default:
-            add_mapped(WordMap(term), from, set);
-            return true;
+            return add_communication(t, operand, set);
         }
     }
 
@@ -266,7 +270,7 @@ class SortedVectors {
         std::copy_if(from.begin(), from.end(), std::back_inserter(set.fresh), test);
     }
 
-    void add_mapped(const WordMap &map, const std::vector<Label> &from, GrowingSet &set) {
+    template <class Map> void add_mapped(const std::vector<Label> &from, GrowingSet &set, Map map) {
         w.scratch.resize(from.size());
         std::transform(from.begin(), from.end(), w.scratch.begin(), map);
         std::sort(w.scratch.begin(), w.scratch.end());

@@ -10,7 +10,7 @@ from texts import KEYS, SEVERAL
 from wording import did_you_mean, is_odd, quoted, told_byte
 
 # What the number behind a key may be.
-COUNTS = {"names": (1, 12), "equations": (0, 16), "terms": (1, 96)}
+COUNTS = {"names": (1, 24), "equations": (0, 16), "terms": (1, 96)}
 # What follows the word of a kind, each part behind a space.
 NUMBER, NAME = "a number", "a name"
 NAMES, PAIRS, RULES, LABELS = "a list of names", "a list of pairs", "a list of rules", "'none' or a list of labels"

@@ -1,5 +1,5 @@
 /* What include/rimecutter.h promises of the areas, tried from C: guard bytes stand on both sides of each area, and everything past
- * the text must be as it was. Ends with status 1 and the first line of this file that does not hold. */
+ * the text, or past what was converted, must be as it was. Ends with status 1 and the first line of this file that does not hold. */
 #include <stdio.h>
 #include <stdlib.h>
 #include <string.h>
@@ -113,6 +113,112 @@ static void check_turns(void)
     free(second.whole);
 }
 
+/* The conversions. An area of words, between the guards too, in which so many words are due and the others stay. */
+static void check_words(struct area area, const uint64_t *due, size_t count)
+{
+    CHECK(count == 0 || memcmp(start_of(area), due, count * sizeof *due) == 0);
+    check_untouched(area, count * sizeof *due);
+}
+
+static struct area words_of(const uint64_t *words, size_t count)
+{
+    struct area area = area_of(count * sizeof *words);
+    if (count > 0)
+        memcpy(start_of(area), words, count * sizeof *words);
+    return area;
+}
+
+static uint64_t *words_in(struct area area)
+{
+    return (uint64_t *)(void *)start_of(area);
+}
+
+/* A list converted one way, into an area with room for so many words: what is answered, what stands there then, and that what was
+ * read is as it was. */
+static void check_conversion(int widen, const uint64_t *given, size_t count, size_t room, size_t answer, const uint64_t *due, size_t made)
+{
+    struct area from = words_of(given, count), to = area_of(room * sizeof *given);
+    size_t answered = widen ? rimecutter_widen(words_in(from), count, words_in(to), room)
+                            : rimecutter_narrow(words_in(from), count, words_in(to), room);
+    CHECK(answered == answer);
+    check_words(to, due, answer == RIMECUTTER_CONVERTED ? made : 0);
+    check_words(from, given, count);
+    free(from.whole);
+    free(to.whole);
+}
+
+/* Numbers and their words, there and back, into areas that just fit, that have a word more and that lack one; and a word that has
+ * none beside it. */
+static void check_there_and_back(const uint64_t *numbers, size_t count, const uint64_t *words)
+{
+    check_conversion(1, numbers, count, 2 * count, RIMECUTTER_CONVERTED, words, 2 * count);
+    check_conversion(1, numbers, count, 2 * count + 1, RIMECUTTER_CONVERTED, words, 2 * count);
+    check_conversion(0, words, 2 * count, count, RIMECUTTER_CONVERTED, numbers, count);
+    check_conversion(0, words, 2 * count, count + 1, RIMECUTTER_CONVERTED, numbers, count);
+    if (count == 0)
+        return;
+    check_conversion(1, numbers, count, 2 * count - 1, RIMECUTTER_TOO_LONG, NULL, 0);
+    check_conversion(1, numbers, count, 0, RIMECUTTER_TOO_LONG, NULL, 0);
+    check_conversion(0, words, 2 * count, count - 1, RIMECUTTER_TOO_LONG, NULL, 0);
+    check_conversion(0, words, 2 * count - 1, count, RIMECUTTER_TOO_LONG, NULL, 0);
+}
+
+enum { LABELS = 5 };
+
+/* Any bits in a lower word are kept: those past the names, too. */
+static const uint64_t stored[LABELS] = {47, 0, UINT64_MAX, 0x8000000000000001, 0x0fffffffffffffff};
+static const uint64_t widened[2 * LABELS] = {47, 0, 0, 0, UINT64_MAX, 0, 0x8000000000000001, 0, 0x0fffffffffffffff, 0};
+
+/* With an upper word in use in one label, whichever it is and whatever bit is set, nothing is given. A short area is told first. */
+static void check_upper_in_use(size_t label)
+{
+    uint64_t words[2 * LABELS];
+    for (int bit = 0; bit < 64; bit++) {
+        memcpy(words, widened, sizeof words);
+        words[2 * label + 1] = (uint64_t)1 << bit;
+        check_conversion(0, words, 2 * LABELS, LABELS, RIMECUTTER_UPPER_IN_USE, NULL, 0);
+        check_conversion(0, words, 2 * LABELS, LABELS - 1, RIMECUTTER_TOO_LONG, NULL, 0);
+        check_conversion(0, words, 2 * LABELS - 1, LABELS, RIMECUTTER_TOO_LONG, NULL, 0);
+    }
+}
+
+/* One label: each bit of its number goes to two words and back. */
+static void check_label(uint64_t number)
+{
+    const uint64_t due[2] = {number, 0};
+    struct area words = area_of(3 * sizeof number), back = area_of(2 * sizeof number);
+    CHECK(rimecutter_widen_label(number, words_in(words), 1) == RIMECUTTER_TOO_LONG);
+    check_words(words, NULL, 0);
+    CHECK(rimecutter_widen_label(number, words_in(words), 3) == RIMECUTTER_CONVERTED);
+    check_words(words, due, 2);
+    CHECK(rimecutter_narrow_label(number, 0, words_in(back), 0) == RIMECUTTER_TOO_LONG);
+    CHECK(rimecutter_narrow_label(number, number | 1, words_in(back), 2) == RIMECUTTER_UPPER_IN_USE);
+    CHECK(rimecutter_narrow_label(0, (uint64_t)1 << 63, words_in(back), 2) == RIMECUTTER_UPPER_IN_USE);
+    check_words(back, NULL, 0);
+    CHECK(rimecutter_narrow_label(number, 0, words_in(back), 2) == RIMECUTTER_CONVERTED);
+    check_words(back, due, 1);
+    free(words.whole);
+    free(back.whole);
+}
+
+static void check_conversions(void)
+{
+    for (size_t count = 0; count <= LABELS; count++)
+        check_there_and_back(stored, count, widened);
+    for (size_t label = 0; label < LABELS; label++)
+        check_upper_in_use(label);
+    for (int bit = 0; bit < 64; bit++)
+        check_label((uint64_t)1 << bit);
+    check_label(0);
+    check_label(UINT64_MAX);
+    CHECK(rimecutter_widen(NULL, 0, NULL, 0) == RIMECUTTER_CONVERTED);
+    CHECK(rimecutter_narrow(NULL, 0, NULL, 0) == RIMECUTTER_CONVERTED);
+    CHECK(rimecutter_widen(stored, 1, NULL, 0) == RIMECUTTER_TOO_LONG);
+    CHECK(rimecutter_narrow(widened, 2, NULL, 0) == RIMECUTTER_TOO_LONG);
+    CHECK(rimecutter_widen_label(47, NULL, 0) == RIMECUTTER_TOO_LONG);
+    CHECK(rimecutter_narrow_label(47, 0, NULL, 0) == RIMECUTTER_TOO_LONG);
+}
+
 int main(void)
 {
     check_rooms(listing, strlen(listing), listed);
@@ -120,6 +226,7 @@ int main(void)
     check_nulls();
     check_oversized();
     check_turns();
-    puts("the C call is as its header says");
+    check_conversions();
+    puts("the C calls are as their header says");
     return 0;
 }

@@ -105,13 +105,27 @@ def first_difference(command, sample, seconds=None, agrees=operator.eq):
         return next(found, None)
 
 
-def some_difference(command, sample):
-    """A Difference, or None: the records are dealt out to as many runs of the
-    program as there are processors."""
+def dealt_out(command, sample):
+    """A Difference, or None, and else the texts of the program: the records are
+    dealt out to as many runs of it as there are processors."""
     count = os.cpu_count() or 1
+    printed = [[] for _ in range(count)]
     with concurrent.futures.ThreadPoolExecutor(count) as runs:
-        found = list(runs.map(lambda part: first_difference(command, part), sample.parts(count)))
+        found = list(runs.map(lambda part, texts: difference_beside(command, part, texts), sample.parts(count), printed))
     for at, difference in enumerate(found):
         if difference:
-            return dataclasses.replace(difference, number=(difference.number - 1) * count + at + 1)
-    return None
+            return dataclasses.replace(difference, number=(difference.number - 1) * count + at + 1), []
+    texts = list(sample.texts)
+    for at, of_part in enumerate(printed):
+        texts[at::count] = of_part
+    return None, texts
+
+
+def difference_beside(command, sample, texts):
+    """The first Difference, or None; the texts up to there are added to the list."""
+
+    def agrees(expected, printed):
+        texts.append(printed)
+        return expected == printed
+
+    return first_difference(command, sample, agrees=agrees)

@@ -18,7 +18,7 @@ OTHER_KINDS = [kind for kind in KINDS_OF_TERM if kind not in EXACT_KINDS]
 
 # The records that are made for this, and so many of those that are not.
 CLASS = "exact-kinds"
-OTHER_CLASSES = ("well-formed", "recursion", "communication", "sync-operands")
+OTHER_CLASSES = ("well-formed", "recursion", "communication", "sync-operands", "spread-names", "across-12")
 MOST_OF_OTHER_CLASSES = 2000
 
 # Exact lists of several labels in fewer records than this are rare.

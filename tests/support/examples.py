@@ -1,5 +1,5 @@
-"""The pairs in examples/: NAME.txt, which a program reads, and NAME.expected,
-which it must print. Each is told in examples/README.md."""
+"""The pairs in examples/ and examples/models/: NAME.txt, which a program reads,
+and NAME.expected, which it must print. Each is told in the README.md beside it."""
 
 import re
 import subprocess
@@ -8,6 +8,7 @@ from support.comparing import shown
 from support.programs import TOP, Failed
 
 EXAMPLES = TOP / "examples"
+FOLDERS = ("", "models/")
 FIRST = "stripe-15-of-16"
 
 
@@ -21,16 +22,22 @@ def check_examples(command):
 
 
 def told_examples():
-    """The examples in the order of the README, which must name each pair."""
-    told = re.findall(r"^- `([a-z0-9-]+)`", (EXAMPLES / "README.md").read_text(), re.MULTILINE)
+    """The examples in the order of their pages, by their places in examples/."""
+    told = [f"{folder}{name}" for folder in FOLDERS for name in told_in(folder)]
     if told[:1] != [FIRST]:
         raise Failed(f"examples/README.md does not begin with {FIRST}")
+    return told
+
+
+def told_in(folder):
+    """The examples of a folder in the order of its README, which must name each pair."""
+    told = re.findall(r"^- `([a-z0-9-]+)`", (EXAMPLES / folder / "README.md").read_text(), re.MULTILINE)
     due = sorted([f"{name}.txt" for name in told] + [f"{name}.expected" for name in told])
-    pairs = (path for path in EXAMPLES.iterdir() if path.suffix in (".txt", ".expected"))
+    pairs = (path for path in (EXAMPLES / folder).iterdir() if path.suffix in (".txt", ".expected"))
     there = sorted(path.name for path in pairs)
     if due != there:
         odd = ", ".join(sorted(set(due) ^ set(there))) or "one of them is told twice"
-        raise Failed(f"examples/ and its README.md do not agree: {odd}")
+        raise Failed(f"examples/{folder} and its README.md do not agree: {odd}")
     return told
 
 

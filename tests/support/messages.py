@@ -94,17 +94,17 @@ END = "the end of the line is due"
 NO_LF = "the text ends here, without the LF that ends a line"
 CASES = [
     # The counts.
-    case(2, 1, 7, "names=0", "the number of names is 1 to 12, not 0"),
-    case(2, 1, 7, "names=13", "the number of names is 1 to 12, not 13"),
+    case(2, 1, 7, "names=0", "the number of names is 1 to 24, not 0"),
+    case(2, 1, 7, "names=25", "the number of names is 1 to 24, not 25"),
     case(2, 1, 7, "names=", "a number is due here, not the end of the line"),
-    case(2, 1, 9, "names=13 ", f"after the number 13 {END}, not a space"),
-    case(2, 1, 9, "names=130", "a number has at most two digits"),
+    case(2, 1, 9, "names=25 ", f"after the number 25 {END}, not a space"),
+    case(2, 1, 9, "names=250", "a number has at most two digits"),
     case(2, 1, 8, "names=03", "a number has no leading zero"),
     case(2, 1, 8, "names=3\r", "a line ends with LF alone, and not with CR and LF"),
     case(2, 1, 1, "\xef\xbb\xbfnames=3", "this line must begin with 'names=', and here is byte 239"),
     case(2, 1, 6, "names:3", "this line must begin with 'names='"),
     Case(2, 1, 8, "names=3", NO_LF),
-    Case(2, 1, 9, "names=13", NO_LF),
+    Case(2, 1, 9, "names=25", NO_LF),
     case(2, 5, 11, "equations=17", "the number of equations is 0 to 16, not 17"),
     case(2, 5, 11, "equations=-1", "a number is due here, not '-'"),
     case(2, 5, 1, "name=seal", "this line must begin with 'equations=': 3 of 3 lines 'name=' came before"),

@@ -7,7 +7,7 @@ from support.programs import TOP, Failed
 # One width for all pages, and one for the rows of their tables.
 COLUMNS = 100
 ROW_COLUMNS = 130
-REASONS = (1, 2, 3, 4, 5, 7, 8)
+REASONS = (1, 2, 3, 4, 5, 7, 8, 11)
 # Those of a tally, which the header has no call for.
 TALLY_REASONS = (17, 18)
 # Numbers that were given once and are not used again.
@@ -18,7 +18,7 @@ def check_pages(top=TOP):
     """Ends with Failed if the header or docs/FORMAT.md lacks a refusal's number or
     has one that was withdrawn, no page names an example, or a page has a line
     that is too wide."""
-    pages = sorted([*top.glob("*.md"), *top.glob("*/*.md"), *top.glob("docs/*/*.md")])
+    pages = sorted([*top.glob("*.md"), *top.glob("*/*.md"), *top.glob("docs/*/*.md"), *top.glob("examples/*/*.md")])
     faults = [*wrong_reasons(top), *nameless_examples(top)]
     for page in pages:
         faults += wide_lines(page, COLUMNS, lambda line: not line.startswith("|"))
@@ -44,12 +44,17 @@ def wrong_reasons(top):
 
 
 def examples(top):
-    return sorted(path.stem for path in (top / "examples").glob("*.txt"))
+    """The examples, by their places in examples/: those in a folder have its name."""
+    folder = top / "examples"
+    return sorted(str(path.relative_to(folder).with_suffix("")) for path in folder.rglob("*.txt"))
 
 
 def nameless_examples(top):
-    page = (top / "examples" / "README.md").read_text()
-    return [f"examples/README.md does not name {name}" for name in examples(top) if f"`{name}`" not in page]
+    """Each is named on the page beside it."""
+    for path in (top / "examples" / name for name in examples(top)):
+        page = path.with_name("README.md")
+        if f"`{path.name}`" not in page.read_text():
+            yield f"{page.relative_to(top)} does not name {path.name}"
 
 
 def wide_lines(path, most, counts=lambda line: True):

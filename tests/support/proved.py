@@ -11,8 +11,9 @@ import platform
 import shutil
 import subprocess
 
-from support.comparing import shown, some_difference
+from support.comparing import dealt_out, shown
 from support.examples import check_examples
+from support.kept import check_kept
 from support.programs import TESTS, TOP, Failed, built, output_folder, run
 from support.tally import NOT_WHOLE, check_additions
 from support.tally_files import check_files, check_many_files, check_records, example_files
@@ -81,22 +82,33 @@ def build_archive():
 
 def check_c_call(sample):
     """The C call: its archive is linked, the promises of its header tried, and
-    its texts compared with the reference's, record by record."""
+    its texts compared with the reference's, record by record, and with those that
+    were kept."""
     print(run(command(linked(C_CALL / "checks.c"))).decode(), end="", flush=True)
     check_example_program()
-    difference = some_difference(command(linked(C_CALL / "batch.c")), sample)
+    difference, texts = dealt_out(command(linked(C_CALL / "batch.c")), sample)
     if difference:
         print(difference, end="", flush=True)
         raise Failed("the C call differs from the reference")
     print(f"the C call answers {len(sample.records)} records as the reference does", flush=True)
+    check_kept("the C call", sample, texts)
 
 
 def check_example_program():
-    """The example program for C prints an alphabet."""
+    """The example program for C prints an alphabet, and converts numbers."""
     program = command(linked(TOP / "examples" / "call.c"))
-    printed = run([*program, str(TOP / "examples" / "stripe-15-of-16.txt")])
-    if printed != (TOP / "examples" / "stripe-15-of-16.expected").read_bytes():
-        raise Failed(f"examples/call.c prints something else:\n{shown(printed)}")
+    stripe = TOP / "examples" / "stripe-15-of-16.txt"
+    for words, due in (
+        ([str(stripe)], stripe.with_suffix(".expected").read_bytes()),
+        (["--widen", "47", "1"], b"47 0\n1 0\n"),
+        (["--narrow", "47", "0", "1", "0"], b"47\n1\n"),
+    ):
+        printed = run([*program, *words])
+        if printed != due:
+            raise Failed(f"examples/call.c prints something else:\n{shown(printed)}")
+    refused = subprocess.run([*program, "--narrow", "47", "0", "0", "1"], capture_output=True, check=False)
+    if (refused.returncode, refused.stdout, refused.stderr) != (1, b"", b"call: refusal 11\n"):
+        raise Failed("examples/call.c does not refuse an upper word in use")
 
 
 def check_program():

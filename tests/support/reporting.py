@@ -7,7 +7,7 @@ tried must not be rare among the records.
 import collections
 import re
 
-from support import columns
+from support import columns, many_names
 from support.programs import Failed
 from support.syncs import SORTS, sorts_of_sync
 
@@ -30,6 +30,9 @@ FEW_WITH_A_SYNC = 2000
 
 # The same for what the column of a refusal shows.
 FEW_WITH_A_COLUMN = 100
+
+# The same for each number of names, and for what there is with more than twelve.
+FEW_WITH_NAMES = 60
 
 KINDS_OF_TERM = (
     "act tau delta ref sum cond choice ifelse seq merge lmerge sync"
@@ -54,6 +57,7 @@ def report(sample):
     answered_with = collections.Counter()
     syncs = collections.Counter()
     shown = collections.Counter()
+    names = collections.Counter()
     rounds = []
     for record, text, name in zip(sample.records, sample.texts, sample.classes):
         outcome, second, column = outcome_of(text)
@@ -64,22 +68,26 @@ def report(sample):
             lines = record.split(b"\n")
             answered_with.update({kind_of(line) for line in lines})
             syncs.update(sorts_of_sync(lines))
+            names.update(set(many_names.sorts_of_answer(record, text)))
         else:
             by_kind[kind_at(record, second)][outcome] += 1
             if second:
                 shown.update(columns.sorts_of_refusal(record, outcome, second, column))
+                names.update(many_names.sorts_of_refusal(record, outcome, second, column))
     show("class", by_class)
     show("line refused", by_kind)
     long = sum(count >= MANY_ROUNDS for count in rounds)
     print(f"most rounds: {max(rounds, default=0)}, {MANY_ROUNDS} or more: {long} records")
     print("answered with a sync: " + ", ".join(f"{sort} {syncs[sort]}" for sort in SORTS))
     print("refused with " + ", ".join(f"{sort}: {shown[sort]}" for sort in columns.SORTS))
+    print("with many names " + ", ".join(f"{sort}: {names[sort]}" for sort in many_names.SORTS))
     found = rare(by_class["together"], by_kind, answered_with, syncs)
     found += [
         f"{shown[sort]} refused with {sort}"
         for sort in columns.SORTS
         if shown[sort] < FEW_WITH_A_COLUMN
     ]
+    found += [f"{names[sort]} with {sort}" for sort in many_names.SORTS if names[sort] < FEW_WITH_NAMES]
     if long < FEW_WITH_MANY_ROUNDS:
         found.append(f"{long} with {MANY_ROUNDS} rounds or more")
     if found:
@@ -113,9 +121,9 @@ def kind_of(line):
 
 def show(title, rows):
     heads = ["answered" if outcome == ANSWERED else str(outcome) for outcome in OUTCOMES]
-    print(f"{title:20}" + "".join(f"{head:>9}" for head in heads))
+    print(f"{title:24}" + "".join(f"{head:>9}" for head in heads))
     for name, counts in sorted(rows.items(), key=lambda row: (row[0] == "together", row[0])):
-        print(f"{name:20}" + "".join(f"{counts[outcome] or '.':>9}" for outcome in OUTCOMES))
+        print(f"{name:24}" + "".join(f"{counts[outcome] or '.':>9}" for outcome in OUTCOMES))
 
 
 def rare(together, by_kind, answered_with, syncs):

@@ -5,7 +5,7 @@ import types
 from unittest import mock
 
 from support import programs
-from support.comparing import Difference, differences, first_difference, some_difference
+from support.comparing import Difference, dealt_out, differences, first_difference
 from support.in_folder import InFolder
 from support.programs import Failed
 from support.records import Sample, written
@@ -76,7 +76,7 @@ class Comparing(InFolder):
         for processors in (1, 2, 3, 7):
             folder = mock.patch.object(programs, "output_folder", lambda: self.top)
             with folder, mock.patch("os.cpu_count", return_value=processors):
-                found = some_difference([sys.executable, "-c", code], sample)
-                self.assertEqual(found, Difference(3, b"a2", b"a2", b"b"))
-                others = sample.only("others", range(3, 5))
-                self.assertIsNone(some_difference([sys.executable, "-c", code], others))
+                found = dealt_out([sys.executable, "-c", code], sample)
+                self.assertEqual(found, (Difference(3, b"a2", b"a2", b"b"), []))
+                others = sample.only("others", [0, 1, 3, 4])
+                self.assertEqual(dealt_out([sys.executable, "-c", code], others), (None, others.texts))

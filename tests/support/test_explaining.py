@@ -55,11 +55,14 @@ class Messages(unittest.TestCase):
 
     def test_other_counts_of_lines(self):
         few = b"names=1\nname=a\nequations=%d\nterms=1\n"
+        many = b"names=24\n" + b"".join(b"name=n%d\n" % at for at in range(24)) + b"equations=0\nterms=2\nterm=act n9\n"
         cases = [
             (few % 0 + b"term=ref 0\n", (4, 5, 10), "the reference is to equation 0, but there is no equation"),
             (few % 1 + b"term=ref 1\n", (4, 5, 10), "the reference is to equation 1, but there is only equation 0"),
             (few % 0 + b"term=tau\nroot=1\n", (4, 6, 6), "the root is term 1, but there is only term 0"),
             (few % 0 + b"term=tau\nterm=tau\n", (2, 6, 1), "begin with 'root=': 1 of 1 lines 'term=' came before"),
+            (many.replace(b"=n23", b"=n12"), (3, 25, 6), "the name 'n12' was given before, in line 14"),
+            (many + b"term=block 0 n9,n23,n12\n", (5, 29, 21), "'n12' stands behind 'n23', which has the higher number"),
         ]
         for description, refusal, sentence in cases:
             self.assertIn(f" {sentence} (refusal", message(description, *refusal))

@@ -16,11 +16,13 @@ def in_header(number):
 class Pages(InFolder):
     def setUp(self):
         super().setUp()
-        self.make_folders("include", "docs", "examples")
+        self.make_folders("include", "docs", "examples/models")
         (self.top / "examples" / "one.txt").write_text("")
+        (self.top / "examples" / "models" / "two.txt").write_text("")
         self.write("include/rimecutter.h", "".join(map(in_header, REASONS)))
         self.write("docs/FORMAT.md", "".join(f"| {n} | when |\n" for n in REASONS + TALLY_REASONS))
         self.write("examples/README.md", "- `one`: an example\n")
+        self.write("examples/models/README.md", "- `two`: a model\n")
         self.write("README.md", "short\n")
 
     def write(self, name, text):
@@ -32,7 +34,7 @@ class Pages(InFolder):
         return said.getvalue()
 
     def test_right_pages_are_counted(self):
-        self.assertIn("9 numbers of refusals and 1 examples", self.check())
+        self.assertIn("10 numbers of refusals and 2 examples", self.check())
 
     def test_what_is_wrong_is_told(self):
         header = (self.top / "include" / "rimecutter.h").read_text()
@@ -44,7 +46,9 @@ class Pages(InFolder):
             ("docs/FORMAT.md", rows + "| 6 | when |\n", "FORMAT.md has refusal 6, which is withdrawn"),
             ("docs/FORMAT.md", "| 1 | when |\n", "docs/FORMAT.md lacks refusal 8"),
             ("docs/FORMAT.md", rows.replace("| 17 |", "| 19 |"), "docs/FORMAT.md lacks refusal 17"),
-            ("examples/README.md", "one", "does not name one"),
+            ("examples/README.md", "one", "examples/README.md does not name one"),
+            ("examples/models/README.md", "`one`", "examples/models/README.md does not name two"),
+            ("examples/models/README.md", "`two`" + "a" * 96, "line 1 of README.md has 101 columns"),
             ("README.md", "a" * 101, "line 1 of README.md has 101 columns"),
             ("docs/FORMAT.md", "|" + "a" * 130, "line 1 of FORMAT.md has 131 columns"),
         ]

@@ -24,7 +24,7 @@ fn main() {
     let mut description = [0u8; MOST];
     let size = io::read_full(STDIN_FILENO, &mut description);
     drop_rest();
-    let mut text = [0u8; 155648];
+    let mut text = [0u8; 303104];
     let length = alphabet_text(&description[..size], &mut text);
     io::write_all(STDOUT_FILENO, &text[..length]);
 }

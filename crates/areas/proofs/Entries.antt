@@ -1,4 +1,4 @@
--- How the lists of operators stand in words: a name by its number, a label by its word, a pair in one word, a rule as two labels.
+-- How the lists of operators stand in words: a name by its number, a label by its number, a pair in one word, a rule as two labels.
 -- Assumes nothing.
 use mathlib.Core.Path.{_≡_, refl, ap₂}
 use mathlib.Core.List.{List, [], _∷_, map}

@@ -6,6 +6,6 @@ use Prim.Native.Nat.{ℕ}
 use Rattle.meaning.proofs.Alike.{alike}
 use Rattle.areas.specs.Rows.{held}
 
--- The labels that are held settle the words.
-pub held-unique : (words₁ words₂ ls : List ℕ) → held words₁ ≡ ls → held words₂ ≡ ls → words₁ ≡ words₂
+-- Two rows that both hold certain labels hold the same.
+pub held-unique : (words₁ words₂ ls : List ℕ) → held words₁ ≡ ls → held words₂ ≡ ls → held words₁ ≡ held words₂
 held-unique words₁ words₂ ls p q = alike p q

@@ -1,8 +1,10 @@
-// Labels in a row of lent words. A caller numbers labels, not words, and so knows nothing of how many words a label takes.
-use crate::word_at;
+// Labels in a row of lent words, two words each, the lower first. A caller numbers labels, not words, and so knows nothing of how many
+// words a label takes. A last word that has none beside it is no label's: it is not looked at.
 use labels::LABEL_WORDS;
 use labels::Label;
+use labels::WORD_END;
 ghost use mathlib.Core.Path.{_≡_};
+ghost use Prim.Native.Nat.{_<_, _-_, _/_};
 ghost use lib.Dec.{eqb};
 ghost use lib.ListN.{length, getD, set};
 ghost use Rattle.labels.specs.Packing.{code, packed};
@@ -19,8 +21,14 @@ pub fn labels_in(words: &[u64]) -> usize
 pub fn read_label(words: &[u64], i: usize) -> Label
     ensures { λ r. ⌜ r ≡ packed (getD (held (now (words .entry))) i 0) ⌝ }
 {
-    Label {
-        word: word_at(words, i),
+    if i < words.len() / LABEL_WORDS {
+        let at = LABEL_WORDS * i;
+        Label {
+            lower: words[at] % WORD_END,
+            upper: words[at + 1],
+        }
+    } else {
+        Label { lower: 0, upper: 0 }
     }
 }
 
@@ -28,30 +36,39 @@ pub fn read_label(words: &[u64], i: usize) -> Label
 pub fn label_is(words: &[u64], i: usize, label: Label) -> bool
     ensures { λ r. ⌜ r ≡ eqb (getD (held (now (words .entry))) i 0) (code label) ⌝ }
 {
-    if i < words.len() {
-        words[i] == label.word
-    } else {
-        0 == label.word
-    }
+    let there = read_label(words, i);
+    there.lower == label.lower % WORD_END && there.upper == label.upper
 }
 
 // The i-th label is written; past the end nothing is.
 pub fn write_label(words: &mut [u64], i: usize, label: Label)
     ensures { λ r. ⌜ held (now (words .exit)) ≡ set (held (now (words .entry))) i (code label) ⌝ }
 {
-    if i < words.len() {
-        words[i] = label.word;
+    if i < words.len() / LABEL_WORDS {
+        let at = LABEL_WORDS * i;
+        words[at] = label.lower % WORD_END;
+        words[at + 1] = label.upper;
     }
+}
+
+// A label of the row is copied one place up.
+fn copy_up(words: &mut [u64], i: usize)
+    requires { ⌜ (0 < i) × (i < length (now words) / 2) ⌝ }
+    ensures { λ r. ⌜ held (now (words .exit)) ≡ set (held (now (words .entry))) i (getD (held (now (words .entry))) (i - 1) 0) ⌝ }
+{
+    let at = LABEL_WORDS * i;
+    words[at] = words[at - 2];
+    words[at + 1] = words[at - 1];
 }
 
 // The labels from one place up to another move one place up, over the label at the second, if that is a place of the slice.
 pub fn move_up(words: &mut [u64], from: usize, to: usize)
     ensures { λ r. ⌜ held (now (words .exit)) ≡ movedUp from to (held (now (words .entry))) ⌝ }
 {
-    if to < words.len() {
+    if to < words.len() / LABEL_WORDS {
         let mut i = to;
         while from < i {
-            words[i] = words[i - 1];
+            copy_up(words, i);
             i -= 1;
         }
     }

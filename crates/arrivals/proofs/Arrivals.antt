@@ -24,6 +24,7 @@ use Rattle.meaning.proofs.Actions.{Operands}
 use Rattle.meaning.proofs.Growth.{round-grows}
 use Rattle.meaning.proofs.Least.{term-legal, legal-operands}
 use Rattle.labels.specs.Packing.{packed}
+use Rattle.labels.proofs.Codes.{code-packed}
 use Rattle.labels.proofs.Words.{number-empty}
 use Rattle.labels.proofs.Refinement.{Packs, single-number}
 use Rattle.table.specs.Encoded.{termFor}
@@ -135,7 +136,7 @@ module _ (d : Description) (k n : ℕ) (sets news : ℕ → List ℕ) (known : K
   abbrev first : Operands d
   first = legal-operands d all (known .legal)
 
-  narrow : names d ≤ 12
+  narrow : names d ≤ 24
   narrow = known .legal .nameCount .1
 
   abbrev now : ℕ → List Label
@@ -159,7 +160,7 @@ module _ (d : Description) (k n : ℕ) (sets news : ℕ → List ℕ) (known : K
     leaf-kind a w same p e = record {
       labels = a ∷ [];
       adds = leaf-adds d first k n (a ∷ []) e;
-      result = subst (λ (v : ℕ). Result (names d) room (a ∷ []) (enter room v [])) same (leaf-given (names d) room a p);
+      result = subst (λ (v : ℕ). Result (names d) room (a ∷ []) (enter room v [])) (same ∙ sym (code-packed w)) (leaf-given (names d) room a p);
     }
 
     body-kind : (x : ℕ) → x < equations d → shape d (termAt d n) ≡ reference x → Arrives (Body x)
@@ -246,7 +247,7 @@ module _ (d : Description) (k n : ℕ) (sets news : ℕ → List ℕ) (known : K
   module _ (lists : List ℕ) (held : HoldsLists d lists) (room : ℕ) (more : n < termCount d) where
     kind : (t : Term) → termAt d n ≡ t → LegalTerm d n t → Given d k n room (arriving room lists sets news (shapeFor (termFor n t)) [])
     kind (act a) e l =
-        leaf-kind room lists (single (names d) a) (number (single 12 a)) (sym (single-number (names d) narrow a l)) (single-packs (names d) a) (ap (shape d) e)
+        leaf-kind room lists (single (names d) a) (number (single 24 a)) (sym (single-number (names d) narrow a l)) (single-packs (names d) a) (ap (shape d) e)
     kind tau e l = leaf-kind room lists (empty (names d)) 0 (number-empty (names d)) (empty-packs (names d)) (ap (shape d) e)
     kind delta e l = record { labels = []; adds = leaf-adds d first k n [] (ap (shape d) e); result = none-given (names d) room }
     kind (ref x) e l = body-kind room lists x l (ap (shape d) e)

@@ -67,7 +67,7 @@ module _ (names room : ℕ) where
   copy-given A p up = alone A (union-result names A [] p nothing-packs up refl room)
 
   -- The new labels of two lists, and every sum of which one is new.
-  module _ (few : names ≤ 12) (F A G B : List Label) (p : AllPack names F) (p′ : AllPack names A) (q : AllPack names G) (q′ : AllPack names B) where
+  module _ (few : names ≤ 24) (F A G B : List Label) (p : AllPack names F) (p′ : AllPack names A) (q : AllPack names G) (q′ : AllPack names B) where
     abbrev numbers : List Label → List ℕ
     numbers l = map number l
 
@@ -107,7 +107,7 @@ module _ (names room : ℕ) where
           (λ r. beside-given (F ++ G) r))
 
   -- An operator that makes of each label by itself what the set is to have of it.
-  module _ (few : names ≤ 12) (l N : List Label) (p : AllPack names l) where
+  module _ (few : names ≤ 24) (l N : List Label) (p : AllPack names l) where
     abbrev pub Through : Operator → Type 0
     Through o = Result names room (spread (image names o) l) (passed room (wayOf o) (wayWords (map number l) names o) (map number l) (map number N) [])
 

@@ -33,6 +33,7 @@ use Rattle.sets.proofs.Outcomes.{Anything, Result, entered-outcome}
 use Rattle.rules.specs.Rules.{Exchange, exchangesIn, replacedBy, pickStep, stepOf}
 use Rattle.choices.specs.Following.{after, eachRule, followed, entered, closed}
 use Rattle.choices.proofs.Reading.{backwards, backwards-in, in-backwards, exchange, rules-read}
+use Rattle.choices.proofs.Unfolding.{after-packed}
 use Rattle.choices.proofs.InOrder.{taken, given, unless, leads, eachOf, whole, OfRules, Packed, next-packed, Comes, whole-sound, complete}
 
 -- A label has no more actions than its number, so the number bounds the applications, and that of a left side is not 0.
@@ -41,7 +42,7 @@ unfolding size number
 size-below [] = omega arith
 size-below (x ∷ a) = omega (arith, size-below a)
 
-module _ (names : ℕ) (few : names ≤ 12) (rs : List Rule) (legal : Each (LegalRule names) rs) (all : List ℕ) where
+module _ (names : ℕ) (few : names ≤ 24) (rs : List Rule) (legal : Each (LegalRule names) rs) (all : List ℕ) where
   abbrev listed : Label → Bool
   listed a = present all (number a)
 
@@ -57,8 +58,8 @@ module _ (names : ℕ) (few : names ≤ 12) (rs : List Rule) (legal : Each (Lega
   left-takes : (r : Rule) → r ∈ rs → eqb (number (r .left)) 0 ≡ false
   left-takes r m = ne-eqb (number (r .left)) 0 (λ e. omega (arith, rule-legal names rs legal r m .1, size-below (r .left)))
 
-  left-fits : (r : Rule) → r ∈ rs → ltb (number (r .left)) (2 ^ 64) ≡ true
-  left-fits r m = lt-ltb (number (r .left)) (2 ^ 64) (omega (arith, number-fits (r .left) few (left-packs r m)))
+  left-fits : (r : Rule) → r ∈ rs → ltb (number (r .left)) (2 ^ 124) ≡ true
+  left-fits r m = lt-ltb (number (r .left)) (2 ^ 124) (omega (arith, number-fits (r .left) few (left-packs r m)))
 
   next-number : (r : Rule) → r ∈ rs → (rest aside : Label) → State rest aside → T (inside (r .left) rest)
       → replacedBy (exchange names r) (number (plus rest aside)) ≡ number (plus (taken r rest) (given names r aside))
@@ -69,7 +70,7 @@ module _ (names : ℕ) (few : names ≤ 12) (rs : List Rule) (legal : Each (Lega
       let e : number sum - number (r .left) + number one ≡ number next =
       ap (λ (n : ℕ). n + number one) (difference-number sum (r .left) (inside-plus (r .left) rest aside t)) ∙ sym (number-plus (minus sum (r .left)) one)
       ∙ ap number (set-aside names r rest aside t) in
-      ap (λ (n : ℕ). n % 2 ^ 64) e ∙ mod-eq-of-lt (omega (arith, number-fits next few (next-packed names listed rs legal r m rest aside p t .label)))
+      ap (λ (n : ℕ). n % 2 ^ 124) e ∙ mod-eq-of-lt (omega (arith, number-fits next few (next-packed names listed rs legal r m rest aside p t .label)))
 
   -- The walk on numbers is that on labels.
   abbrev Agrees : (List Exchange → ℕ → ℕ → List ℕ) → (List Rule → Label → Label → List Label) → Type 0
@@ -109,7 +110,9 @@ module _ (names : ℕ) (few : names ≤ 12) (rs : List Rule) (legal : Each (Lega
                 }))
                 ≡ map number (unless names listed true k (moreOf (r ∷ later) (taken r rest) (given names r aside)))
             asked true x = refl
-            asked false x = agrees (r ∷ later) w (taken r rest) (given names r aside) x
+            asked false x =
+                after-packed (more (numbersOf (r ∷ later))) (number (taken r rest)) (number (plus (taken r rest) (given names r aside)))
+                ∙ agrees (r ∷ later) w (taken r rest) (given names r aside) x
 
     each-agrees : Agrees (eachRule more all) (eachOf names listed moreOf)
     unfolding eachRule eachOf
@@ -133,7 +136,7 @@ present-in s w e =
     subst (λ (v : ℕ). v ∈ s) (eqb→eq (getD s p 0) w (and-right (ltb p (length s)) (eqb (getD s p 0) w) t)) (in-at s p 0 l)
 
 -- The labels of an operand through comm.
-module _ (names : ℕ) (few : names ≤ 12) (rs : List Rule) (legal : Each (LegalRule names) rs) (N : List Label) (packs : AllPack names N) where
+module _ (names : ℕ) (few : names ≤ 24) (rs : List Rule) (legal : Each (LegalRule names) rs) (N : List Label) (packs : AllPack names N) where
   abbrev numbers : List ℕ
   numbers = map number N
 

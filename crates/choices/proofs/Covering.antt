@@ -18,7 +18,7 @@ use Rattle.labels.specs.Bags.{bag}
 use Rattle.sets.specs.Inserting.{present}
 use Rattle.rules.specs.Rules.{Exchange, exchangeAt, exchangesBefore, replacedBy, applies, pickStep, stepOf}
 use Rattle.choices.specs.Following.{after, eachRule, comesOf}
-use Rattle.choices.proofs.Unfolding.{applies→, next, comes-step}
+use Rattle.choices.proofs.Unfolding.{applies→, after-packed, next, comes-step}
 
 -- Of every name that a rule takes, no less is left.
 abbrev pub Covers : List Exchange → ℕ → ℕ → Type 0
@@ -41,7 +41,7 @@ module _ (r : Exchange) (rest rest′ : ℕ) (w : (n : ℕ) → 0 < count (bag (
   applies′ =
       let x = applies→ r rest e in
       let some : r .left ≡ 0 → ⊥ = λ z. let s = x .some in omega arith in
-      rw (ne-eqb (r .left) 0 some, lt-ltb (r .left) (2 ^ 64) (x .word)) (T→true (inside (bag (r .left)) (bag rest′)) inside′)
+      rw (ne-eqb (r .left) 0 some, lt-ltb (r .left) (2 ^ 124) (x .fits)) (T→true (inside (bag (r .left)) (bag rest′)) inside′)
 
   less-of : (n : ℕ) → count (bag rest) n ≤ count (bag rest′) n → count (bag (rest - r .left)) n ≤ count (bag (rest′ - r .left)) n
   less-of n h =
@@ -67,8 +67,10 @@ module _ (all : List ℕ) where
                 → w ∈ after (comesOf all rs) (pickStep true t (next all r rest′ sum))
             known true k = k
             known false k =
-                less rs (rest - r .left) (rest′ - r .left) (applies→ r rest e .less)
-                (λ q l n h. less-of r rest rest′ (c r m) e n (c q l n h)) (replacedBy r sum) w k
+                rw (after-packed (comesOf all rs) (rest′ - r .left) (replacedBy r sum))
+                (less rs (rest - r .left) (rest′ - r .left) (applies→ r rest e .less)
+                (λ q l n h. less-of r rest rest′ (c r m) e n (c q l n h)) (replacedBy r sum) w
+                (rw (after-packed (comesOf all rs) (rest - r .left) (replacedBy r sum)) at k))
 
     each-covered : (rs : List Exchange) → Covers rs rest rest′ → (sum w : ℕ) → w ∈ eachRule (comesOf all) all rs rest sum
         → w ∈ eachRule (comesOf all) all rs rest′ sum

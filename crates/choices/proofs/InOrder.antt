@@ -133,7 +133,7 @@ module _ (names : ℕ) (known : Label → Bool) (rs : List Rule) (legal : Each (
   abbrev pub OfRules : List Rule → Type 0
   OfRules rules = (r : Rule) → r ∈ rules → r ∈ rs
 
-  -- a state whose rest and label a word packs
+  -- a state whose rest and label words pack
   pub record Packed (rest aside : Label) : Type 0 where
     pub left : Packs names rest
     pub label : Packs names (plus rest aside)
@@ -166,7 +166,7 @@ module _ (names : ℕ) (known : Label → Bool) (rs : List Rule) (legal : Each (
       };
     }
 
-  -- What is listed comes of the label by rules, and a word packs it.
+  -- What is listed comes of the label by rules, and words pack it.
   pub record Comes (rest aside b : Label) : Type 0 where
     pub by : Communicates names rs rest aside b
     pub packs : Packs names b

@@ -2,8 +2,9 @@
 -- whole: the walk on labels, which takes rules in their order; whole-sound: what it lists comes of the label by rules; complete: what
 -- comes of the label is listed, or it comes of a smaller label that is followed by itself; Packed, next-packed: states that words pack
 pub mod InOrder
--- minus-digits: a number less one that lies inside it, digit by digit; applies→: what a rule that applies takes and leaves; comes-step:
--- what comes of a state is its label and what comes of the states that rules lead to
+-- minus-digits: a number less one that lies inside it, digit by digit; applies→: what a rule that applies takes and leaves; after-packed:
+-- what goes on from a state goes by the numbers of its labels; comes-step: what comes of a state is its label and what comes of the states
+-- that rules lead to
 pub mod Unfolding
 -- covered: of two states with the same label, the one with no less left of what rules take gives what the other gives
 pub mod Covering

@@ -11,9 +11,11 @@ use Rattle.meaning.specs.Labels.{Label, labelOf, minus, inside}
 use Rattle.meaning.proofs.Tests.{and-left, and-right}
 use Rattle.labels.specs.Bags.{bag}
 use Rattle.labels.specs.Packing.{packed}
+use Rattle.labels.proofs.Codes.{code-packed}
 use Rattle.labels.proofs.Words.{fewer-digits}
 use Rattle.sets.specs.Inserting.{present}
 use Rattle.rules.specs.declared.State.{State}
+use Rattle.rules.specs.declared.Step.the-variants.{To}
 use Rattle.rules.specs.Rules.{Exchange, replacedBy, applies, pickStep, stepOf}
 use Rattle.choices.specs.Following.{after, eachRule, followed, comesOf}
 
@@ -34,7 +36,7 @@ minus-digits (suc k) small large h t =
 -- A rule that applies: what it takes, and what it leaves.
 pub record Applies (r : Exchange) (rest : ℕ) : Type 0 where
   pub some : 0 < r .left
-  pub word : r .left < 2 ^ 64
+  pub fits : r .left < 2 ^ 124
   pub lies : T (inside (bag (r .left)) (bag rest))
   pub left : bag (rest - r .left) ≡ minus (bag rest) (bag (r .left))
   pub less : rest - r .left < rest
@@ -46,14 +48,18 @@ not-zero (suc n) t = omega arith
 pub applies→ : (r : Exchange) (rest : ℕ) → applies r rest ≡ true → Applies r rest
 applies→ r rest e =
     let some = not (eqb (r .left) 0) in
-    let word = ltb (r .left) (2 ^ 64) in
+    let fits = ltb (r .left) (2 ^ 124) in
     let lies = inside (bag (r .left)) (bag rest) in
-    let t : T (some && (word && lies)) = rw e tt in
-    let s = not-zero (r .left) (and-left some (word && lies) t) in
-    let w = ltb→lt (r .left) (2 ^ 64) (and-left word lies (and-right some (word && lies) t)) in
-    let i = and-right word lies (and-right some (word && lies) t) in
-    let x = minus-digits 13 (r .left) rest (omega arith) i in
-    record { some = s; word = w; lies = i; left = x .1; less = let y = x .0 in omega arith }
+    let t : T (some && (fits && lies)) = rw e tt in
+    let s = not-zero (r .left) (and-left some (fits && lies) t) in
+    let w = ltb→lt (r .left) (2 ^ 124) (and-left fits lies (and-right some (fits && lies) t)) in
+    let i = and-right fits lies (and-right some (fits && lies) t) in
+    let x = minus-digits 25 (r .left) rest (omega arith) i in
+    record { some = s; fits = w; lies = i; left = x .1; less = let y = x .0 in omega arith }
+
+-- what goes on from a state goes by the numbers of its labels
+pub after-packed : (more : ℕ → ℕ → List ℕ) (rest sum : ℕ) → after more (To (record { rest = packed rest; sum = packed sum })) ≡ more rest sum
+after-packed more rest sum = rw (code-packed rest, code-packed sum)
 
 module _ (all : List ℕ) where
   -- what a rule leads to, by whether it applies
@@ -70,7 +76,10 @@ module _ (all : List ℕ) where
           where
             known : (k : Bool) → after (f rs) (pickStep true k (next r rest sum)) ≡ after (g rs) (pickStep true k (next r rest sum))
             known true = refl
-            known false = same rs (rest - r .left) (replacedBy r sum) (applies→ r rest e .less)
+            known false =
+                after-packed (f rs) (rest - r .left) (replacedBy r sum)
+                ∙ same rs (rest - r .left) (replacedBy r sum) (applies→ r rest e .less)
+                ∙ sym (after-packed (g rs) (rest - r .left) (replacedBy r sum))
 
     each-same : (rs : List Exchange) (sum : ℕ) → eachRule f all rs rest sum ≡ eachRule g all rs rest sum
     unfolding eachRule

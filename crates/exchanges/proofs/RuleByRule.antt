@@ -11,6 +11,8 @@ use native.Mathlib.Omega.{arith}
 use lib.ListN.{length}
 use lib.Seq.{take-all}
 use Rattle.meaning.specs.Sets.{_∈_}
+use Rattle.labels.specs.Packing.{code}
+use Rattle.labels.proofs.Codes.{code-packed}
 use Rattle.parts.specs.declared.Target.{Target}
 use Rattle.parts.specs.Parts.{setAt, wordsOf}
 use Rattle.sets.specs.declared.Built.{Built}
@@ -111,16 +113,15 @@ module _ {len : ℕ} {all ls before states : List ℕ} (place rest sum : ℕ) (x
                 recalls-small all ls (remembered kept place rest sum) (setAt 0 m last) (omega (arith, length-remembered kept place rest sum))
 
 -- The loop over the rules: some labels are put in, and what the rules before the i-th label of the list make of the state is to come.
-pub record Following (len rest sum : ℕ) (all ls before : List ℕ) (place : ℕ) (lent states now : List ℕ) (count i : ℕ) : Type 0 where
+pub record Following (len rest sum : ℕ) (all ls before : List ℕ) (place : ℕ) (states now : List ℕ) (count i : ℕ) : Type 0 where
   pub labels : List ℕ
   pub whole : labels ++ toCome all ls i rest sum ≡ toCome all ls place rest sum
   pub walked : Walked labels len all ls before now states (Holds count)
   pub walking : Walking count all ls now states
-  pub long : length states ≡ length lent
 
 pub following-start : {len : ℕ} {all ls before states : List ℕ} (place rest sum : ℕ) → Walking len all ls before states
-    → Following len rest sum all ls before place states states before len place
-following-start place rest sum x = record { labels = []; whole = refl; walked = walked-none x; walking = x; long = refl }
+    → Following len rest sum all ls before place states before len place
+following-start place rest sum x = record { labels = []; whole = refl; walked = walked-none x; walking = x }
 
 before-cons : (ls : List ℕ) (i : ℕ) → 2 ≤ i → exchangesBefore ls i ≡ exchangeAt ls (i - 2) ∷ exchangesBefore ls (i - 2)
 unfolding exchangesBefore
@@ -138,16 +139,16 @@ never e = let z : _≡_ {A = ℕ} 0 1 = cc in omega arith
 same-state : {s t : State} → To s ≡ To t → s ≡ t
 same-state e = cc
 
-step-less : (all : List ℕ) (rule : Exchange) (rest sum : ℕ) {s : State} → To s ≡ stepOf all rule rest sum → s .rest .word < rest
+step-less : (all : List ℕ) (rule : Exchange) (rest sum : ℕ) {s : State} → To s ≡ stepOf all rule rest sum → code (s .rest) < rest
 step-less all rule rest sum {s} = go (applies rule rest) refl (present all (replacedBy rule sum))
   where
-    go : (t : Bool) → applies rule rest ≡ t → (k : Bool) → To s ≡ pickStep t k (next all rule rest sum) → s .rest .word < rest
+    go : (t : Bool) → applies rule rest ≡ t → (k : Bool) → To s ≡ pickStep t k (next all rule rest sum) → code (s .rest) < rest
     go false d k e = absurd (never e)
     go true d true e = absurd (never e)
-    go true d false e = let l = applies→ rule rest d .less in rw (ap (λ (q : State). q .rest .word) (same-state e)) l
+    go true d false e = let l = applies→ rule rest d .less in rw (ap (λ (q : State). code (q .rest)) (same-state e) ∙ code-packed (rest - rule .left)) l
 
-module _ {len rest sum : ℕ} {all ls before : List ℕ} {place : ℕ} {lent states now : List ℕ} {count i : ℕ}
-    (x : Following len rest sum all ls before place lent states now count i) where
+module _ {len rest sum : ℕ} {all ls before : List ℕ} {place : ℕ} {states now : List ℕ} {count i : ℕ}
+    (x : Following len rest sum all ls before place states now count i) where
   abbrev goal : List ℕ
   goal = toCome all ls place rest sum
 
@@ -177,34 +178,32 @@ module _ {len rest sum : ℕ} {all ls before : List ℕ} {place : ℕ} {lent sta
         append-assoc (x .labels) (after fromHere m) later
         ∙ ap (λ (l : List ℕ). x .labels ++ l) (ap (λ (m : Step). after fromHere m ++ later) (sym e) ∙ sym next-to-come) ∙ x .whole
 
-    pub following-nothing : made ≡ Nothing → Following len rest sum all ls before place lent states now count (i - 2)
+    pub following-nothing : made ≡ Nothing → Following len rest sum all ls before place states now count (i - 2)
     following-nothing e = record {
       labels = x .labels;
       whole = ap (λ (l : List ℕ). l ++ later) (sym (append-nil (x .labels))) ∙ next-whole Nothing e;
       walked = x .walked;
       walking = x .walking;
-      long = x .long;
     }
 
     module _ {s : State} (e : made ≡ To s) {last kept : List ℕ} {r : Built}
-        (f : Walked (fromHere (s .rest .word) (s .sum .word)) count all ls now last kept r) where
+        (f : Walked (fromHere (code (s .rest)) (code (s .sum))) count all ls now last kept r) where
       pub following-next : {n : ℕ} → r ≡ Holds n → length kept ≡ length states
-          → Following len rest sum all ls before place lent kept last n (i - 2)
+          → Following len rest sum all ls before place kept last n (i - 2)
       following-next {n} d long =
-          let g = subst (λ (b : Built). Walked (fromHere (s .rest .word) (s .sum .word)) count all ls now last kept b) d f in
+          let g = subst (λ (b : Built). Walked (fromHere (code (s .rest)) (code (s .sum))) count all ls now last kept b) d f in
           record {
-            labels = x .labels ++ fromHere (s .rest .word) (s .sum .word);
+            labels = x .labels ++ fromHere (code (s .rest)) (code (s .sum));
             whole = next-whole (To s) e;
             walked = walked-then (x .walked) g;
             walking = walked-on g (x .walking) long;
-            long = long ∙ x .long;
           }
 
       pub following-large : {more : List ℕ} → r ≡ TooLarge → Walked goal len all ls before last more TooLarge
       following-large d =
-          let g = subst (λ (b : Built). Walked (fromHere (s .rest .word) (s .sum .word)) count all ls now last kept b) d f in
+          let g = subst (λ (b : Built). Walked (fromHere (code (s .rest)) (code (s .sum))) count all ls now last kept b) d f in
           walked-as (next-whole (To s) e) (walked-stops later (walked-then (x .walked) g))
 
     -- what a rule leads to has less left
-    pub leads-less : {s : State} → made ≡ To s → s .rest .word < rest
+    pub leads-less : {s : State} → made ≡ To s → code (s .rest) < rest
     leads-less {s} e = step-less all (exchangeAt ls (i - 2)) rest sum (sym e ∙ leads)

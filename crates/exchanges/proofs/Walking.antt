@@ -3,11 +3,13 @@
 use mathlib.Core.Path.{_≡_, refl, sym, ap, ap₂, subst, _∙_}
 use mathlib.Core.Bool.{Bool, true, false}
 use mathlib.Core.List.{List, [], _∷_, _++_}
-use Prim.Native.Nat.{ℕ, _-_, _≤_, _<_}
+use Prim.Native.Nat.{ℕ, _-_, _/_, _≤_, _<_}
 use native.Mathlib.Decide.{decLt}
 use native.Mathlib.Omega.{arith}
 use lib.ListN.{length, replicate}
 use Rattle.meaning.specs.Sets.{Rising}
+use Rattle.areas.specs.Rows.{held}
+use Rattle.areas.proofs.Held.{length-held}
 use Rattle.parts.specs.Parts.{setAt, roomAt, mostLabels}
 use Rattle.parts.proofs.LaidSets.{length-laid, setAt-laid}
 use Rattle.sets.specs.declared.Built.{Built}
@@ -38,6 +40,10 @@ same-count e = cc
 
 not-held : {n : ℕ} → TooLarge ≡ Holds n → ⊥
 not-held e = let z : _≡_ {A = ℕ} 0 1 = cc in omega arith
+
+-- words that are as many hold as many labels
+pub held-long : (ws vs : List ℕ) → length ws ≡ length vs → length (held ws) ≡ length (held vs)
+held-long ws vs e = length-held ws ∙ ap (λ (n : ℕ). n / 2) e ∙ sym (length-held vs)
 
 -- a memory without room for a state keeps none
 pub recalls-small : (all ls states s : List ℕ) → length states ≤ 2 → Recalls all ls states s
@@ -86,12 +92,12 @@ fits : (labels : List ℕ) (len : ℕ) (before : List ℕ) → length (setWith l
 fits labels len before = steady-fits 0 len mostLabels (entered (roomIn before) labels) before (steady-entered (roomIn before) labels)
 
 module _ (labels : List ℕ) {len n : ℕ} {before after : List ℕ} (g : Grown (entered (roomIn before) labels) 0 len before after (Holds n)) where
-  held : (setWith labels len before .whole ≡ true) × (n ≡ length (setWith labels len before .set))
-  held = built-holds (setWith labels len before .whole) (length (setWith labels len before .set)) n (g .answer)
+  all-held : (setWith labels len before .whole ≡ true) × (n ≡ length (setWith labels len before .set))
+  all-held = built-holds (setWith labels len before .whole) (length (setWith labels len before .set)) n (g .answer)
 
   grown-set : setAt 0 n after ≡ setWith labels len before .set
   grown-set =
-      ap₂ (λ (m : ℕ) (l : List ℕ). setAt 0 m l) (held .1) (g .words)
+      ap₂ (λ (m : ℕ) (l : List ℕ). setAt 0 m l) (all-held .1) (g .words)
       ∙ setAt-laid 0 (setWith labels len before .set) before (fits labels len before)
 
 -- the same labels, said otherwise
@@ -126,7 +132,7 @@ module _ {labels : List ℕ} {len : ℕ} {all ls before after kept : List ℕ} w
 
   module _ {n : ℕ} (f : Walked labels len all ls before after kept (Holds n)) where
     pub walked-whole : setWith labels len before .whole ≡ true
-    walked-whole = held labels (f .grown) .0
+    walked-whole = all-held labels (f .grown) .0
 
     pub walked-set : setAt 0 n after ≡ setWith labels len before .set
     walked-set = grown-set labels (f .grown)
@@ -134,7 +140,7 @@ module _ {labels : List ℕ} {len : ℕ} {all ls before after kept : List ℕ} w
     -- the set and the memory are again as they are asked to be
     pub walked-on : {states : List ℕ} → Walking len all ls before states → length kept ≡ length states → Walking n all ls after kept
     walked-on x long = record {
-      within = let a = walked-length f in let b = held labels (f .grown) .1 in omega (arith, fits labels len before);
+      within = let a = walked-length f in let b = all-held labels (f .grown) .1 in omega (arith, fits labels len before);
       rising = λ l. subst Rising (sym walked-set) (rising-more (roomIn before) labels x (omega arith));
       recalls = f .recalls n refl;
     }

@@ -2,7 +2,7 @@
 use crate::following::put;
 use areas::rows::labels_in;
 use areas::rows::read_label;
-use memory::MEMORY_LABELS;
+use memory::MEMORY_WORDS;
 use ordering::many_choices;
 use parts::placing::reach;
 use rules::State;
@@ -77,7 +77,7 @@ fn put_each_long(
     ensures { λ r. ⌜ Closes len (held (now (labels .entry))) (held (now (operand .entry))) (held (now (rules .entry)))
         (held (now (out .entry))) (held (now (out .exit))) r ⌝ }
 {
-    let mut states = [0u64; MEMORY_LABELS];
+    let mut states = [0u64; MEMORY_WORDS];
     put_each(labels, operand, rules, &mut states, out, len)
 }
 

@@ -8,8 +8,9 @@ use native.Mathlib.Numerals.{add-one}
 use native.Mathlib.Omega.{arith}
 use lib.ListN.{length, getD, drop, drop-of-length-le}
 use lib.Seq.{drop-cons}
+use Rattle.labels.specs.Packing.{code, packed}
+use Rattle.labels.proofs.Codes.{code-of}
 use Rattle.labels.specs.declared.Label.{Label}
-use Rattle.labels.specs.Packing.{packed}
 use Rattle.parts.specs.Parts.{setAt, mostLabels, roomAt, reachOf}
 use Rattle.parts.proofs.LaidSets.{setAt-reach}
 use Rattle.sets.specs.declared.Built.{Built}
@@ -56,23 +57,23 @@ module _ {step : ℕ → ℕ → List ℕ → Building} {labels : List ℕ} {len
 
   -- a label is read and goes through a step that a function takes
   module _ (steady : (room w : ℕ) → Steady room (step room w)) (l : i < end) {label : Label} (read : label ≡ packed (getD labels i 0))
-      {after : List ℕ} {r : Built} (g : GrownAt (atStart count) (λ room. step room (label .word)) now after r) where
+      {after : List ℕ} {r : Built} (g : GrownAt (atStart count) (λ room. step room (code label)) now after r) where
     abbrev rest : List ℕ → Building
     rest = each stepHere (drop (i + 1) labels)
 
-    row-going : Going 0 before now count (λ s. andThen (stepHere (label .word) s) rest) (each stepHere labels (setAt 0 len before))
+    row-going : Going 0 before now count (λ s. andThen (stepHere (code label) s) rest) (each stepHere labels (setAt 0 len before))
     unfolding each
     row-going =
-        let word : label .word ≡ getD labels i 0 = ap (λ (a : Label). a .word) read in
+        let word : code label ≡ getD labels i 0 = code-of read in
         going-as _ (x .going) (λ s. rw (drop-cons labels i 0 (omega (arith, x .whole)), ← word, add-one i))
 
     pub row-holds : {n : ℕ} → r ≡ Holds n → RowWalk step labels len before end after n (i + 1)
     row-holds {n} f = record {
       whole = x .whole;
-      going = going-holds mostLabels (λ room. step room (label .word)) rest (λ room. steady room (label .word)) row-going g n f;
+      going = going-holds mostLabels (λ room. step room (code label)) rest (λ room. steady room (code label)) row-going g n f;
     }
 
     pub row-large : r ≡ TooLarge → RowWalked after TooLarge
     row-large f =
-        let q = going-large mostLabels (λ room. step room (label .word)) rest (λ room. steady room (label .word)) row-going g f in
+        let q = going-large mostLabels (λ room. step room (code label)) rest (λ room. steady room (code label)) row-going g f in
         record { answer = q .0; words = q .1 }

@@ -1,11 +1,11 @@
 -- Faults joined: of two the smaller number stays, and of one number the first.
 -- Assumes nothing.
 use mathlib.Core.Path.{_≡_, refl, sym, subst}
-use mathlib.Core.Bool.{Bool, true, false}
+use mathlib.Core.Bool.{Bool, true, false, not}
 use Prim.Native.Nat.{ℕ, _≤_, _<_}
 use native.Mathlib.Omega.{arith}
-use lib.Dec.{leb}
-use borrow.Author.Tests.{leb-true, leb-false, le-leb, lt-leb}
+use lib.Dec.{leb, ltb}
+use borrow.Author.Tests.{ltb-true, ltb-false, leb-true, leb-false, le-leb, lt-leb}
 use Rattle.meaning.specs.Answers.{Fault, amount, faultNumber}
 use Rattle.grammar.specs.Faults.{Found, fine, fault, worse, unless}
 use Rattle.grammar.proofs.Findings.{IsFine, fine-worse}
@@ -52,6 +52,14 @@ worse-assoc (fault x p) (fault y q) (fault z r) = cases (leb (faultNumber x) (fa
         let h = leb-false (faultNumber x) (faultNumber y) e in
         let k = leb-false (faultNumber y) (faultNumber z) f in
         rw (e, f, lt-leb (faultNumber x) (faultNumber z) (omega arith))
+
+-- what does not come before another is no less
+pub not-below : (key floor : ℕ) → not (ltb key floor) ≡ leb floor key
+not-below key floor = cases (ltb key floor) refl
+  where
+    cases : (t : Bool) → ltb key floor ≡ t → not t ≡ leb floor key
+    cases true e = sym (lt-leb floor key (ltb-true key floor e))
+    cases false e = sym (le-leb floor key (ltb-false key floor e))
 
 -- one of two tests that fails is enough
 pub first-fails : (b : Bool) (p : ℕ) → fault amount p ≡ worse (unless false amount p) (unless b amount p)

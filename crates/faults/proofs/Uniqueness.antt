@@ -3,6 +3,7 @@
 use mathlib.Core.Path.{_≡_, refl, sym, ap, _∙_}
 use Prim.Native.Nat.{ℕ}
 use Rattle.meaning.proofs.Alike.{alike, alike-through}
+use Rattle.labels.specs.declared.Label.{Label}
 use Rattle.grammar.specs.Faults.{Found, fine, fault}
 use Rattle.grammar.specs.Reading.{Flaw}
 use Rattle.faults.specs.CodedFaults.{faultOf, foundOf, flawOf, faultFor, flawFor}
@@ -32,7 +33,7 @@ found-back (Faulty f from) = ap (λ g. Faulty g from) (fault-back f)
 pub found-unique : (f g : G.Found) (due : Found) → foundOf f ≡ due → foundOf g ≡ due → f ≡ g
 found-unique f g due p q = alike-through (λ (x : G.Found). foundOf x) foundBack found-back p q
 
-same-tally : {f g : G.Found} {a b m n : ℕ} → f ≡ g → a ≡ b → m ≡ n
+same-tally : {f g : G.Found} {a b : Label} {m n : ℕ} → f ≡ g → a ≡ b → m ≡ n
     → _≡_ {A = Tally} (record { fault = f; floor = a; total = m }) (record { fault = g; floor = b; total = n })
 same-tally p q r = rw (p, q, r)
 

@@ -9,8 +9,13 @@ ghost use lib.ListN.{length};
 ghost use Rattle.meaning.specs.Answers.{faultNumber, name, amount};
 ghost use Rattle.grammar.specs.Faults.{unless, worse};
 ghost use Rattle.grammar.specs.Reading.{flawIn, atFirst};
+ghost use Rattle.labels.specs.Packing.{code};
 ghost use Rattle.faults.specs.CodedFaults.{faultOf, foundOf, flawOf};
 ghost use Rattle.faults.specs.Tallies.{plusWord, emptyTally, Counted};
+use labels::Label;
+use labels::packing::below;
+use labels::packing::label_of;
+use labels::packing::tau;
 
 // What is wrong with a line: its form, a name in it, a number that leads nowhere, or how many there are of something or in which order
 // they stand.
@@ -128,7 +133,7 @@ pub fn first_flaw() -> Flaw
 // have, and their weights added up, as far as the limit lets them.
 pub struct Tally {
     pub fault: Found,
-    pub floor: u64,
+    pub floor: Label,
     pub total: u64,
 }
 
@@ -138,7 +143,7 @@ pub fn empty_tally() -> Tally
 {
     Tally {
         fault: Found::Fine,
-        floor: 0,
+        floor: tau(),
         total: 0,
     }
 }
@@ -170,17 +175,17 @@ fn joined(before: Found, fault: Found, ordered: bool, within: bool, from: usize)
     worse_of(entries, Found::Faulty(Fault::Amount, from))
 }
 
-// One entry more, by its own fault, the number by which it is ordered, its weight and its place. The total stays at one more than the
-// limit, and no sum leaves a word, so that any entry can be counted.
-pub fn counted(t: Tally, fault: Found, key: u64, weight: u64, limit: u64, from: usize) -> Tally
-    ensures { λ r. ⌜ Counted t (foundOf fault) key weight limit from r ⌝ }
+// One entry more, by its own fault, the number by which it is ordered, which is that of a label, its weight and its place. The total stays at
+// one more than the limit, and no sum leaves its words, so that any entry can be counted.
+pub fn counted(t: Tally, fault: Found, key: Label, weight: u64, limit: u64, from: usize) -> Tally
+    ensures { λ r. ⌜ Counted t (foundOf fault) (code key) weight limit from r ⌝ }
 {
     let before = t.fault;
     let floor = t.floor;
     let total = plus(t.total, weight);
     Tally {
-        fault: joined(before, fault, floor <= key, total <= limit, from),
-        floor: plus(key, 1),
+        fault: joined(before, fault, !below(key, floor), total <= limit, from),
+        floor: labels::bags::joined(key, label_of(1)),
         total: least(plus(limit, 1), total),
     }
 }

@@ -23,10 +23,10 @@ use Rattle.feet.proofs.BodyTests.{onBody, body-line}
 
 pub record BodiesSoFar (text : Text) (line equations terms : ℕ) (before table : List ℕ) (from i : ℕ) : Type 0 where
   pub read : List ℕ
-  pub lines : SoFar (λ bs. bs) (takeBody terms) 16 text line equations before table from i read
+  pub lines : SoFar (λ bs. bs) (takeBody terms) 28 text line equations before table from i read
 
 pub bodies-start : (text : Text) (line equations terms : ℕ) (table : List ℕ) → BodiesSoFar text line equations terms table table 0 0
-bodies-start text line equations terms table = record { read = []; lines = so-far-start (λ bs. bs) (takeBody terms) 16 text line equations table refl }
+bodies-start text line equations terms table = record { read = []; lines = so-far-start (λ bs. bs) (takeBody terms) 28 text line equations table refl }
 
 even : (bs : List ℕ) → length bs ≡ length bs
 even bs = refl
@@ -37,8 +37,8 @@ module _ {text : Text} {line equations terms : ℕ} {before table : List ℕ} {f
     bodies-long = so-far-long (s .lines) even
 
     module _ (few : equations ≤ 16) where
-      tabled : Within 128 before table
-      tabled = so-far-within (s .lines) even 128 (omega arith)
+      tabled : Within 140 before table
+      tabled = so-far-within (s .lines) even 140 (omega arith)
 
       module _ {r : Progress} (more : i < equations)
           (w : NumberTo (restAt text from) (line + i) terms r
@@ -50,7 +50,7 @@ module _ {text : Text} {line equations terms : ℕ} {before table : List ℕ} {f
         pub bodies-within : {v took : ℕ} → r ≡ To v took → from + took ≤ length text
         bodies-within e = rest-within text from (s .lines .onto .within) (gone-within (w .walks) e)
 
-        pub bodies-step : {v took : ℕ} → r ≡ To v took → BodiesSoFar text line equations terms before (set table (16 + i) v) (from + took) (i + 1)
+        pub bodies-step : {v took : ℕ} → r ≡ To v took → BodiesSoFar text line equations terms before (set table (28 + i) v) (from + took) (i + 1)
         bodies-step {v} e =
             let q = goes-on (onBody (s .read)) (gone-to (w .walks) e) refl ∙ body in
             record { read = s .read ++ (v ∷ []); lines = so-far-step (s .lines) even v v refl more q (gone-within (w .walks) e) }

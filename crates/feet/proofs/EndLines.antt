@@ -57,7 +57,7 @@ abbrev endOf : D.Description → Walk D.Order → Reading
 endOf d (reached o line s) = read d o
 endOf d (halted f line) = badLine f line
 
-module _ (d : D.Description) (line : ℕ) (text : Text) (names : List ℕ) (n : map (nameOf 8) names ≡ d .words) (few : length names ≤ 12) (low : line ≤ 200) where
+module _ (d : D.Description) (line : ℕ) (text : Text) (names : List ℕ) (n : map (nameOf 8) names ≡ d .words) (few : length names ≤ 24) (low : line ≤ 200) where
   abbrev withOrder : D.Order → ℕ → Text → Walk Whole
   withOrder o line s = reached (record { given = d; order = o }) line s
 
@@ -69,7 +69,7 @@ module _ (d : D.Description) (line : ℕ) (text : Text) (names : List ℕ) (n : 
   order-joins : endOf d (orderLast names line text) ≡ described (fromOrder d line text)
   unfolding orderLast
   order-joins =
-      rw (le-leb (length names) 12 few, lt-ltb line 18446744073709551615 (omega arith))
+      rw (le-leb (length names) 24 few, lt-ltb line 18446744073709551615 (omega arith))
       (by-walk (orderFirst names line text) ∙ ap (λ ws. described (walk (oneLine (takeOrder ws) line text) withOrder)) n)
 
   order-refused : {f : M.Flaw} {l : ℕ} → halted f l ≡ orderLast names line text → badLine f l ≡ described (fromOrder d line text)
@@ -81,7 +81,7 @@ module _ (d : D.Description) (line : ℕ) (text : Text) (names : List ℕ) (n : 
 -- nothing is left behind it
 last-ends : {o : D.Order} {l : ℕ} {s : Text} (names : List ℕ) (line : ℕ) (text : Text) → reached o l s ≡ orderLast names line text → s ≡ []
 unfolding orderLast
-last-ends {o} {l} {s} names line text e = by-form (leb (length names) 12 && ltb line 18446744073709551615) (orderFirst names line text) e
+last-ends {o} {l} {s} names line text e = by-form (leb (length names) 24 && ltb line 18446744073709551615) (orderFirst names line text) e
   where
     by-form : (b : Bool) (w : Walk D.Order) → reached o l s ≡ formIf b line (nothingAfter w) → s ≡ []
     by-form true (reached a m []) e = cc
@@ -105,13 +105,13 @@ pub foot-refused : {text : Text} {line equations terms : ℕ} {table table′ : 
     → EndRead text line equations terms table listed table′ listed (record { progress = p; order = All })
 foot-refused {text} {line} {equations} {terms} w listed {f} {l} e = record {
   tabled = w .tabled;
-  came = λ words ts s. rw (← due words ts, e) (record { answered = bad-order f; ordered = within-same 32 listed });
+  came = λ words ts s. rw (← due words ts, e) (record { answered = bad-order f; ordered = within-same 64 listed });
 }
   where
     due : (words : List Text) (ts : List D.Term) → badLine (flawOf f) l ≡ described (fromBodies words ts equations terms line text)
     due words ts = ends-bad _ (rw e at (w .came)) ∙ ap described (foot-joins words ts equations terms line text)
 
-module _ {text : Text} (line terms : ℕ) {equations : ℕ} {table table′ : List ℕ} {v took : ℕ} (tabled : Within 128 table table′)
+module _ {text : Text} (line terms : ℕ) {equations : ℕ} {table table′ : List ℕ} {v took : ℕ} (tabled : Within 140 table table′)
     (foot : Section text (footText equations terms line text) (λ f. suc (line + equations)) (FootLeft equations table table′) v took)
     (low : line + equations ≤ 199) {listed listed′ : List ℕ} {last : Ordered}
     (o : OrderEnd (drop took text) (line + equations + 1) (namesIn table′) listed listed′ last) where
@@ -145,7 +145,7 @@ module _ {text : Text} (line terms : ℕ) {equations : ℕ} {table table′ : Li
     tabled = tabled;
     came = λ words ts s. rw (← refused s ts g) (record {
       answered = ap₂ (λ p x. record { progress = p; order = x }) g ((rw g at (o .walked .came)) .none) ∙ bad-order f;
-      ordered = rw (rw g at (o .cleared)) (zeroed-within 32 listed);
+      ordered = rw (rw g at (o .cleared)) (zeroed-within 64 listed);
     });
   }
 

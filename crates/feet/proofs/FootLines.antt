@@ -58,14 +58,14 @@ module _ {text : Text} {line equations terms : ℕ} {before mid : List ℕ} {r :
           let k = rest-to text at foot-within (oneLine (takeNumber (ascii "root=") (λ r. ltb r terms) range) (line + equations)) took
           (number-to (ascii "root=") 0 terms (λ r. ltb r terms) (below-test terms) range (line + equations) (restAt text at) w q) in
           record {
-            tabled = within-both (b .tabled) (set-within 128 3 root mid (omega arith));
+            tabled = within-both (b .tabled) (set-within 140 3 root mid (omega arith));
             came = record {
               read = record { bodies = bodies .read; root = root };
               says = goes-on onRoot (bodies .says) (goes-on (rooted (bodies .read)) k refl);
               within = foot-on q;
               left = record {
                 counted = bodies .left .counted;
-                laid = ap (λ l. set l 3 root) (bodies .left .laid) ∙ sym (laid-one 3 root (laidAt 16 (bodies .read) before));
+                laid = ap (λ l. set l 3 root) (bodies .left .laid) ∙ sym (laid-one 3 root (laidAt 28 (bodies .read) before));
               };
             };
           }

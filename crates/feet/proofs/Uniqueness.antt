@@ -21,7 +21,7 @@ use Rattle.feet.specs.Ends.{EndLeft, EndRoom, EndGiven}
 room-decided : (line equations table : ℕ) → Dec (EndRoom line equations table)
 room-decided line equations table =
     map-dec (λ x. (x .0, x .1 .0, x .1 .1)) (λ x. (x .0, (x .1, x .2)))
-    (Dec·and (decLe line 112) (Dec·and (decLe equations 16) (decLe 128 table)))
+    (Dec·and (decLe line 124) (Dec·and (decLe equations 16) (decLe 140 table)))
 
 module _ (table listed table₁ listed₁ table₂ listed₂ : List ℕ) (r s : Ordered) where
   left-once : (words : List Text) (equations : ℕ) (due : Walk Footing) (x : Reading) → EndLeft words [] equations due x table listed table₁ listed₁ r

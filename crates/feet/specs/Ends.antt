@@ -36,7 +36,7 @@ pub record EndStored (words : List Text) (ts : List D.Term) (equations : ℕ) (d
 -- After a bad line the order's words are touched no further than the longest order reaches.
 pub record EndBad (r due : Ordered) (listed listed′ : List ℕ) : Type 0 where
   pub answered : r ≡ due
-  pub ordered : Within 32 listed listed′
+  pub ordered : Within 64 listed listed′
 
 abbrev pub EndLeft : List Text → List D.Term → ℕ → Walk Footing → Reading → (table listed table′ listed′ : List ℕ) → Ordered → Type 0
 EndLeft words ts equations due (read d o) table listed table′ listed′ r = EndStored words ts equations due d o table listed table′ listed′ r
@@ -44,14 +44,14 @@ EndLeft words ts equations due overlong table listed table′ listed′ r = ⊥
 EndLeft words ts equations due (badLine f line) table listed table′ listed′ r = EndBad r (refusal (flawFor f) line) listed listed′
 
 pub record EndRead (text : Text) (line equations terms : ℕ) (table listed table′ listed′ : List ℕ) (r : Ordered) : Type 0 where
-  pub tabled : Within 128 table table′
+  pub tabled : Within 140 table table′
   pub came : (words : List Text) (ts : List D.Term) → map (nameOf 8) (namesIn table) ≡ words
       → EndLeft words ts equations (footText equations terms line text) (described (fromBodies words ts equations terms line text))
       table listed table′ listed′ r
 
--- The room that they need: the first line comes after at most twelve names, three counts and 96 terms, and each body has its word.
+-- The room that they need: the first line comes after at most twenty-four names, three counts and 96 terms, and each body has its word.
 abbrev pub EndRoom : (line equations table : ℕ) → Type 0
-EndRoom line equations table = (line ≤ 112) × (equations ≤ 16) × (128 ≤ table)
+EndRoom line equations table = (line ≤ 124) × (equations ≤ 16) × (140 ≤ table)
 
 -- Else all is refused as if the first line were bad, and the areas stay as they were.
 pub record EndRefused (line : ℕ) (table listed table′ listed′ : List ℕ) (r : Ordered) : Type 0 where

@@ -27,10 +27,10 @@ footText e t line s = walk (lines (takeBody t) e [] line s) (λ bodies line s. f
 -- Bodies in their words of the table.
 pub record BodiesLeft (equations : ℕ) (table table′ : List ℕ) (v : ℕ) (bodies : List ℕ) : Type 0 where
   pub counted : length bodies ≡ equations
-  pub laid : table′ ≡ laidAt 16 bodies table
+  pub laid : table′ ≡ laidAt 28 bodies table
 
 pub record BodiesRead (text : Text) (line equations terms : ℕ) (table table′ : List ℕ) (r : Progress) : Type 0 where
-  pub tabled : Within 128 table table′
+  pub tabled : Within 140 table table′
   pub came : Comes text (lines (takeBody terms) equations [] line text) (λ bodies. line + equations) (BodiesLeft equations table table′) r
 
 -- The bodies and the root.
@@ -39,5 +39,5 @@ pub record FootLeft (equations : ℕ) (table table′ : List ℕ) (v : ℕ) (f :
   pub laid : table′ ≡ withFoot (f .bodies) (f .root) table
 
 pub record FootRead (text : Text) (line equations terms : ℕ) (table table′ : List ℕ) (r : Progress) : Type 0 where
-  pub tabled : Within 128 table table′
+  pub tabled : Within 140 table table′
   pub came : Comes text (footText equations terms line text) (λ f. suc (line + equations)) (FootLeft equations table table′) r

@@ -17,8 +17,8 @@ use table::ROOT_AT;
 use table::TABLE_WORDS;
 use table::names_of;
 
-// The largest number that the first of the lines can have, behind twelve names, three counts and 96 terms.
-const FIRST_LINE: usize = 112;
+// The largest number that the first of the lines can have, behind twenty-four names, three counts and 96 terms.
+const FIRST_LINE: usize = 124;
 
 // So many lines of bodies, each the number of one of so many terms; each goes to its word of the table.
 fn read_bodies(
@@ -28,7 +28,7 @@ fn read_bodies(
     terms: usize,
     table: &mut [u64],
 ) -> Progress
-    requires { ⌜ (line ≤ 112) × (equations ≤ 16) × (128 ≤ length (now table)) ⌝ }
+    requires { ⌜ (line ≤ 124) × (equations ≤ 16) × (140 ≤ length (now table)) ⌝ }
     ensures { λ r. ⌜ BodiesRead (now (text .entry)) line equations terms (now (table .entry)) (now (table .exit)) r ⌝ }
 {
     let mut from = 0;
@@ -60,7 +60,7 @@ fn read_foot(
     terms: usize,
     table: &mut [u64],
 ) -> Progress
-    requires { ⌜ (line ≤ 112) × (equations ≤ 16) × (128 ≤ length (now table)) ⌝ }
+    requires { ⌜ (line ≤ 124) × (equations ≤ 16) × (140 ≤ length (now table)) ⌝ }
     ensures { λ r. ⌜ FootRead (now (text .entry)) line equations terms (now (table .entry)) (now (table .exit)) r ⌝ }
 {
     let bodies = read_bodies(text, line, equations, terms, table);

@@ -158,7 +158,7 @@ module _ {text : Text} {at k next : ℕ} (found : KindFound text at k next) wher
       there : TailRead names bounds k tail before after r
       there = subst (λ l. TailRead names bounds k l before after r) (rest-drop text next (found .within)) t
 
-      pub line-there : length names ≤ 12 → LineRead (map (nameOf 8) names) bounds text (ofKind kinds (drop at text)) before after (shiftedStep next r)
+      pub line-there : length names ≤ 24 → LineRead (map (nameOf 8) names) bounds text (ofKind kinds (drop at text)) before after (shiftedStep next r)
       line-there few =
           line-decided r
           (line-become (map (nameOf 8) names) bounds tail before after r (sym (room names few (tailOf k tail) tail) ∙ kind-rest k (found .known) tail) there)

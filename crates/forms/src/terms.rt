@@ -41,7 +41,7 @@ fn shifted(x: TermStep, at: usize) -> TermStep
 
 // The key, the kind's word and what follows it.
 fn read_line(text: &[u8], names: &[u64], bounds: Bounds, list: &mut [u64]) -> TermStep
-    requires { ⌜ length (now names) ≤ 12 ⌝ }
+    requires { ⌜ length (now names) ≤ 24 ⌝ }
     ensures { λ r. ⌜ LineRead (map (nameOf 8) (now (names .entry))) bounds (now (text .entry)) (termLine (now (text .entry)))
         (now (list .entry)) (now (list .exit)) r ⌝ }
 {

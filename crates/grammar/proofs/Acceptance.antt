@@ -89,7 +89,7 @@ whole→ t =
     ends-walk (ends-line (takes-number (ascii "root=") (λ r. ltb r c) range) l₆ r₆) (λ root l₇ r₇ a₇.
     ends-walk (ends-line (takes-order words good) l₇ r₇) (λ order l₈ r₈ a₈.
     let d : Description = record { words = words; terms = terms; bodies = bodies; root = root } in
-    let nameNumber = within 1 12 n .0 (a₁ .1 .1) in
+    let nameNumber = within 1 24 n .0 (a₁ .1 .1) in
     let equationNumber = leb→le e 16 (a₃ .1 .1) in
     let termNumber = within 1 96 c .0 (a₄ .1 .1) in
     let below = ltb→lt root c (a₇ .1 .1) in
@@ -118,7 +118,7 @@ whole← d o legal good =
     let t = D.termCount d in
     let legalTerms = legal-terms d (omega arith) [] (d .terms) (omega arith) .1 (legal .terms) in
     let legalBodies = legal-bodies t (omega arith) [] (d .bodies) .1 (legal .bodies) in
-    walk← _ (one-line← (takes-number (ascii "names=") namesInRange form) 1 (names d) _ (omega arith, within 1 12 (names d) .1 nameNumber)) (λ l₁.
+    walk← _ (one-line← (takes-number (ascii "names=") namesInRange form) 1 (names d) _ (omega arith, within 1 24 (names d) .1 nameNumber)) (λ l₁.
     walk← _ (lines← takes-name (d .words) [] l₁ _ (legal-words (d .words) .1 good)) (λ l₂.
     walk← _ (one-line← (takes-number (ascii "equations=") equationsInRange form) l₂ e _ (omega arith, le→leb e 16 equationNumber)) (λ l₃.
     walk← _ (one-line← (takes-number (ascii "terms=") termsInRange form) l₃ t _ (omega arith, within 1 96 t .1 termNumber)) (λ l₄.

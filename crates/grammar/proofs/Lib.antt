@@ -41,3 +41,5 @@ pub mod LegalLines
 pub mod Acceptance
 -- exact-text-tested, exact-texts, unseen-texts: the test of an exact text is the definition, and texts of examples/
 pub mod ExactTexts
+-- ManyNames, read-as-before: what a text came to while a description had at most 12 names
+pub mod FewNames

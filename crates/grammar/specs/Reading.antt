@@ -35,8 +35,12 @@ formed (stuck r) f = faulty form (length r)
 unfoldable pub takeNumber : Text → (ℕ → Bool) → Fault → Text → Taken ℕ
 takeNumber key test f s = formed (countLine key s) (λ n. takenIf (test (n .it)) f (n .from) (n .it))
 
+-- From 1 to 24 names; the limit is said where the text is read, so that what was read under another can be told.
+abbrev pub namesUpTo : (most : ℕ) → ℕ → Bool
+namesUpTo most n = leb 1 n && leb n most
+
 abbrev pub namesInRange : ℕ → Bool
-namesInRange n = leb 1 n && leb n 12
+namesInRange n = namesUpTo 24 n
 
 abbrev pub equationsInRange : ℕ → Bool
 equationsInRange n = leb n 16
@@ -137,11 +141,18 @@ fromCounts words line s =
 abbrev pub fromNames : ℕ → ℕ → Text → Walk Whole
 fromNames n line s = walk (lines takeName n [] line s) (λ words line s. fromCounts words line s)
 
+abbrev pub wholeUpTo : (most : ℕ) → Text → Walk Whole
+wholeUpTo most text = walk (oneLine (takeNumber (ascii "names=") (namesUpTo most) form) 1 text) (λ n line s. fromNames n line s)
+
 unfoldable pub wholeText : Text → Walk Whole
-wholeText text = walk (oneLine (takeNumber (ascii "names=") namesInRange form) 1 text) (λ n line s. fromNames n line s)
+wholeText text = wholeUpTo 24 text
 
 abbrev pub described : Walk Whole → Reading
 described = allRead (λ w. read (w .given) (w .order))
 
 unfoldable pub readText : Text → Reading
 readText text = elim (ltb 8192 (length text)) [ true ↦ overlong | false ↦ described (wholeText text) ]
+
+-- the same under another limit of names
+unfoldable pub readUpTo : (most : ℕ) → Text → Reading
+readUpTo most text = elim (ltb 8192 (length text)) [ true ↦ overlong | false ↦ described (wholeUpTo most text) ]

@@ -16,8 +16,8 @@ at-most n m = cases (leb n m) refl
     cases true e = lt-ltb n (suc m) (omega (arith, leb-true n m e))
     cases false e = le-ltb n (suc m) (omega (arith, leb-false n m e))
 
-pub names-test : (n : ℕ) → between 1 13 n ≡ namesInRange n
-names-test n = rw (at-most n 12)
+pub names-test : (n : ℕ) → between 1 25 n ≡ namesInRange n
+names-test n = rw (at-most n 24)
 
 pub equations-test : (n : ℕ) → between 0 17 n ≡ equationsInRange n
 equations-test n = rw (le-leb 0 n (omega arith), at-most n 16)

@@ -31,7 +31,7 @@ module _ (table : List ℕ) (named : ℕ) {text : Text} {r : Progress}
   pub counts-bad : {f : F.Flaw} {l : ℕ} → r ≡ Bad f l → CountsRead text named table table r
   counts-bad e =
       let q = number-bad (ascii "equations=") 0 17 equationsInRange equations-test form (2 + named) text w e in
-      rw e (record { tabled = within-same 128 table; came = λ words. stops-there (λ e line s. headTerms words e line s) q })
+      rw e (record { tabled = within-same 140 table; came = λ words. stops-there (λ e line s. headTerms words e line s) q })
 
   module _ {equations at : ℕ} (e : r ≡ To equations at) where
     pub counts-within : at ≤ length text
@@ -52,7 +52,7 @@ module _ (table : List ℕ) (named : ℕ) {text : Text} {r : Progress}
           let k = rest-bad text at counts-within (oneLine (takeNumber (ascii "terms=") termsInRange form) (3 + named))
           (number-bad (ascii "terms=") 1 97 termsInRange terms-test form (3 + named) (restAt text at) v q) in
           rw q (record {
-            tabled = within-same 128 table;
+            tabled = within-same 140 table;
             came = λ words. goes-on (λ e line s. headTerms words e line s) equated (stops-there (onCount words equations) k);
           })
 
@@ -65,8 +65,8 @@ module _ (table : List ℕ) (named : ℕ) {text : Text} {r : Progress}
           let one = set table 0 named in
           let two = set one 1 equations in
           record {
-            tabled = within-both (set-within 128 0 named table (omega arith))
-                (within-both (set-within 128 1 equations one (omega arith)) (set-within 128 2 terms two (omega arith)));
+            tabled = within-both (set-within 140 0 named table (omega arith))
+                (within-both (set-within 140 1 equations one (omega arith)) (set-within 140 2 terms two (omega arith)));
             came = λ words. record {
               read = record { words = words; equations = equations; terms = terms };
               says = goes-on (λ e line s. headTerms words e line s) equated (goes-on (onCount words equations) k refl);
@@ -83,7 +83,7 @@ module _ (table : List ℕ) (named : ℕ) {text : Text} {r : Progress}
           }
 
 -- All lines.
-module _ (table : List ℕ) {text : Text} {r : Progress} (w : NumberTo text 1 13 r (oneLine (takeNumber (ascii "names=") (between 1 13) form) 1 text)) where
+module _ (table : List ℕ) {text : Text} {r : Progress} (w : NumberTo text 1 25 r (oneLine (takeNumber (ascii "names=") (between 1 25) form) 1 text)) where
   abbrev onNames : ℕ → ℕ → Text → Walk Heading
   onNames n line s = headNames n line s
 
@@ -93,18 +93,18 @@ module _ (table : List ℕ) {text : Text} {r : Progress} (w : NumberTo text 1 13
   pub head-bad : {f : F.Flaw} {l : ℕ} → r ≡ Bad f l → HeadRead text table table r
   unfolding headText
   head-bad e =
-      let q = number-bad (ascii "names=") 1 13 namesInRange names-test form 1 text w e in
-      rw e (record { tabled = within-same 128 table; came = stops-there onNames q })
+      let q = number-bad (ascii "names=") 1 25 namesInRange names-test form 1 text w e in
+      rw e (record { tabled = within-same 140 table; came = stops-there onNames q })
 
   module _ {named at : ℕ} (e : r ≡ To named at) where
-    pub head-few : named ≤ 12
+    pub head-few : named ≤ 24
     head-few = omega (arith, gone-below w e)
 
     pub head-within : at ≤ length text
     head-within = gone-within (w .walks) e
 
     counted : reached named 2 (drop at text) ≡ oneLine (takeNumber (ascii "names=") namesInRange form) 1 text
-    counted = number-to (ascii "names=") 1 13 namesInRange names-test form 1 text w e
+    counted = number-to (ascii "names=") 1 25 namesInRange names-test form 1 text w e
 
     module _ {mid : List ℕ} {g : Progress} (n : NamesRead (restAt text at) named table mid g) where
       pub head-names-bad : {f : F.Flaw} {l : ℕ} → g ≡ Bad f l → HeadRead text table mid g

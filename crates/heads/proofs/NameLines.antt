@@ -36,8 +36,8 @@ even ws = length-map ws wordOf
 pub names-long : {text : Text} {named : ℕ} {before table : List ℕ} {from i : ℕ} → NamesSoFar text named before table from i → length table ≡ length before
 names-long s = so-far-long (s .lines) even
 
-module _ {text : Text} {named : ℕ} {before table : List ℕ} {from i : ℕ} (s : NamesSoFar text named before table from i) (few : named ≤ 12)
-    (long : 128 ≤ length before) where
+module _ {text : Text} {named : ℕ} {before table : List ℕ} {from i : ℕ} (s : NamesSoFar text named before table from i) (few : named ≤ 24)
+    (long : 140 ≤ length before) where
   abbrev lent : List ℕ
   lent = take (4 + i - 4) (drop 4 table)
 
@@ -73,11 +73,11 @@ module _ {text : Text} {named : ℕ} {before table : List ℕ} {from i : ℕ} (s
 
     pub names-halt : {f : F.Flaw} {line : ℕ} → r ≡ Bad f line → NamesRead text named before table r
     names-halt e =
-        rw e (record { tabled = so-far-within (s .lines) even 128 (omega arith); came = lines-halt (s .lines .onto) more (gone-bad stepped e) })
+        rw e (record { tabled = so-far-within (s .lines) even 140 (omega arith); came = lines-halt (s .lines .onto) more (gone-bad stepped e) })
 
   pub names-end : named ≤ i → NamesRead text named before table (To 0 from)
   names-end h =
       record {
-        tabled = so-far-within (s .lines) even 128 (omega arith);
+        tabled = so-far-within (s .lines) even 140 (omega arith);
         came = so-far-end (s .lines) even h (record { counted = all-counted (s .lines) even h; packed = s .packed; laid = s .lines .laid });
       }

@@ -14,7 +14,7 @@ use Rattle.heads.specs.Heads.{headText, HeadGiven}
 pub head-once : {text : Text} {table table₁ table₂ : List ℕ} (r s : Progress) → HeadGiven text table table₁ r → HeadGiven text table table₂ s
     → (r ≡ s) × Where r (table₁ ≡ table₂)
 head-once {text} {table} r s p q =
-    given-once (decLe 128 (length table))
+    given-once (decLe 140 (length table))
     (λ a b. comes-once text (headText text) (λ h. 4 + length (h .words))
     (λ v w h k l. (alike (k .returned) (l .returned), alike (k .laid) (l .laid))) r s (a .came) (b .came))
     (λ a b. (alike (a .0) (b .0), everywhere r (alike (a .1) (b .1)))) p q

@@ -48,7 +48,7 @@ pub record NamesLeft (named : ℕ) (table table′ : List ℕ) (v : ℕ) (words 
   pub laid : table′ ≡ laidAt 4 (map wordOf words) table
 
 pub record NamesRead (text : Text) (named : ℕ) (table table′ : List ℕ) (r : Progress) : Type 0 where
-  pub tabled : Within 128 table table′
+  pub tabled : Within 140 table table′
   pub came : Comes text (lines takeName named [] 2 text) (λ words. 2 + named) (NamesLeft named table table′) r
 
 -- The counts, after any so many names; the number of terms is returned.
@@ -60,22 +60,22 @@ pub record CountsLeft (n : ℕ) (words : List Text) (table table′ : List ℕ) 
   pub laid : table′ ≡ laidAt 0 (n ∷ h .equations ∷ h .terms ∷ []) table
 
 pub record CountsRead (text : Text) (named : ℕ) (table table′ : List ℕ) (r : Progress) : Type 0 where
-  pub tabled : Within 128 table table′
+  pub tabled : Within 140 table table′
   pub came : (words : List Text) → Comes text (headCounts words (2 + named) text) (λ h. 4 + named) (CountsLeft named words table table′) r
 
 -- All of them.
 pub record HeadLeft (table table′ : List ℕ) (v : ℕ) (h : Heading) : Type 0 where
   pub returned : v ≡ h .terms
-  pub named : length (h .words) ≤ 12
+  pub named : length (h .words) ≤ 24
   pub packed : Packed (h .words)
   pub equated : h .equations ≤ 16
   pub counted : h .terms ≤ 96
   pub laid : table′ ≡ withCounts (h .words) (h .equations) (h .terms) table
 
 pub record HeadRead (text : Text) (table table′ : List ℕ) (r : Progress) : Type 0 where
-  pub tabled : Within 128 table table′
+  pub tabled : Within 140 table table′
   pub came : Comes text (headText text) (λ h. 4 + length (h .words)) (HeadLeft table table′) r
 
 -- A table that is too short is refused as if the first line were bad, and stays as it was.
 abbrev pub HeadGiven : Text → (table table′ : List ℕ) → Progress → Type 0
-HeadGiven text table table′ r = Roomed (128 ≤ length table) (HeadRead text table table′ r) ((r ≡ Bad (flawFor atFirst) 1) × (table′ ≡ table))
+HeadGiven text table table′ r = Roomed (140 ≤ length table) (HeadRead text table table′ r) ((r ≡ Bad (flawFor atFirst) 1) × (table′ ≡ table))

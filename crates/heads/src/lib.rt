@@ -15,7 +15,7 @@ use table::TABLE_WORDS;
 
 // So many lines of names, from the second line on; each goes to its word of the table.
 fn read_names(text: &[u8], named: usize, table: &mut [u64]) -> Progress
-    requires { ⌜ (named ≤ 12) × (128 ≤ length (now table)) ⌝ }
+    requires { ⌜ (named ≤ 24) × (140 ≤ length (now table)) ⌝ }
     ensures { λ r. ⌜ NamesRead (now (text .entry)) named (now (table .entry)) (now (table .exit)) r ⌝ }
 {
     let mut from = 0;
@@ -35,7 +35,7 @@ fn read_names(text: &[u8], named: usize, table: &mut [u64]) -> Progress
 
 // The counts of equations and of terms, which follow so many names. The number of terms is returned.
 fn read_counts(text: &[u8], named: usize, table: &mut [u64]) -> Progress
-    requires { ⌜ (named ≤ 12) × (128 ≤ length (now table)) ⌝ }
+    requires { ⌜ (named ≤ 24) × (140 ≤ length (now table)) ⌝ }
     ensures { λ r. ⌜ CountsRead (now (text .entry)) named (now (table .entry)) (now (table .exit)) r ⌝ }
 {
     let counted = take_number(text, 2 + named, b"equations=", 0, 17, Fault::Form);
@@ -60,7 +60,7 @@ pub fn read_head(text: &[u8], table: &mut [u64]) -> Progress
     if table.len() < TABLE_WORDS {
         return Progress::Bad(first_flaw(), 1);
     }
-    let given = take_number(text, 1, b"names=", 1, 13, Fault::Form);
+    let given = take_number(text, 1, b"names=", 1, 25, Fault::Form);
     let Progress::To(n, at) = given else {
         return given;
     };

@@ -1,13 +1,13 @@
 -- What a way makes of a label, put into a set at the start of words of its own; it never shortens a set nor takes it past the room.
 -- Assumes nothing.
-use mathlib.Core.Path.{_≡_, refl, sym, subst, _∙_}
-use mathlib.Core.Bool.{Bool, true, false}
+use mathlib.Core.Path.{_≡_, refl, sym, ap, subst, _∙_}
+use mathlib.Core.Bool.{Bool, true, false, false≢true}
 use mathlib.Core.List.{List}
-use Prim.Native.Nat.{ℕ, _≤_}
+use Prim.Native.Nat.{ℕ, _^_, _≤_, _<_}
 use native.Mathlib.Omega.{arith}
 use lib.ListN.{length}
 use Rattle.labels.specs.declared.Label.{Label}
-use Rattle.labels.specs.Packing.{code}
+use Rattle.labels.specs.Packing.{code, packed}
 use Rattle.areas.specs.Rows.{held}
 use Rattle.parts.specs.declared.Target.{Target}
 use Rattle.parts.proofs.LaidSets.{laid-self}
@@ -22,7 +22,8 @@ use Rattle.rules.specs.Rules.{exchangesIn}
 use Rattle.choices.specs.Following.{closed}
 use Rattle.exchanges.proofs.Walking.{steady-closed}
 use Rattle.images.specs.declared.Way.{Way}
-use Rattle.images.specs.Imaging.{offerOf, followsRules, offered, pickImage, imaged}
+use Rattle.images.specs.declared.Way.the-variants.{Copy, Block, Hide, Rename, Comm, Allow}
+use Rattle.images.specs.Imaging.{takenBy, offerOf, followsRules, offered, pickImage, imaged}
 
 pub steady-offered : (room : ℕ) (way : Way) (list : List ℕ) (w : ℕ) → Steady room (offered room way list w)
 steady-offered room way list w = steady-taken room (enter room) (offerOf way list w) (steady-enter room)
@@ -55,13 +56,35 @@ pub taken-made : {len : ℕ} (way : Way) (list : List ℕ) (label : Label) {offe
 taken-made {len} way list label {before = before} {after} {r} made g =
     subst (λ (o : Offer). GrownAt (atStart len) (λ room. taken (enter room) o) before after r) made g
 
+-- a label that is read has nothing above the bits of names
+pub lower-small : {label : Label} (n : ℕ) → label ≡ packed n → label .lower < 2 ^ 60
+unfolding packed
+lower-small n e = omega (arith, ap (λ (l : Label). l .lower) e)
+
 -- What the labels of a row give, by whether rules are followed.
 abbrev ImagedBy : Bool → Way → (list labels all : List ℕ) → ℕ → (before after : List ℕ) → Built → Type 0
 ImagedBy rules way list labels all len before after r =
-    GrownAt (atStart len) (λ room. each (pickImage rules (closed room all (exchangesIn (held list))) (offered room way list)) labels) before after r
+    GrownAt (atStart len) (λ room. each (pickImage rules (closed room all (exchangesIn list)) (offered room way list)) labels) before after r
 
 pub imaged-by : (rules : Bool) (way : Way) (list labels all : List ℕ) {follows : Bool} {len : ℕ} {before after : List ℕ} {r : Built}
     → follows ≡ followsRules way → follows ≡ rules → ImagedBy rules way list labels all len before after r
     → ImagedBy (followsRules way) way list labels all len before after r
 imaged-by rules way list labels all {len = len} {before} {after} {r} answer e g =
     subst (λ (t : Bool). ImagedBy t way list labels all len before after r) (sym e ∙ answer) g
+
+-- a way whose rules are followed takes labels
+rules-taken : (way : Way) (words : List ℕ) → followsRules way ≡ true → takenBy way words ≡ held words
+rules-taken Copy words e = absurd (false≢true e)
+rules-taken Block words e = absurd (false≢true e)
+rules-taken Hide words e = absurd (false≢true e)
+rules-taken Rename words e = absurd (false≢true e)
+rules-taken Comm words e = refl
+rules-taken Allow words e = absurd (false≢true e)
+
+pub imaged-rules : (way : Way) (words labels all : List ℕ) {follows : Bool} {len : ℕ} {before after : List ℕ} {r : Built}
+    → follows ≡ followsRules way → follows ≡ true
+    → GrownAt (atStart len) (λ room. each (closed room all (exchangesIn (held words))) labels) before after r
+    → ImagedBy (followsRules way) way (takenBy way words) labels all len before after r
+imaged-rules way words labels all {len = len} {before} {after} {r} answer e g =
+    imaged-by true way (takenBy way words) labels all answer e
+    (subst (λ (list : List ℕ). ImagedBy true way list labels all len before after r) (sym (rules-taken way words (sym answer ∙ e))) g)

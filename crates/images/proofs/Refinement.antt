@@ -51,18 +51,18 @@ kept-offers : {names : ℕ} (t : Bool) (a : Label) → Packs names a → Offered
 kept-offers true a p = one a p
 kept-offers false a p = none
 
-pub block-offers : (names : ℕ) → names ≤ 12 → (ns : List ℕ) (a : Label) → Packs names a
+pub block-offers : (names : ℕ) → names ≤ 24 → (ns : List ℕ) (a : Label) → Packs names a
     → Offered names (offerOf Block ns (number a)) (keep (clear ns) a)
 block-offers names few ns a p = rw (clear-number names few ns a p) (kept-offers (clear ns a) a p)
 
-pub hide-offers : (names : ℕ) → names ≤ 12 → (ns : List ℕ) (a : Label) → Packs names a
+pub hide-offers : (names : ℕ) → names ≤ 24 → (ns : List ℕ) (a : Label) → Packs names a
     → Offered names (offerOf Hide ns (number a)) (turn (without ns) a)
 hide-offers names few ns a p =
     let h = size-without ns a in
     let k = p .few in
     rw (without-number names few ns a p) (one (without ns a) (record { wide = length-without ns a ∙ p .wide; few = omega arith }))
 
-pub rename-offers : (names : ℕ) → names ≤ 12 → (ps : List Pair) → Each (LegalPair names) ps → Each (λ p. p .left < 32) ps
+pub rename-offers : (names : ℕ) → names ≤ 24 → (ps : List Pair) → Each (LegalPair names) ps → Each (λ p. p .left < 32) ps
     → (a : Label) → Packs names a
     → Offered names (offerOf Rename (pairWords ps) (number a)) (turn (renamed names (target ps)) a)
 rename-offers names few ps legal left a p =

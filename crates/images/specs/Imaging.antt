@@ -3,7 +3,7 @@
 use mathlib.Core.Path.{_≡_}
 use mathlib.Core.Bool.{Bool, true, false}
 use mathlib.Core.List.{List}
-use Prim.Native.Nat.{ℕ}
+use Prim.Native.Nat.{ℕ, _%_, _^_}
 use lib.ListN.{getD}
 use Rattle.meaning.specs.Labels.{number, labelOf, clear, without, renamed}
 use Rattle.areas.specs.Rows.{held}
@@ -20,7 +20,16 @@ use Rattle.images.specs.Allowing.{allowedIn}
 use Rattle.images.specs.declared.Way.{Way}
 use Rattle.images.specs.declared.Way.the-variants.{Copy, Block, Hide, Rename, Comm, Allow}
 
--- What each way makes of a label, by the words of its list; and whether rules are followed from there.
+-- The list of a way as it takes it, by the words of the list: of comm and allow the labels, of the others the words themselves.
+abbrev pub takenBy : Way → List ℕ → List ℕ
+takenBy Copy words = words
+takenBy Block words = words
+takenBy Hide words = words
+takenBy Rename words = words
+takenBy Comm words = held words
+takenBy Allow words = held words
+
+-- What each way makes of a label, by its list; and whether rules are followed from there.
 abbrev pub pickOffer : Bool → Offer → Offer
 pickOffer true o = o
 pickOffer false o = Nothing
@@ -29,9 +38,9 @@ abbrev pub offerOf : Way → List ℕ → ℕ → Offer
 offerOf Copy list w = Next (packed w)
 offerOf Block list w = pickOffer (clear list (bag w)) (Next (packed w))
 offerOf Hide list w = Next (packed (number (without list (bag w))))
-offerOf Rename list w = Next (packed (number (renamed 12 (λ n. getD (targets (pairsIn list)) n 0) (labelOf 12 w))))
+offerOf Rename list w = Next (packed (number (renamed 24 (λ n. getD (targets (pairsIn list)) n 0) (labelOf 24 w)) % 2 ^ 124))
 offerOf Comm list w = Next (packed w)
-offerOf Allow list w = pickOffer (allowedIn w (held list)) (Next (packed w))
+offerOf Allow list w = pickOffer (allowedIn w list) (Next (packed w))
 
 -- the map that a renaming goes by
 abbrev pub MapFor : Way → (list map : List ℕ) → Type 0
@@ -60,4 +69,4 @@ pickImage true closed offered = closed
 pickImage false closed offered = offered
 
 abbrev pub imaged : ℕ → Way → (list all : List ℕ) → ℕ → List ℕ → Building
-imaged room way list all = pickImage (followsRules way) (closed room all (exchangesIn (held list))) (offered room way list)
+imaged room way list all = pickImage (followsRules way) (closed room all (exchangesIn list)) (offered room way list)

@@ -16,13 +16,13 @@ use sets::Built;
 use sets::Offer;
 use sets::inserting::enter;
 ghost use mathlib.Core.Path.{_≡_};
-ghost use Prim.Native.Nat.{_≤_};
+ghost use Prim.Native.Nat.{_≤_, _<_, _^_};
 ghost use lib.ListN.{length};
 ghost use Rattle.areas.specs.Rows.{held};
 ghost use Rattle.labels.specs.Packing.{code};
 ghost use Rattle.extents.specs.Extents.{atStart};
 ghost use Rattle.sets.specs.Building.{GrownAt, each, enter, taken};
-ghost use Rattle.images.specs.Imaging.{offered, imaged, MapFor, offerOf, followsRules};
+ghost use Rattle.images.specs.Imaging.{takenBy, offered, imaged, MapFor, offerOf, followsRules};
 
 // The map of a renaming, made of the list once for the row; the other ways have none.
 fn map_for(way: Way, list: &[u64]) -> [u64; NAMES]
@@ -34,10 +34,10 @@ fn map_for(way: Way, list: &[u64]) -> [u64; NAMES]
     }
 }
 
-// What a way makes of a label.
+// What a way makes of a label, whose lower word has nothing above the bits of names.
 fn made(way: Way, list: &[u64], map: [u64; NAMES], label: Label) -> Offer
-    requires { ⌜ MapFor way (now list) map ⌝ }
-    ensures { λ r. ⌜ r ≡ offerOf way (now (list .entry)) (code label) ⌝ }
+    requires { ⌜ MapFor way (now list) map × (label .lower < 2 ^ 60) ⌝ }
+    ensures { λ r. ⌜ r ≡ offerOf way (takenBy way (now (list .entry))) (code label) ⌝ }
 {
     match way {
         Way::Copy => Offer::Next(label),
@@ -85,7 +85,7 @@ fn take(out: &mut [u64], len: usize, offer: Offer) -> Built
 
 // What a way makes of the labels of a row, and no rule is followed.
 fn add_offered(way: Way, list: &[u64], labels: &[u64], out: &mut [u64], len: usize) -> Built
-    ensures { λ r. ⌜ GrownAt (atStart len) (λ room. each (offered room way (now (list .entry))) (held (now (labels .entry))))
+    ensures { λ r. ⌜ GrownAt (atStart len) (λ room. each (offered room way (takenBy way (now (list .entry)))) (held (now (labels .entry))))
         (held (now (out .entry))) (held (now (out .exit))) r ⌝ }
 {
     let mut count = reach(out, 0, len);
@@ -116,7 +116,7 @@ pub fn add_image(
     len: usize,
 ) -> Built
     ensures { λ r. ⌜ GrownAt (atStart len)
-        (λ room. each (imaged room way (now (list .entry)) (held (now (operand .entry)))) (held (now (labels .entry))))
+        (λ room. each (imaged room way (takenBy way (now (list .entry))) (held (now (operand .entry)))) (held (now (labels .entry))))
         (held (now (out .entry))) (held (now (out .exit))) r ⌝ }
 {
     if follows(way) {

@@ -75,18 +75,18 @@ parts-next written w ws x a =
 
 -- The parts of the names from the i-th on, whose counts are the digits of what is left of the label's word.
 abbrev pub partsFrom : List ℕ → ℕ → ℕ → List Text
-partsFrom names i rest = partTexts (nameTexts (drop i names)) (labelOf (12 - i) rest)
+partsFrom names i rest = partTexts (nameTexts (drop i names)) (labelOf (24 - i) rest)
 
-parts-step : (written : ℕ) (names : List ℕ) (i rest : ℕ) → i < 12 → length names ≡ 12 →
+parts-step : (written : ℕ) (names : List ℕ) (i rest : ℕ) → i < 24 → length names ≡ 24 →
     toCome written (partsFrom names i rest)
     ≡ nextText written (nameOf 8 (getD names i 0)) (rest % 32)
     ++ toCome (written + length (nextText written (nameOf 8 (getD names i 0)) (rest % 32))) (partsFrom names (i + 1) (rest / 32))
 unfolding labelOf
 parts-step written names i rest h e =
-    let more : 12 - i ≡ suc (12 - (i + 1)) = omega arith in
+    let more : 24 - i ≡ suc (24 - (i + 1)) = omega arith in
     let name = drop-cons names i 0 (omega arith) ∙ ap (λ (n : ℕ). getD names i 0 ∷ drop n names) (sym (add-one i)) in
     rw (more, name)
-    (parts-next written (nameOf 8 (getD names i 0)) (nameTexts (drop (i + 1) names)) (rest % 32) (labelOf (12 - (i + 1)) (rest / 32)))
+    (parts-next written (nameOf 8 (getD names i 0)) (nameTexts (drop (i + 1) names)) (rest % 32) (labelOf (24 - (i + 1)) (rest / 32)))
 
 -- Where nothing is left of the word, nothing is to come.
 parts-none : (ws : List Text) (n : ℕ) → partTexts ws (labelOf n 0) ≡ []
@@ -97,22 +97,22 @@ parts-none (w ∷ ws) (suc n) = parts-none ws n
 
 -- A turn of the writer's loop, and its end.
 module _ {goal before mid : Text} {k : ℕ} (names : List ℕ) (i rest : ℕ) (u : Underway goal (toCome k (partsFrom names i rest)) before mid k) where
-  pub parts-room : i < 12 → length names ≡ 12 → length (nextText k (nameOf 8 (getD names i 0)) (rest % 32)) ≤ length (lent k mid)
+  pub parts-room : i < 24 → length names ≡ 24 → length (nextText k (nameOf 8 (getD names i 0)) (rest % 32)) ≤ length (lent k mid)
   parts-room h e =
       let next = nextText k (nameOf 8 (getD names i 0)) (rest % 32) in
       next-room next (toCome (k + length next) (partsFrom names (i + 1) (rest / 32))) (rw (parts-step k names i rest h e) at u)
 
-  pub parts-again : {part : Text} {r : ℕ} → i < 12 → length names ≡ 12 →
+  pub parts-again : {part : Text} {r : ℕ} → i < 24 → length names ≡ 24 →
       Written (nextText k (nameOf 8 (getD names i 0)) (rest % 32)) (lent k mid) part r →
       Underway goal (toCome (k + r) (partsFrom names (i + 1) (rest / 32))) before (back k mid part) (k + r)
   parts-again h e v = underway-step (rw (rw (← v .size) at (parts-step k names i rest h e)) at u) v
 
   pub parts-early : rest ≡ 0 → Written goal before mid k
   parts-early e =
-      let none = ap (partsFrom names i) e ∙ parts-none (nameTexts (drop i names)) (12 - i) in
+      let none = ap (partsFrom names i) e ∙ parts-none (nameTexts (drop i names)) (24 - i) in
       underway-end (rw (ap (toCome k) none ∙ toCome-nil k) at u)
 
-  pub parts-end : i ≡ 12 → Written goal before mid k
+  pub parts-end : i ≡ 24 → Written goal before mid k
   unfolding labelOf partTexts
   parts-end e = underway-end (rw (ap (λ (n : ℕ). toCome k (partsFrom names n rest)) e ∙ toCome-nil k) at u)
 

@@ -1,4 +1,4 @@
--- A label with no parts is written `tau`; a label fits in 144 bytes.
+-- A label with no parts is written `tau`; a label fits in 288 bytes.
 -- Assumes nothing.
 use mathlib.Core.Path.{_≡_, refl}
 use mathlib.Core.List.{List, [], _∷_}
@@ -59,12 +59,12 @@ unfolding joinedBy followed
 length-joined sign [] = zero-le
 length-joined sign (t ∷ ts) = omega arith
 
-length-or-tau : (s : Text) → length s ≤ 144 → length (orTau s) ≤ 144
+length-or-tau : (s : Text) → length s ≤ 288 → length (orTau s) ≤ 288
 length-or-tau [] h = omega arith
 length-or-tau (b ∷ s) h = h
 
-pub length-label : (names : List ℕ) (label : ℕ) → length (printedLabel (nameTexts names) (countsOf label)) ≤ 144
+pub length-label : (names : List ℕ) (label : ℕ) → length (printedLabel (nameTexts names) (countsOf label)) ≤ 288
 unfolding printedLabel
 length-label names label =
     let parts = partTexts (nameTexts names) (countsOf label) in
-    length-or-tau (joinedBy dot parts) (omega (arith, length-joined dot parts, length-followed 12 names label))
+    length-or-tau (joinedBy dot parts) (omega (arith, length-joined dot parts, length-followed 24 names label))

@@ -6,9 +6,9 @@ use Rattle.meaning.specs.Bytes.{Text}
 use Rattle.meaning.specs.Labels.{Label, labelOf}
 use Rattle.table.specs.Decoded.{nameOf}
 
--- Twelve names of at most eight bytes, a word each; a label's twelve counts in one word.
+-- Twenty-four names of at most eight bytes, a word each; a label's counts, of as many names, by its number.
 abbrev pub nameTexts : List ℕ → List Text
 nameTexts names = map (nameOf 8) names
 
 abbrev pub countsOf : ℕ → Label
-countsOf w = labelOf 12 w
+countsOf w = labelOf 24 w

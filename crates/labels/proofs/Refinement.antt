@@ -1,5 +1,5 @@
--- What the functions on words make of the numbers of labels: the numbers of what `meaning` makes of the labels. A label has
--- at most 12 names; that the word has digits past them changes nothing.
+-- What the functions on packed labels make of the numbers of labels: the numbers of what `meaning` makes of the labels. A label has
+-- at most 24 names; that its number has digits past them changes nothing.
 -- Assumes nothing.
 use mathlib.Core.Path.{_≡_, refl, sym, ap, _∙_}
 use mathlib.Core.Bool.{Bool, true, _&&_}
@@ -19,7 +19,7 @@ use Rattle.labels.specs.Bags.{bag, sizeOf, sumOf}
 use Rattle.labels.proofs.Words.{number-several}
 use Rattle.labels.proofs.Sizes.{folded-few}
 
--- A label over so many names, with at most 31 actions: what a word packs.
+-- A label over so many names, with at most 31 actions: what two words pack.
 pub record Packs (names : ℕ) (a : Label) : Type 0 where
   pub wide : length a ≡ names
   pub few : size a ≤ 31
@@ -82,40 +82,40 @@ labelOf-padded more (x ∷ a) h =
     let hi : (x + 32 * number a) / 32 ≡ number a = omega (arith, h .0) in
     rw (s, lo, hi, labelOf-padded more a (h .1))
 
-module _ (names : ℕ) (few : names ≤ 12) where
+module _ (names : ℕ) (few : names ≤ 24) where
   pub labelOf-number-padded : (most : ℕ) (a : Label) → names ≤ most → Packs names a → labelOf most (number a) ≡ padded (most - names) a
   labelOf-number-padded most a l p =
       let e : length a + (most - names) ≡ most = omega (arith, p .wide) in
       rw e at (labelOf-padded (most - names) a (packs-small p))
 
-  pub bag-number : (a : Label) → Packs names a → bag (number a) ≡ padded (13 - names) a
-  bag-number a p = labelOf-number-padded 13 a (omega arith) p
+  pub bag-number : (a : Label) → Packs names a → bag (number a) ≡ padded (25 - names) a
+  bag-number a p = labelOf-number-padded 25 a (omega arith) p
 
   pub inside-number : (a b : Label) → Packs names a → Packs names b → inside (bag (number a)) (bag (number b)) ≡ inside a b
-  inside-number a b p q = rw (bag-number a p, bag-number b q) (inside-padded (13 - names) a b (omega (arith, p .wide, q .wide)))
+  inside-number a b p q = rw (bag-number a p, bag-number b q) (inside-padded (25 - names) a b (omega (arith, p .wide, q .wide)))
 
-  pub single-number : (n : ℕ) → n < names → number (single 12 n) ≡ number (single names n)
-  single-number n h = number-several 12 n 1 (omega arith) ∙ sym (number-several names n 1 h)
+  pub single-number : (n : ℕ) → n < names → number (single 24 n) ≡ number (single names n)
+  single-number n h = number-several 24 n 1 (omega arith) ∙ sym (number-several names n 1 h)
 
 -- Size, sum, difference.
-number-bound : (a : Label) → Small a → number a < 32 ^ length a
+pub number-bound : (a : Label) → Small a → number a < 32 ^ length a
 unfolding number
 number-bound [] h = lit< tt
 number-bound (x ∷ a) h = let e = pow-suc 32 (length a) in let ih = number-bound a (h .1) in omega (arith, h .0)
 
-pub number-fits : {names : ℕ} (a : Label) → names ≤ 12 → Packs names a → number a < 2 ^ 60
+pub number-fits : {names : ℕ} (a : Label) → names ≤ 24 → Packs names a → number a < 2 ^ 120
 number-fits {names} a l p =
-    lt-of-lt-of-le (number-bound a (packs-small p)) (pow-le-pow-right {n = 32} (lit< tt) {j = 12} (omega (arith, p .wide)))
+    lt-of-lt-of-le (number-bound a (packs-small p)) (pow-le-pow-right {n = 32} (lit< tt) {j = 24} (omega (arith, p .wide)))
 
-pub size-number : {names : ℕ} (a : Label) → names ≤ 12 → Packs names a → sizeOf (number a) ≡ size a
+pub size-number : {names : ℕ} (a : Label) → names ≤ 24 → Packs names a → sizeOf (number a) ≡ size a
 unfolding sizeOf
-size-number {names} a l p = rw (bag-number names l a p, size-padded (13 - names) a) (folded-few (size a) (p .few))
+size-number {names} a l p = rw (bag-number names l a p, size-padded (25 - names) a) (folded-few (size a) (p .few))
 
-pub sum-number : {names : ℕ} (a b : Label) → names ≤ 12 → Packs names a → Packs names b
+pub sum-number : {names : ℕ} (a b : Label) → names ≤ 24 → Packs names a → Packs names b
     → sumOf (number a) (number b) ≡ pick (ltb 31 (size (plus a b))) Over (Of (packed (number (plus a b))))
 unfolding sumOf
 sum-number a b l p q =
-    let fits : (number a + number b) % 2 ^ 64 ≡ number (plus a b) =
+    let fits : (number a + number b) % 2 ^ 124 ≡ number (plus a b) =
     mod-eq-of-lt (omega (arith, number-fits a l p, number-fits b l q)) ∙ sym (number-plus a b) in
     rw (size-number a l p, size-number b l q, fits, size-plus a b)
 

@@ -10,9 +10,10 @@ use lib.ListN.{length, getD, set, take, drop, length-append, length-take}
 use lib.Seq.{drop-drop, drop-at, getD-drop, length-take-le, take-all, paste, paste-suc}
 use Rattle.labels.specs.declared.Label.{Label}
 use Rattle.labels.specs.Packing.{code, packed}
+use Rattle.labels.proofs.Codes.{code-of}
 use Rattle.parts.specs.declared.Part.{Part}
 use Rattle.parts.specs.Parts.{part, setAt, laid}
-use Rattle.parts.proofs.LaidSets.{length-setAt, getD-setAt, laid-nil, length-laid, getD-laid, take-laid, setAt-laid}
+use Rattle.parts.proofs.LaidSets.{length-setAt, getD-setAt, laid-nil, getD-laid, take-laid, setAt-laid}
 use Rattle.extents.specs.Extents.{wordsIn}
 use Rattle.extents.proofs.Rows.{words-grown, words-cut}
 
@@ -68,12 +69,6 @@ module _ {from to count : ℕ} {before : List ℕ} {i : ℕ} {now : List ℕ} (x
   length-all : length all ≡ count
   length-all = let b = x .places in length-setAt from count before ∙ omega arith
 
-  pub carrying-length : length now ≡ length before
-  carrying-length =
-      let b = x .places in
-      let d = x .done in
-      ap length (x .words) ∙ length-laid to (take i all) before (omega (arith, length-take i all))
-
   laid-paste : (n : ℕ) → n ≤ count → laid to (take n all) before ≡ paste before to all n
   unfolding laid
   laid-paste n h = ap (λ (k : ℕ). take to before ++ take n all ++ drop (to + k) before) (length-take-le n all (omega (arith, length-all)))
@@ -99,7 +94,7 @@ module _ {from to count : ℕ} {before : List ℕ} {i : ℕ} {now : List ℕ} (x
         words =
             now′
             ≡⟨ w ⟩ set now (to + i) (code label)
-            ≡⟨ ap₂ (λ (m : List ℕ) (v : ℕ). set m (to + i) v) (x .words ∙ laid-paste i (x .done)) (ap code e ∙ coming h) ⟩
+            ≡⟨ ap₂ (λ (m : List ℕ) (v : ℕ). set m (to + i) v) (x .words ∙ laid-paste i (x .done)) (code-of e ∙ coming h) ⟩
             set (paste before to all i) (to + i) (getD all i 0)
             ≡⟨ paste-suc before to all i 0 (omega arith) (omega (arith, length-all)) ⟩ paste before to all (suc i)
             ≡⟨ ap (paste before to all) (sym (add-one i)) ⟩ paste before to all (i + 1)

@@ -1,8 +1,7 @@
 -- The laws of sets that stand in one half of the work area and grow there, each file after those that it cites.
 -- weaving-start, weaving-old, weaving-new, weaving-end: the loop of `weave`
 pub mod Weaves
--- words-beside, words-laid: words after a set was laid in them; carrying-start, carrying-length, carrying-step, carrying-end: the loop
--- of `carry`
+-- words-beside, words-laid: words after a set was laid in them; carrying-start, carrying-step, carrying-end: the loop of `carry`
 pub mod Carries
 -- standing-order, standing-begins, standing-next, standing-within, standing-upper: where the sets stand; standing-length: how long they
 -- are; standing-as: the same of equal sets; standing-start: empty sets; sizes-mono, length-joined, sizes-joined: how many labels there

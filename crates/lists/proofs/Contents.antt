@@ -3,12 +3,13 @@
 use mathlib.Core.Path.{_≡_, refl, sym, ap, ap₂, _∙_}
 use mathlib.Core.Bool.{Bool, true, false}
 use mathlib.Core.List.{List, [], _∷_, map}
-use Prim.Native.Nat.{ℕ, suc, _+_, _*_, _≤_}
+use Prim.Native.Nat.{ℕ, suc, _+_, _*_, _/_, _%_, _^_, _≤_}
 use native.Mathlib.Omega.{arith}
 use lib.Dec.{leb}
 use lib.ListN.{length}
 use Rattle.meaning.specs.Bytes.{Text, ascii}
 use Rattle.meaning.specs.Labels as L
+use Rattle.meaning.specs.Labels.{inWords}
 use Rattle.meaning.specs.Legal.{Each}
 use Rattle.meaning.specs.Answers.{amount}
 use Rattle.table.specs.Encoded.{pairWord, ruleWords}
@@ -79,13 +80,13 @@ module _ (words : List Text) where
   unfolding listWords ruleWords
   each-rule [] h = refl
   each-rule (r ∷ rs) h =
-      ap₂ {C = List ℕ} (λ n l. n ∷ nameNumber words (r .it .right .it) ∷ l) (sym (left-key r (h .0))) (each-rule rs (h .1))
+      ap₂ {C = List ℕ} (λ n l. n % 2 ^ 60 ∷ n / 2 ^ 60 ∷ nameNumber words (r .it .right .it) ∷ l) (sym (left-key r (h .0))) (each-rule rs (h .1))
 
   each-label : (ls : List (Placed Parts)) → Each (λ l. labelFault words (l .from) (l .it) ≡ fine) ls
-      → listWords Labels (map (labelEntry words) ls) ≡ map L.number (map (λ l. labelSaid words (l .it)) ls)
-  unfolding listWords
+      → listWords Labels (map (labelEntry words) ls) ≡ inWords (map L.number (map (λ l. labelSaid words (l .it)) ls))
+  unfolding listWords inWords
   each-label [] h = refl
-  each-label (l ∷ ls) h = ap₂ {C = List ℕ} _∷_ (sym (label-key (l .from) (l .it) (h .0))) (each-label ls (h .1))
+  each-label (l ∷ ls) h = ap₂ {C = List ℕ} (λ n ws. n % 2 ^ 60 ∷ n / 2 ^ 60 ∷ ws) (sym (label-key (l .from) (l .it) (h .0))) (each-label ls (h .1))
 
   pub rules-words : (rs : List (Placed WordRule)) → rulesFault words rs ≡ fine
       → listWords Rules (map (ruleEntry words) rs) ≡ ruleWords (map (λ r. ruleSaid words (r .it)) rs)
@@ -97,7 +98,7 @@ module _ (words : List Text) where
   labels-fine ls e = items-fine (labelItem words) 32 0 0 ls e
 
   pub labels-words : (ls : List (Placed Parts)) → labelsFault words ls ≡ fine
-      → listWords Labels (map (labelEntry words) ls) ≡ map L.number (map (λ l. labelSaid words (l .it)) ls)
+      → listWords Labels (map (labelEntry words) ls) ≡ inWords (map L.number (map (λ l. labelSaid words (l .it)) ls))
   labels-words ls e = each-label ls (labels-fine ls e)
 
   pub labels-few : (ls : List (Placed Parts)) → labelsFault words ls ≡ fine → length ls ≤ 32

@@ -11,14 +11,17 @@ use lib.Dec.{ltb, eqb}
 use lib.ListN.{length, drop, set, length-append, drop-of-length-le}
 use Rattle.meaning.specs.Bytes.{Text, ascii}
 use Rattle.meaning.proofs.Tests.{and-true→}
-use Rattle.grammar.specs.Text.{Past, past, stuck, onward, placed, isRest, word, separatedOn}
-use Rattle.grammar.specs.Forms.{part, label, pair, rule}
-use borrow.Author.Tests.{le-leb, ltb-true, ltb-false}
+use Rattle.grammar.specs.Text.{Past, past, stuck, onward, placed, isRest, isLower, starts, word, separatedOn}
+use Rattle.grammar.specs.Forms.{part, label, pair, rule, comma}
+use borrow.Author.Tests.{le-leb, ltb-true, ltb-false, eqb-true}
 use Rattle.grammar.specs.Faults.{fine, itemsFrom, itemsFault}
+use Rattle.labels.specs.declared.Label.{Label}
+use Rattle.labels.specs.Packing.{packed}
+use Rattle.labels.proofs.Codes.{code-of}
 use Rattle.lists.specs.Tallies.{Said, allFaults}
 use Rattle.lists.specs.Entries.{nameEntry, pairEntry, ruleEntry, labelEntry, entryOf, withFew}
-use Rattle.lists.specs.Lists.{listFaults, weightFor, limitFor, wordCount, entryWord, entryWords}
-use Rattle.lists.specs.Lists.{listWords, entryStored, overlaid, takesNone, wholeList, ListRead}
+use Rattle.lists.specs.Lists.{listFaults, weightFor, limitFor, wordCount, entryWords, Short}
+use Rattle.lists.specs.Lists.{listWords, setFrom, overlaid, takesNone, wholeList, ListRead}
 use Rattle.lists.specs.declared.SaidStep.{SaidStep}
 use Rattle.lists.specs.declared.SaidStep.the-variants as S
 use Rattle.faults.specs.declared.Found.the-variants.{Fine}
@@ -27,7 +30,7 @@ use Rattle.lists.specs.declared.ListKind.the-variants.{Names, Pairs, Rul
 use Rattle.lists.proofs.Seen.{said-same}
 use Rattle.lists.proofs.Parts.{name-low, label-small}
 
--- words over the start of a store, one more
+-- words over the start of a store, and one more
 over-one : (ws store : List ℕ) (a : ℕ) → overlaid (ws ++ (a ∷ [])) store ≡ set (overlaid ws store) (length ws) a
 unfolding overlaid
 over-one [] [] a = refl
@@ -35,19 +38,14 @@ over-one [] (x ∷ store) a = refl
 over-one (w ∷ ws) [] a = refl
 over-one (w ∷ ws) (x ∷ store) a = ap (λ l. w ∷ l) (over-one ws store a)
 
-over-two : (ws store : List ℕ) (a b : ℕ) → overlaid (ws ++ (a ∷ b ∷ [])) store ≡ set (set (overlaid ws store) (length ws) a) (length ws + 1) b
-over-two ws store a b =
-    ap (λ l. overlaid l store) (sym (append-assoc ws (a ∷ []) (b ∷ [])))
-    ∙ over-one (ws ++ (a ∷ [])) store b
-    ∙ ap₂ (λ l n. set l n b) (over-one ws store a) (length-append ws (a ∷ []))
-
-pub over-entry : (kind : ListKind) (ws store : List ℕ) (e : Said)
-    → overlaid (ws ++ entryWords kind e) store
-    ≡ entryStored (wordCount kind) (overlaid ws store) (length ws) (entryWord kind (e .first) (e .second)) (e .second)
-over-entry Names ws store e = over-one ws store (e .first)
-over-entry Pairs ws store e = over-one ws store (e .first + 32 * e .second)
-over-entry Rules ws store e = over-two ws store (e .first) (e .second)
-over-entry Labels ws store e = over-one ws store (e .first)
+-- and some more
+over-more : (ws store us : List ℕ) → overlaid (ws ++ us) store ≡ setFrom (length ws) us (overlaid ws store)
+unfolding setFrom
+over-more ws store [] = ap (λ l. overlaid l store) (append-nil ws)
+over-more ws store (a ∷ us) =
+    ap (λ l. overlaid l store) (sym (append-assoc ws (a ∷ []) us))
+    ∙ over-more (ws ++ (a ∷ [])) store us
+    ∙ ap₂ (λ l n. setFrom n us l) (over-one ws store a) (length-append ws (a ∷ []))
 
 pub length-over : (ws store : List ℕ) → length (overlaid ws store) ≡ length store
 unfolding overlaid
@@ -66,15 +64,15 @@ words-count Pairs e = refl
 words-count Rules e = refl
 words-count Labels e = refl
 
-pub count-most : (kind : ListKind) → wordCount kind ≤ 2
+pub count-most : (kind : ListKind) → wordCount kind ≤ 3
 count-most Names = omega arith
 count-most Pairs = omega arith
 count-most Rules = omega arith
 count-most Labels = omega arith
 
--- The number of an entry leaves room for the next, and its word is one.
+-- The number of an entry leaves room for the next, and its numbers fit its words.
 abbrev Small : ListKind → Said → Type 0
-Small kind e = (e .first < 2 ^ 63) × (entryWord kind (e .first) (e .second) < 2 ^ 64)
+Small kind e = (e .first < 2 ^ 120) × Short kind (e .first) (e .second)
 
 abbrev SmallPast : ListKind → Past Said → Type 0
 SmallPast kind (past e r) = Small kind e
@@ -85,17 +83,17 @@ small-seen : {A : Type 0} (kind : ListKind) (say : A → Said) → ((a : A) → 
 small-seen kind say h (past a r) = h a
 small-seen kind say h (stuck r) = tt
 
-module _ (words : List Text) (few : length words ≤ 12) where
+module _ (words : List Text) (few : length words ≤ 24) where
   small-entry : (kind : ListKind) (s : Text) → SmallPast kind (entryOf words kind s)
   small-entry Names s = small-seen Names (nameEntry words) (λ w. let l = name-low words (w .it) in (omega arith, omega arith)) (placed word s)
   small-entry Pairs s =
       small-seen Pairs (pairEntry words)
       (λ p. let l = name-low words (p .it .left .it) in let r = name-low words (p .it .right .it) in (omega arith, omega arith)) (placed pair s)
-  small-entry Rules s = small-seen Rules (ruleEntry words) (λ r. let l = label-small words few (r .from) (r .it .left) in (l, omega arith)) (placed rule s)
-  small-entry Labels s = small-seen Labels (labelEntry words) (λ l. let h = label-small words few (l .from) (l .it) in (h, omega arith)) (placed label s)
+  small-entry Rules s = small-seen Rules (ruleEntry words) (λ r. (label-small words few (r .from) (r .it .left), tt)) (placed rule s)
+  small-entry Labels s = small-seen Labels (labelEntry words) (λ l. (label-small words few (l .from) (l .it), tt)) (placed label s)
 
   pub entry-small : (kind : ListKind) (s : Text) {e : Said} {r : Text} → past e r ≡ entryOf words kind s
-      → (e .first < 2 ^ 63) × (entryWord kind (e .first) (e .second) < 2 ^ 64)
+      → (e .first < 2 ^ 120) × Short kind (e .first) (e .second)
   entry-small kind s h = let k = small-entry kind s in rw (← h) at k
 
 -- Where nothing stands no entry is read.
@@ -105,6 +103,33 @@ entry-none words Names = refl
 entry-none words Pairs = refl
 entry-none words Rules = refl
 entry-none words Labels = refl
+
+-- An entry begins with a letter, so that one which was read takes a byte at least before its comma.
+entry-sign : (words : List Text) (kind : ListKind) (s : Text) → entryOf words kind (comma ∷ s) ≡ stuck (comma ∷ s)
+unfolding word part pair rule separatedOn isLower
+entry-sign words Names s = refl
+entry-sign words Pairs s = refl
+entry-sign words Rules s = refl
+entry-sign words Labels s = refl
+
+comma-first : (words : List Text) (kind : ListKind) (s : Text) {e : Said} {r : Text} → past e r ≡ entryOf words kind s → starts comma s ≡ true → ⊥
+comma-first words kind [] h f = false≢true f
+comma-first words kind (b ∷ s) h f =
+    let z = h ∙ ap (λ c. entryOf words kind (c ∷ s)) (sym (eqb-true comma b f)) ∙ entry-sign words kind s in
+    subst IsStuck (sym z) tt
+
+pub entry-longer : (words : List Text) (kind : ListKind) (line : Text) (from next : ℕ) {e : Said} {r : Text}
+    → past e r ≡ entryOf words kind (drop from line)
+    → from ≤ next
+    → starts comma (drop next line) ≡ true
+    → from < next
+entry-longer words kind line from next h w f = cases (ltb from next) refl
+  where
+    cases : (t : Bool) → ltb from next ≡ t → from < next
+    cases true k = ltb-true from next k
+    cases false k =
+        let same : next ≡ from = let l = ltb-false from next k in omega arith in
+        absurd (comma-first words kind (drop from line) h (rw same at f))
 
 pub entry-within : (words : List Text) (kind : ListKind) (line : Text) (from : ℕ) {e : Said} {r : Text}
     → past e r ≡ entryOf words kind (drop from line)
@@ -121,7 +146,7 @@ entry-within words kind line from {e} {r} h = cases (ltb from (length line)) ref
 pub record Filled (kind : ListKind) (before : List ℕ) (es : List Said) (entries index : ℕ) (store : List ℕ) : Type 0 where
   pub entries-are : entries ≡ length es
   pub index-is : index ≡ length (listWords kind es)
-  pub index-most : index ≤ 2 * entries
+  pub index-most : index ≤ 3 * entries
   pub store-is : store ≡ overlaid (listWords kind es) before
 
 module _ (kind : ListKind) (before : List ℕ) where
@@ -132,7 +157,7 @@ module _ (kind : ListKind) (before : List ℕ) where
   pub filled-more : {es : List Said} {entries index size : ℕ} {store after : List ℕ} (e : Said)
       → Filled kind before es entries index store
       → size ≡ wordCount kind
-      → after ≡ entryStored size store index (entryWord kind (e .first) (e .second)) (e .second)
+      → after ≡ setFrom index (entryWords kind e) store
       → Filled kind before (es ++ (e ∷ [])) (entries + 1) (index + size) after
   filled-more {es} {entries} {index} {size} {store} {after} e f s a =
       let w = words-snoc kind es e in
@@ -142,7 +167,7 @@ module _ (kind : ListKind) (before : List ℕ) where
         index-is = omega (arith, f .index-is, s, ap length w, length-append (listWords kind es) (entryWords kind e), words-count kind e);
         index-most = omega (arith, f .index-most, s);
         store-is =
-            a ∙ rw (s, f .store-is, f .index-is, w) (sym (over-entry kind (listWords kind es) before e));
+            a ∙ rw (f .store-is, f .index-is, w) (sym (over-more (listWords kind es) before (entryWords kind e)));
       }
 
 -- What a list that was read says of any reading of it.
@@ -188,16 +213,16 @@ rest-within [] line h = omega arith
 rest-within (c ∷ w) [] h = absurd (false≢true h)
 rest-within (c ∷ w) (b ∷ line) h = let k = rest-within w line (and-true→ (eqb c b) (isRest w line) h .1) in omega arith
 
-pub none-read : (kind : ListKind) (line : Text) (store : List ℕ)
+pub none-read : (kind : ListKind) (line : Text) (store : List ℕ) {none : Label} → none ≡ packed 0
     → (takesNone kind && isRest (ascii "none") line) ≡ true
-    → ListRead kind line (past [] (drop 4 line)) store store (S.To (record { fault = Fine; first = 0; second = 0 }) 4)
-none-read kind line store h =
+    → ListRead kind line (past [] (drop 4 line)) store store (S.To (record { fault = Fine; first = none; second = 0 }) 4)
+none-read kind line store e h =
     record {
       read =
           record {
             stands =
                 record {
-                  says = ap (λ e. past e (drop 4 line)) (said-same (list-none kind) refl refl);
+                  says = ap (λ s. past s (drop 4 line)) (said-same (list-none kind) (code-of e) refl);
                   within = rest-within (ascii "none") line (and-true→ (takesNone kind) (isRest (ascii "none") line) h .1);
                 };
           };
@@ -211,8 +236,8 @@ many-read kind line before after =
 
 -- A list at a place of the line, with few enough names.
 pub list-there : (names : List ℕ) (kind : ListKind) (line : Text) (at : ℕ) {before after : List ℕ} {r : SaidStep}
-    → length names ≤ 12
+    → length names ≤ 24
     → at ≤ length line
     → ListRead kind (restAt line at) (withFew names (wholeList (map (nameOf 8) names) kind (restAt line at)) (restAt line at)) before after r
     → ListRead kind (drop at line) (wholeList (map (nameOf 8) names) kind (drop at line)) before after r
-list-there names kind line at few h l = rw (le-leb (length names) 12 few, rest-drop line at h) at l
+list-there names kind line at few h l = rw (le-leb (length names) 24 few, rest-drop line at h) at l

@@ -3,15 +3,14 @@
 use mathlib.Core.Path.{_≡_, refl, sym, ap, ap₂, _∙_}
 use mathlib.Core.Bool.{Bool, true, false}
 use mathlib.Core.List.{List, [], _∷_, _++_, map}
-use Prim.Native.Nat.{ℕ, zero, suc, _+_, _*_, _-_, _^_, _≤_, _<_, min, zero-le}
-use native.Mathlib.Nat.{pow-suc, mul-assoc, mul-le-mul-left, pow-le-pow-right, not-suc-le-zero, le-of-suc-le-suc}
+use Prim.Native.Nat.{ℕ, suc, _+_, _*_, _-_, _^_, _≤_, _<_, min, zero-le}
+use native.Mathlib.Nat.{mul-le-mul-left, pow-le-pow-right, le-of-suc-le-suc}
 use native.Mathlib.Omega.{arith}
 use lib.Dec.{leb, ltb, eqb, lit<, leb→le}
 use lib.ListN.{length}
 use borrow.Author.Tests.{ltb-true}
 use Rattle.meaning.specs.Bytes.{Text}
-use Rattle.meaning.specs.Labels as L
-use Rattle.meaning.specs.Labels.{several, empty}
+use Rattle.meaning.specs.Labels.{several}
 use Rattle.meaning.specs.Legal.{Each}
 use Rattle.meaning.specs.Answers.{name, amount}
 use Rattle.meaning.proofs.Tests.{and-right}
@@ -20,11 +19,12 @@ use Rattle.grammar.specs.Text.{Past, past, stuck, onward, Placed, placed, sameT
 use Rattle.grammar.specs.Forms.{Part, Parts, part, label, colon, dot}
 use Rattle.grammar.specs.Faults.{Found, fine, fault, worse, unless, itemsFault, partItem}
 use Rattle.grammar.specs.Faults.{nameNumber, nameFault, labelSaid, actions, labelFault, numberSaid}
+use Rattle.labels.proofs.Words.{number-empty, number-several}
 use Rattle.faults.proofs.Ranks.{worse-none, unless-none}
 use Rattle.lists.specs.Tallies.{Said, itemOf, allFaults}
-use Rattle.lists.specs.Entries.{seen, partSaid, unlessFaulty, labelEntry, Room}
+use Rattle.lists.specs.Entries.{seen, partSaid, nameEntry, unlessFaulty, labelEntry, Room}
 use Rattle.lists.proofs.Items.{weightOf, items-fine, items-within}
-use Rattle.lists.proofs.Tallied.{said-faults, all-snoc}
+use Rattle.lists.proofs.Tallied.{weight-snoc, said-faults, all-snoc}
 use Rattle.lists.proofs.Seen.{said-same, placed-seen}
 use Rattle.lists.proofs.Gathered.{gathered}
 
@@ -38,39 +38,26 @@ unfolding numberOf
 number-snoc [] e = omega arith
 number-snoc (d ∷ es) e = let ih = number-snoc es e in omega arith
 
-number-bound : (es : List Said) → Each (λ e. e .first < 12) es → numberOf es ≤ weightOf (λ e. e .second) es * 32 ^ 11
+number-bound : (es : List Said) → Each (λ e. e .first < 24) es → numberOf es ≤ weightOf (λ e. e .second) es * 32 ^ 23
 unfolding numberOf weightOf
 number-bound [] h = zero-le
 number-bound (e ∷ es) h =
-    let p : 32 ^ e .first ≤ 32 ^ 11 = pow-le-pow-right (lit< tt) (le-of-suc-le-suc (h .0)) in
-    let q : e .second * 32 ^ e .first ≤ e .second * 32 ^ 11 = mul-le-mul-left (e .second) p in
+    let p : 32 ^ e .first ≤ 32 ^ 23 = pow-le-pow-right (lit< tt) (le-of-suc-le-suc (h .0)) in
+    let q : e .second * 32 ^ e .first ≤ e .second * 32 ^ 23 = mul-le-mul-left (e .second) p in
     let ih = number-bound es (h .1) in
     omega arith
 
-number-empty : (names : ℕ) → L.number (empty names) ≡ 0
-unfolding L.number
-number-empty zero = refl
-number-empty (suc names) = let ih = number-empty names in omega arith
-
-number-several : (names n times : ℕ) → n < names → L.number (several names n times) ≡ times * 32 ^ n
-unfolding L.number
-number-several zero n times h = absurd (not-suc-le-zero h)
-number-several (suc names) zero times h = let e = number-empty names in omega arith
-number-several (suc names) (suc n) times h =
-    let ih = number-several names n times (le-of-suc-le-suc h) in
-    rw (pow-suc 32 n, ← mul-assoc times (32 ^ n) 32) (omega arith)
-
--- A part as it is read: its name's number is at most 12, and below where the name is known; its count has two digits.
+-- A part as it is read: its name's number is at most 24, and below where the name is known; its count has two digits.
 pub record Known (e : Said) : Type 0 where
-  pub low : e .first ≤ 12
-  pub known : e .found ≡ fine → e .first < 12
+  pub low : e .first ≤ 24
+  pub known : e .found ≡ fine → e .first < 24
   pub few : e .second ≤ 99
 
--- where its name is known, a part's number is below 12
+-- where its name is known, a part's number is below 24
 abbrev Below : Said → Type 0
-Below e = e .found ≡ fine → e .first < 12
+Below e = e .found ≡ fine → e .first < 24
 
-all-below : (es : List Said) → Each Below es → Each (λ e. e .found ≡ fine) es → Each (λ e. e .first < 12) es
+all-below : (es : List Said) → Each Below es → Each (λ e. e .found ≡ fine) es → Each (λ e. e .first < 24) es
 all-below [] k f = tt
 all-below (e ∷ es) k f = (k .0 (f .0), all-below es (k .1) (f .1))
 
@@ -92,11 +79,15 @@ partsFault entry es = allFaults sizes (λ e. entry) 31 es
 abbrev pub partsNumber : (entry : ℕ) → List Said → ℕ
 partsNumber entry es = unlessFaulty (partsFault entry es) (numberOf es)
 
-number-small : (entry : ℕ) (es : List Said) → Each Below es → partsFault entry es ≡ fine → numberOf es < 2 ^ 63
+parts-few : (entry : ℕ) (es : List Said) → partsFault entry es ≡ fine → weightOf sizes es ≤ 31
+unfolding allFaults itemsFault
+parts-few entry es f = omega (arith, items-within (itemOf sizes (λ e. entry)) 31 0 0 es (omega arith) f)
+
+number-small : (entry : ℕ) (es : List Said) → Each Below es → partsFault entry es ≡ fine → numberOf es < 2 ^ 120
 unfolding allFaults itemsFault
 number-small entry es k f =
     let item = itemOf sizes (λ e. entry) in
-    let w = items-within item 31 0 0 es (omega arith) f in
+    let w = parts-few entry es f in
     let b = number-bound es (all-below es k (items-fine item 31 0 0 es f)) in
     omega arith
 
@@ -122,7 +113,8 @@ module _ (entry : ℕ) (es : List Said) (e : Said) (ks : Each Known es) (k : Kno
   room-of fine f =
       let b = before (sym f) in
       let s = number-small entry (es ++ (e ∷ [])) (each-below (es ++ (e ∷ [])) (each-snoc Known es e ks k)) (sym f) in
-      (k .known (b .1), omega (arith, number-snoc es e, b .0))
+      let w = parts-few entry (es ++ (e ∷ [])) (sym f) in
+      (k .known (b .1), omega (arith, weight-snoc sizes es e), omega (arith, number-snoc es e, b .0))
   room-of (fault x p) f = tt
 
   pub room-for : {x : Found} → x ≡ partsFault entry (es ++ (e ∷ [])) → Room x number (e .first) (e .second)
@@ -192,7 +184,7 @@ abbrev KnownPast : Past Said → Type 0
 KnownPast (past e r) = Known e
 KnownPast (stuck r) = Unit {0}
 
-module _ (words : List Text) (entry : ℕ) (few : length words ≤ 12) where
+module _ (words : List Text) (entry : ℕ) (few : length words ≤ 24) where
   known-part : (p : Part) → p .times ≤ 99 → Known (partSaid words entry p)
   known-part p h =
       record {
@@ -263,18 +255,30 @@ label-seen words s =
     (label-total words (length s)) s
     ∙ sym (placed-seen (labelEntry words) label s)
 
+-- A name's number is that of a name or the one after the last.
+abbrev LowPast : ℕ → Past Said → Type 0
+LowPast n (past e r) = e .first ≤ n
+LowPast n (stuck r) = Unit {0}
+
+pub name-said-low : (words : List Text) (s : Text) {e : Said} {r : Text} → past e r ≡ seen (nameEntry words) (placed word) s → e .first ≤ length words
+name-said-low words s h = let k = low (placed word s) in rw (← h) at k
+  where
+    low : (x : Past (Placed Text)) → LowPast (length words) (onward x (λ w r. past (nameEntry words w) r))
+    low (past w r) = name-low words (w .it)
+    low (stuck r) = tt
+
 -- No entry's number is too large to have another after it.
 unless-small : (f : Found) (n m : ℕ) → (f ≡ fine → n < m) → 0 < m → unlessFaulty f n < m
 unless-small fine n m h z = h refl
 unless-small (fault x p) n m h z = z
 
-module _ (words : List Text) (few : length words ≤ 12) (entry : ℕ) where
+module _ (words : List Text) (few : length words ≤ 24) (entry : ℕ) where
   parts-below : (ps : Parts) → Each Below (map (partSaid words entry) ps)
   parts-below [] = tt
   parts-below (p ∷ ps) = (λ e. let k = named words entry p e in omega arith, parts-below ps)
 
-  pub label-small : (ps : Parts) → unlessFaulty (labelFault words entry ps) (numberSaid words ps) < 2 ^ 63
+  pub label-small : (ps : Parts) → unlessFaulty (labelFault words entry ps) (numberSaid words ps) < 2 ^ 120
   label-small ps =
       rw (ap (λ e. e .first) (label-total words entry ps))
-      (unless-small (partsFault entry (map (partSaid words entry) ps)) (numberOf (map (partSaid words entry) ps)) (2 ^ 63)
+      (unless-small (partsFault entry (map (partSaid words entry) ps)) (numberOf (map (partSaid words entry) ps)) (2 ^ 120)
       (number-small entry (map (partSaid words entry) ps) (parts-below ps)) (omega arith))

@@ -3,13 +3,15 @@
 use mathlib.Core.Path.{_≡_, refl, sym, ap, _∙_}
 use mathlib.Core.Bool.{Bool, true, false}
 use mathlib.Core.List.{List, [], _∷_, _++_, map}
-use Prim.Native.Nat.{ℕ, _+_, _^_, _≤_, _<_, min}
+use Prim.Native.Nat.{ℕ, _+_, _%_, _^_, _≤_, _<_, min}
 use native.Mathlib.Nat.{zero-add}
 use native.Mathlib.Numerals.{add-one}
 use native.Mathlib.Omega.{arith}
 use lib.Dec.{leb}
 use borrow.Author.Tests.{le-leb, lt-leb, leb-true, leb-false}
 use Rattle.grammar.specs.Faults.{Found, worse, itemsFrom, itemsFault}
+use Rattle.labels.specs.Packing.{code}
+use Rattle.labels.proofs.Codes.{code-packed, code-of}
 use Rattle.faults.specs.declared.Tally.{Tally}
 use Rattle.faults.specs.CodedFaults.{foundOf}
 use Rattle.lists.specs.Tallies.{Said, itemOf, allFaults}
@@ -17,7 +19,7 @@ use Rattle.faults.specs.Tallies.{plusWord, emptyTally, Counted}
 use Rattle.faults.proofs.Ranks.{worse-assoc}
 use Rattle.lists.proofs.Items.{tested, floorAfter, weightOf, items-snoc}
 
-weight-snoc : {A : Type 0} (weight : A → ℕ) (xs : List A) (x : A) → weightOf weight (xs ++ (x ∷ [])) ≡ weightOf weight xs + weight x
+pub weight-snoc : {A : Type 0} (weight : A → ℕ) (xs : List A) (x : A) → weightOf weight (xs ++ (x ∷ [])) ≡ weightOf weight xs + weight x
 unfolding weightOf
 weight-snoc weight [] x = omega arith
 weight-snoc weight (y ∷ xs) x = let ih = weight-snoc weight xs x in omega arith
@@ -50,12 +52,12 @@ kept-within limit total more = cases (leb (total + more) limit) refl
 
 pub record Tallied (weight place : Said → ℕ) (limit : ℕ) (es : List Said) (t : Tally) : Type 0 where
   pub faults : foundOf (t .fault) ≡ allFaults weight place limit es
-  pub floors : t .floor ≡ floorAfter (λ e. e .first) 0 es
+  pub floors : code (t .floor) ≡ floorAfter (λ e. e .first) 0 es
   pub totals : t .total ≡ min (limit + 1) (weightOf weight es)
 
--- Small numbers, so that no sum of them leaves a word.
+-- Small numbers, so that no sum of them leaves its words.
 pub record Modest (t : Tally) (key weight limit : ℕ) : Type 0 where
-  pub keys : key < 2 ^ 63
+  pub keys : key < 2 ^ 120
   pub totals : t .total ≤ limit + 1
   pub weights : weight ≤ 99
   pub limits : limit ≤ 99
@@ -68,7 +70,7 @@ counted-as p q h c = rw (p, q, h) at c
 module _ (weight place : Said → ℕ) (limit : ℕ) where
   pub tallied-none : {t : Tally} → t ≡ emptyTally → Tallied weight place limit [] t
   unfolding allFaults itemsFault itemsFrom weightOf floorAfter
-  tallied-none e = rw e (record { faults = refl; floors = refl; totals = omega arith })
+  tallied-none e = rw e (record { faults = refl; floors = code-packed 0; totals = omega arith })
 
   pub all-snoc : (es : List Said) (e : Said)
       → allFaults weight place limit (es ++ (e ∷ []))
@@ -83,9 +85,9 @@ module _ (weight place : Said → ℕ) (limit : ℕ) where
   tallied-more {es} {t} {r} e p m c =
       let sum : plusWord (t .total) (weight e) ≡ t .total + weight e = omega (arith, m .totals, m .weights, m .limits) in
       let most : plusWord limit 1 ≡ limit + 1 = omega (arith, m .limits) in
-      let next : plusWord (e .first) 1 ≡ e .first + 1 = omega (arith, m .keys) in
+      let next : (e .first + 1) % 2 ^ 124 ≡ e .first + 1 = omega (arith, m .keys) in
       record {
         faults = c .faults ∙ rw (sum, p .faults, p .floors, p .totals, kept-within limit (weightOf weight es) (weight e)) (sym (all-snoc es e));
-        floors = c .floors ∙ next ∙ sym (floor-snoc (λ d. d .first) 0 es e);
+        floors = code-of (c .floors) ∙ next ∙ sym (floor-snoc (λ d. d .first) 0 es e);
         totals = c .totals ∙ rw (most, sum, p .totals, weight-snoc weight es e) (kept limit (weightOf weight es) (weight e));
       }

@@ -9,6 +9,7 @@ use Rattle.meaning.specs.Rounds.{pick}
 use Rattle.grammar.specs.Text.{Past, past, stuck, onward, Placed, placed, word}
 use Rattle.grammar.specs.Forms.{Part, Parts, WordPair, WordRule, label, pair, rule}
 use Rattle.grammar.specs.Faults.{Found, fine, fault, nameNumber, nameFault, partItem, pairFault, ruleFault, actions, labelFault, numberSaid}
+use Rattle.labels.specs.Packing.{code}
 use Rattle.faults.specs.CodedFaults.{foundOf}
 use Rattle.words.specs.Steps.{Stands}
 use Rattle.lists.specs.Tallies.{Said}
@@ -25,7 +26,7 @@ saidPlace (S.Stuck next) = next
 
 -- it begins where the text does that its reader is lent
 abbrev pub saidOf : (from : ℕ) → C.Said → Said
-saidOf from e = record { found = foundOf (e .fault); first = e .first; second = e .second; from = from }
+saidOf from e = record { found = foundOf (e .fault); first = code (e .first); second = e .second; from = from }
 
 abbrev pub saidStep : Text → SaidStep → Past Said
 saidStep line (S.To e next) = past (saidOf (length line) e) (drop next line)
@@ -60,7 +61,7 @@ labelEntry words l =
 
 -- a part that may be added to a label's number
 abbrev pub Room : Found → ℕ → ℕ → ℕ → Type 0
-Room fine number name times = (name < 12) × (number + times * 32 ^ name < 2 ^ 64)
+Room fine number name times = (name < 24) × (times < 32) × (number + times * 32 ^ name < 2 ^ 124)
 Room (fault f from) number name times = Unit {0}
 
 -- The entries of the lists.
@@ -92,6 +93,6 @@ entryOf words Pairs = seen (pairEntry words) (placed pair)
 entryOf words Rules = seen (ruleEntry words) (placed rule)
 entryOf words Labels = seen (labelEntry words) (placed label)
 
--- A description has at most 12 names; with more nothing is read.
+-- A description has at most 24 names; with more nothing is read.
 abbrev pub withFew : {A : Type 0} → List ℕ → Past A → Text → Past A
-withFew names due s = pick (leb (length names) 12) due (stuck s)
+withFew names due s = pick (leb (length names) 24) due (stuck s)

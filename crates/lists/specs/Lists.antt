@@ -3,10 +3,10 @@
 use mathlib.Core.List.{List, [], _∷_, _++_}
 use mathlib.Core.Bool.{Bool, true, false, _&&_}
 use mathlib.Core.Path.{_≡_}
-use Prim.Native.Nat.{ℕ, _+_, _*_}
-use lib.Dec.{eqb}
+use Prim.Native.Nat.{ℕ, _+_, _*_, _^_, _<_}
 use lib.ListN.{length, drop, set}
 use Rattle.meaning.specs.Bytes.{Text, ascii}
+use Rattle.meaning.specs.Labels.{lowerWord, upperWord}
 use Rattle.grammar.specs.Text.{Past, past, onward, isRest, separated}
 use Rattle.grammar.specs.Forms.{comma}
 use Rattle.grammar.specs.Faults.{Found}
@@ -43,38 +43,40 @@ listOf words kind = separated comma (entryOf words kind)
 abbrev pub wordCount : ListKind → ℕ
 wordCount Names = 1
 wordCount Pairs = 1
-wordCount Rules = 2
-wordCount Labels = 1
+wordCount Rules = 3
+wordCount Labels = 2
 
--- the first word: a pair is one word, its right side in the next five bits
-abbrev pub entryWord : ListKind → ℕ → ℕ → ℕ
-entryWord Names first second = first
-entryWord Pairs first second = first + 32 * second
-entryWord Rules first second = first
-entryWord Labels first second = first
+-- A pair is one word, its right side in the next five bits; a label is two words, the lower first.
+abbrev pub wordsSaid : ListKind → (first second : ℕ) → List ℕ
+wordsSaid Names first second = first ∷ []
+wordsSaid Pairs first second = (first + 32 * second) ∷ []
+wordsSaid Rules first second = lowerWord first ∷ upperWord first ∷ second ∷ []
+wordsSaid Labels first second = lowerWord first ∷ upperWord first ∷ []
 
 abbrev pub entryWords : ListKind → Said → List ℕ
-entryWords Names e = e .first ∷ []
-entryWords Pairs e = (e .first + 32 * e .second) ∷ []
-entryWords Rules e = e .first ∷ e .second ∷ []
-entryWords Labels e = e .first ∷ []
+entryWords kind e = wordsSaid kind (e .first) (e .second)
 
 unfoldable pub listWords : ListKind → List Said → List ℕ
 listWords kind [] = []
 listWords kind (e ∷ es) = entryWords kind e ++ listWords kind es
-
-abbrev pub withSecond : Bool → List ℕ → ℕ → ℕ → List ℕ
-withSecond true store at second = set store at second
-withSecond false store at second = store
-
-abbrev pub entryStored : ℕ → List ℕ → ℕ → ℕ → ℕ → List ℕ
-entryStored size store at first second = withSecond (eqb size 2) (set store at first) (at + 1) second
 
 -- words over the start of a store, as far as it reaches
 unfoldable pub overlaid : List ℕ → List ℕ → List ℕ
 overlaid [] store = store
 overlaid (w ∷ ws) [] = []
 overlaid (w ∷ ws) (x ∷ store) = w ∷ overlaid ws store
+
+-- the numbers of an entry that fit its words: the first is a name's but in rules and labels
+abbrev pub Short : ListKind → (first second : ℕ) → Type 0
+Short Names first second = first < 2 ^ 64
+Short Pairs first second = first + 32 * second < 2 ^ 64
+Short Rules first second = Unit {0}
+Short Labels first second = Unit {0}
+
+-- words set one after the other from a place on, as far as the store reaches
+unfoldable pub setFrom : ℕ → List ℕ → List ℕ → List ℕ
+setFrom at [] store = store
+setFrom at (w ∷ ws) store = setFrom (at + 1) ws (set store at w)
 
 -- `none` is the list of no labels.
 abbrev pub unlessNone : Bool → Text → Past (List Said) → Past (List Said)

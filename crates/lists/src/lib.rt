@@ -2,7 +2,7 @@
 // a store.
 //
 // As in `words`, what is lent is the rest of the text, and an answer says how many bytes it took.
-mod labels;
+mod dotted;
 mod names;
 mod sides;
 mod stores;
@@ -18,25 +18,28 @@ ghost use Rattle.grammar.specs.Text.{isRest, placed, word};
 ghost use Rattle.lists.specs.Entries.{saidPlace, Says, seen, nameEntry, entryOf, withFew};
 ghost use Rattle.lists.specs.Starts.{Starting};
 ghost use Rattle.lists.specs.Lists.{listOf, takesNone, wholeList, ListRead};
-use crate::labels::read_label;
+use crate::dotted::read_label;
 use crate::names::name_from;
 use crate::names::starts_of;
 use crate::sides::read_pair;
 use crate::sides::read_rule;
-use crate::stores::entry_word;
 use crate::stores::put_entry;
 use crate::stores::shape_of;
 use faults::Found;
 use faults::counted;
 use faults::empty_tally;
+use labels::Label;
+use labels::packing::label_of;
+use labels::packing::tau;
 use table::NAMES;
 use words::literals::is_rest;
 use words::literals::sign_at;
 
-// What an entry of a list or a part of a label says: its fault, the number by which it is ordered, and a second number.
+// What an entry of a list or a part of a label says: its fault, the number by which it is ordered, as that of a label, since the number of a
+// label takes two words; and a second number.
 pub struct Said {
     pub fault: Found,
-    pub first: u64,
+    pub first: Label,
     pub second: u64,
 }
 
@@ -74,7 +77,7 @@ pub fn read_name(rest: &[u8], names: &[u64]) -> SaidStep
 
 // An entry of a list of that kind.
 fn read_entry(kind: ListKind, rest: &[u8], names: &[u64], starts: &[u8; 32]) -> SaidStep
-    requires { ⌜ (length (now names) ≤ 12) × Starting (now names) (now starts) ⌝ }
+    requires { ⌜ (length (now names) ≤ 24) × Starting (now names) (now starts) ⌝ }
     ensures { λ r. ⌜ Says (now (rest .entry)) r (entryOf (map (nameOf 8) (now (names .entry))) kind (now (rest .entry))) ⌝ }
 {
     match kind {
@@ -88,7 +91,7 @@ fn read_entry(kind: ListKind, rest: &[u8], names: &[u64], starts: &[u8; 32]) -> 
 // One entry or more, with a comma between two. Each is counted, and its words are put behind those of the entries before it. Where each
 // letter's names start is looked up once the list is long enough to be worth it.
 fn read_list(kind: ListKind, rest: &[u8], names: &[u64], store: &mut [u64]) -> SaidStep
-    requires { ⌜ length (now names) ≤ 12 ⌝ }
+    requires { ⌜ length (now names) ≤ 24 ⌝ }
     ensures { λ r. ⌜ ListRead kind (now (rest .entry)) (listOf (map (nameOf 8) (now (names .entry))) kind (now (rest .entry)))
         (now (store .entry)) (now (store .exit)) r ⌝ }
 {
@@ -116,15 +119,15 @@ fn read_list(kind: ListKind, rest: &[u8], names: &[u64], store: &mut [u64]) -> S
             shape.limit,
             rest.len() - from,
         );
-        let word = entry_word(kind, said.first, said.second);
-        put_entry(store, index, shape.size, word, said.second);
+        let key = said.first;
+        put_entry(kind, store, index, key, said.second);
         index += shape.size;
         entries += 1;
         if !sign_at(rest, next, b',') {
             let found = tally.fault;
             let list = Said {
                 fault: found,
-                first: entries,
+                first: label_of(entries),
                 second: 0,
             };
             return SaidStep::To(list, next);
@@ -155,7 +158,7 @@ pub fn read_whole(kind: ListKind, rest: &[u8], names: &[u64], store: &mut [u64])
     if is_none(kind, rest) {
         let none = Said {
             fault: Found::Fine,
-            first: 0,
+            first: tau(),
             second: 0,
         };
         return SaidStep::To(none, 4);

@@ -10,6 +10,7 @@ ghost use Rattle.lists.specs.Starts.{Starting};
 use crate::Said;
 use crate::SaidStep;
 use faults::name_fault;
+use labels::packing::label_of;
 use words::Step;
 use words::names::find_from;
 use words::names::read_word;
@@ -31,7 +32,7 @@ fn wide(place: u8) -> usize
 
 // The number of the first name with each letter; of letters that no name has, that after the last.
 pub fn starts_of(names: &[u64]) -> [u8; 32]
-    requires { ⌜ length (now names) ≤ 12 ⌝ }
+    requires { ⌜ length (now names) ≤ 24 ⌝ }
     ensures { λ r. ⌜ Starting (now (names .entry)) r ⌝ }
 {
     let mut left = names.len();
@@ -58,7 +59,7 @@ pub fn name_from(rest: &[u8], names: &[u64], starts: &[u8; 32]) -> SaidStep
     let n = find_from(names, wide(starts[letter]), w);
     let said = Said {
         fault: name_fault(n, names.len(), rest.len()),
-        first: n as u64,
+        first: label_of(n as u64),
         second: 0,
     };
     SaidStep::To(said, bytes)

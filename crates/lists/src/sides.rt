@@ -10,11 +10,12 @@ ghost use Rattle.lists.specs.Sides.{Enough, Sided};
 ghost use Rattle.lists.specs.Starts.{Starting};
 use crate::Said;
 use crate::SaidStep;
-use crate::labels::read_label;
+use crate::dotted::read_label;
 use crate::names::name_from;
 use crate::said_stuck_at;
 use faults::amount_unless;
 use faults::worse_of;
+use labels::packing::number_of;
 use words::literals::sign_at;
 
 // An entry whose left side was read: `>` and a name follow.
@@ -34,11 +35,13 @@ fn with_right(left: SaidStep, rest: &[u8], names: &[u64], starts: &[u8; 32]) -> 
         return SaidStep::Stuck(behind + said_stuck_at(right));
     };
     let fault = l.fault;
+    let first = l.first;
     let known = n.fault;
+    let name = n.first;
     let said = Said {
         fault: worse_of(fault, known),
-        first: l.first,
-        second: n.first,
+        first,
+        second: number_of(name),
     };
     SaidStep::To(said, behind + bytes)
 }
@@ -59,9 +62,10 @@ fn two_or_more(label: SaidStep, from: usize) -> SaidStep
         return label;
     };
     let fault = l.fault;
+    let first = l.first;
     let said = Said {
         fault: worse_of(fault, amount_unless(2 <= l.second, from)),
-        first: l.first,
+        first,
         second: l.second,
     };
     SaidStep::To(said, next)
@@ -69,7 +73,7 @@ fn two_or_more(label: SaidStep, from: usize) -> SaidStep
 
 // A label on the left side.
 pub fn read_rule(rest: &[u8], names: &[u64], starts: &[u8; 32]) -> SaidStep
-    requires { ⌜ (length (now names) ≤ 12) × Starting (now names) (now starts) ⌝ }
+    requires { ⌜ (length (now names) ≤ 24) × Starting (now names) (now starts) ⌝ }
     ensures { λ r. ⌜ Says (now (rest .entry)) r (seen (ruleEntry (map (nameOf 8) (now (names .entry)))) (placed rule) (now (rest .entry))) ⌝ }
 {
     let label = read_label(rest, names, starts);

@@ -11,10 +11,11 @@ use lib.ListN.{length, getD, set, take, drop, length-drop, drop-of-length-le}
 use lib.Seq.{drop-cons, length-take-le, take-all, paste, paste-suc}
 use Rattle.labels.specs.declared.Label.{Label}
 use Rattle.labels.specs.Packing.{code, packed}
+use Rattle.labels.proofs.Codes.{code-of}
 use Rattle.sets.specs.declared.Built.{Built}
 use Rattle.sets.specs.declared.Built.the-variants.{TooLarge, Holds}
 use Rattle.parts.specs.Parts.{laid, wordsOf}
-use Rattle.parts.proofs.LaidSets.{laid-nil, length-laid}
+use Rattle.parts.proofs.LaidSets.{laid-nil}
 use Rattle.sets.specs.Inserting.{present}
 use Rattle.sets.specs.Building.{Grown}
 use Rattle.merging.specs.Joining.{cutTo}
@@ -56,15 +57,9 @@ module _ (known made : List ℕ) (at space : ℕ) (ls : List ℕ) where
   logging-start h = record { words = sym (laid-nil at ls); coming = refl; count = omega arith }
 
   module _ {now : List ℕ} {len i : ℕ} (x : Logging now len i) where
-    laid-length : length (take len new) ≡ len
-    laid-length = length-take-le len new (x .count .1)
-
     laid-paste : (n : ℕ) → n ≤ length new → laid at (take n new) ls ≡ paste ls at new n
     unfolding laid
     laid-paste n h = ap (λ (k : ℕ). take at ls ++ take n new ++ drop (at + k) ls) (length-take-le n new h)
-
-    pub logging-length : length now ≡ length ls
-    logging-length = let c = x .count in ap length (x .words) ∙ length-laid at (take len new) ls (omega (arith, laid-length))
 
     -- all labels are read: those that are new are written
     pub logging-end : length made ≤ i → Logged now (Holds len)
@@ -82,7 +77,7 @@ module _ (known made : List ℕ) (at space : ℕ) (ls : List ℕ) where
     module _ (more : i < length made) {label : Label} (read : label ≡ packed (getD made i 0))
         {seen : Bool} (asked : seen ≡ present known (code label)) where
       read-next : drop i made ≡ code label ∷ drop (i + 1) made
-      read-next = rw (add-one i, read) (drop-cons made i 0 more)
+      read-next = rw (add-one i, code-of read) (drop-cons made i 0 more)
 
       -- a label that is known is passed over
       pub logging-known : not seen ≡ false → Logging now len (i + 1)

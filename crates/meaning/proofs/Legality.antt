@@ -85,9 +85,9 @@ dec-order : (n : ℕ) (o : Order) → Dec (LegalOrder n o)
 dec-order n all = yes tt
 dec-order n (only ls) = dec-labels n ls
 
-dec-counts : (d : Description) → Dec (((1 ≤ names d) × (names d ≤ 12)) × (equations d ≤ 16) × ((1 ≤ termCount d) × (termCount d ≤ 96)))
+dec-counts : (d : Description) → Dec (((1 ≤ names d) × (names d ≤ 24)) × (equations d ≤ 16) × ((1 ≤ termCount d) × (termCount d ≤ 96)))
 dec-counts d =
-    three (Dec·and (decLe 1 (names d)) (decLe (names d) 12)) (decLe (equations d) 16) (Dec·and (decLe 1 (termCount d)) (decLe (termCount d) 96))
+    three (Dec·and (decLe 1 (names d)) (decLe (names d) 24)) (decLe (equations d) 16) (Dec·and (decLe 1 (termCount d)) (decLe (termCount d) 96))
 
 unfoldable pub legal? : (d : Description) (o : Order) → Dec (Legal d o)
 unfolding three four dec-each dec-above dec-rising dec-label dec-names dec-pair dec-rule dec-labels

@@ -1,7 +1,7 @@
 -- Labels: bags of action names (docs/FORMAT.md, "Labels").
 -- A label is the list of its counts, one for each name in the order of the names' numbers; a place past its end counts 0.
 -- Assumes nothing.
-use Prim.Native.Nat.{ℕ, zero, suc, _+_, _*_, _-_, _/_, _%_, compare, Ordering, Ordering·lt, Ordering·eq, Ordering·gt}
+use Prim.Native.Nat.{ℕ, zero, suc, _+_, _*_, _-_, _/_, _%_, _^_, compare, Ordering, Ordering·lt, Ordering·eq, Ordering·gt}
 use mathlib.Core.Bool.{Bool, true, _&&_}
 use mathlib.Core.List.{List, [], _∷_}
 use lib.Dec.{leb, eqb}
@@ -23,6 +23,18 @@ size (x ∷ a) = x + size a
 unfoldable pub number : Label → ℕ
 number [] = 0
 number (x ∷ a) = x + 32 * number a
+
+-- A label's number stands in two words of 64 bits: what it leaves by 2 to the power 60 in the lower, where names 0 to 11 have five bits
+-- each, and the rest in the upper. The words of labels stand one behind the other, of each the lower first.
+abbrev pub lowerWord : ℕ → ℕ
+lowerWord n = n % 2 ^ 60
+
+abbrev pub upperWord : ℕ → ℕ
+upperWord n = n / 2 ^ 60
+
+unfoldable pub inWords : List ℕ → List ℕ
+inWords [] = []
+inWords (n ∷ ns) = lowerWord n ∷ upperWord n ∷ inWords ns
 
 -- The label over so many names that has this number.
 unfoldable pub labelOf : ℕ → ℕ → Label

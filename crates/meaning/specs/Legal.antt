@@ -73,7 +73,7 @@ LegalOrder names all = Unit {0}
 LegalOrder names (only ls) = LegalLabels names ls
 
 pub record Legal (d : Description) (o : Order) : Type 0 where
-  pub nameCount : (1 ≤ names d) × (names d ≤ 12)
+  pub nameCount : (1 ≤ names d) × (names d ≤ 24)
   pub equationCount : equations d ≤ 16
   pub termsCount : (1 ≤ termCount d) × (termCount d ≤ 96)
   pub terms : LegalTerms d 0 (d .terms)

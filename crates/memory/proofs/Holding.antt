@@ -10,7 +10,7 @@ use lib.Dec.{ltb, eqb}
 use lib.ListN.{length, getD, set}
 use Rattle.labels.specs.Bags.{bag, asMuch}
 use Rattle.rules.specs.Rules.{exchangesBefore}
-use Rattle.memory.specs.Memory.{slotOf, coversIn, reaches, holdsAt, holdsFrom, knownIn, remembered, ways}
+use Rattle.memory.specs.Memory.{slotOf, coversIn, reaches, placeAt, holdsAt, holdsFrom, knownIn, remembered, ways}
 
 -- the rules before a place, the last first
 module _ (ls : List ℕ) (a b : ℕ) where
@@ -37,7 +37,7 @@ module _ (ls : List ℕ) (a b : ℕ) where
 -- the tests of one entry
 module _ (memory ls : List ℕ) (entry before rest sum : ℕ) where
   abbrev place : ℕ
-  place = getD memory (3 * entry + 2) 0
+  place = placeAt memory entry
 
   pub too-short : length memory ≤ 3 * entry + 2 → false ≡ holdsAt memory ls entry before rest sum
   too-short h = rw (le-ltb (3 * entry + 2) (length memory) h)
@@ -46,7 +46,7 @@ module _ (memory ls : List ℕ) (entry before rest sum : ℕ) where
   another e = go (ltb (3 * entry + 2) (length memory))
     where
       go : (stands : Bool) → false ≡ (stands && (eqb (getD memory (3 * entry) 0) sum
-          && (reaches (getD memory (3 * entry + 2) 0) before && coversIn (exchangesBefore ls before) rest (getD memory (3 * entry + 1) 0))))
+          && (reaches (placeAt memory entry) before && coversIn (exchangesBefore ls before) rest (getD memory (3 * entry + 1) 0))))
       go true = rw (← e)
       go false = refl
 

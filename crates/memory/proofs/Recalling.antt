@@ -5,7 +5,8 @@ use mathlib.Core.Path.{_≡_, refl, sym, ap, subst, _∙_}
 use mathlib.Core.Logic.{inl, inr}
 use mathlib.Core.Bool.{Bool, true, false, not, _&&_, false≢true}
 use mathlib.Core.List.{List, [], _∷_}
-use Prim.Native.Nat.{ℕ, zero, suc, _+_, _-_, _*_, _/_, _%_, _≤_, _<_}
+use Prim.Native.Nat.{ℕ, zero, suc, _+_, _-_, _*_, _/_, _%_, _^_, _≤_, _<_}
+use native.Mathlib.Nat.{le-refl}
 use native.Mathlib.Decide.{ℕ-discrete}
 use native.Mathlib.Omega.{arith}
 use borrow.Author.Tests.{ltb-true, leb-true, eqb-true, eqb-false, not-true}
@@ -20,7 +21,7 @@ use Rattle.labels.proofs.Words.{as-much-counts}
 use Rattle.rules.specs.Rules.{Exchange, exchangesBefore}
 use Rattle.choices.specs.Following.{comesOf}
 use Rattle.choices.proofs.Covering.{Covers, covered}
-use Rattle.memory.specs.Memory.{slotOf, wayOf, coversIn, reaches, holdsAt, holdsFrom, knownIn, keptAt, remembered, Recalls, ways}
+use Rattle.memory.specs.Memory.{slotOf, wayOf, coversIn, reaches, placeAt, holdsAt, holdsFrom, knownIn, keptAt, remembered, Recalls, ways}
 
 first-of : (s t : Bool) → s && t ≡ true → s ≡ true
 first-of true t e = refl
@@ -46,7 +47,7 @@ module _ (all ls memory s : List ℕ) (before rest sum : ℕ) where
   -- what the tests of one entry tell
   holds→there : (entry : ℕ) → Recalls all ls memory s → (sum ≡ 0 → ⊥) → holdsAt memory ls entry before rest sum ≡ true → All
   holds→there entry x n e w m =
-      let place = getD memory (3 * entry + 2) 0 in
+      let place = placeAt memory entry in
       let kept = getD memory (3 * entry + 1) 0 in
       let covers = coversIn (exchangesBefore ls before) rest kept in
       let own = eqb (getD memory (3 * entry) 0) sum in
@@ -106,6 +107,15 @@ known→some memory ls before rest sum e =
 pub recalls-more : (all ls memory s s′ : List ℕ) → Recalls all ls memory s → ((w : ℕ) → w ∈ s → w ∈ s′) → Recalls all ls memory s′
 recalls-more all ls memory s s′ x f entry h n w m = f w (x entry h n w m)
 
+-- What comes by the rules before a place as far as a word holds it, comes by those before the place: 2 to the power 64 is even.
+fewer-come : (all ls : List ℕ) (before rest sum w : ℕ) → w ∈ comesOf all (exchangesBefore ls (before % 2 ^ 64)) rest sum
+    → w ∈ comesOf all (exchangesBefore ls before) rest sum
+fewer-come all ls before rest sum w m =
+    let d = (before - before % 2 ^ 64) / 2 in
+    let far : d + d + before % 2 ^ 64 ≡ before = omega arith in
+    subst (λ (i : ℕ). w ∈ comesOf all (exchangesBefore ls i) rest sum) far
+    (covered all ls (before % 2 ^ 64) d rest rest sum w (λ r k n h. le-refl (count (bag rest) n)) m)
+
 -- What stands in a memory with a state kept: the state at its entry, and elsewhere what stood there.
 module _ (memory : List ℕ) (entry before rest sum : ℕ) where
   pub length-kept : length (keptAt memory entry before rest sum) ≡ length memory
@@ -152,17 +162,17 @@ module _ (all ls memory s : List ℕ) (entry before rest sum : ℕ) (x : Recalls
       go : Dec (k ≡ entry) → w ∈ s
       go (yes e) =
           let b : 3 * entry + 2 < length memory = rw e at stands in
-          y w (same (getD kept (3 * k + 2) 0) (getD kept (3 * k + 1) 0) (getD kept (3 * k) 0) before rest sum
-          (ap (λ (i : ℕ). getD kept (3 * i + 2) 0) e ∙ own-place memory entry before rest sum b)
+          y w (fewer-come all ls before rest sum w (same (placeAt kept k) (getD kept (3 * k + 1) 0) (getD kept (3 * k) 0) (before % 2 ^ 64) rest sum
+          (ap (placeAt kept) e ∙ ap (λ (i : ℕ). i % 2 ^ 64) (own-place memory entry before rest sum b))
           (ap (λ (i : ℕ). getD kept (3 * i + 1) 0) e ∙ own-rest memory entry before rest sum b)
-          (ap (λ (i : ℕ). getD kept (3 * i) 0) e ∙ own-sum memory entry before rest sum b) m)
+          (ap (λ (i : ℕ). getD kept (3 * i) 0) e ∙ own-sum memory entry before rest sum b) m))
       go (no d) =
           let f : (i : ℕ) → i ≤ 2 → getD kept (3 * k + i) 0 ≡ getD memory (3 * k + i) 0 =
           λ i l. elsewhere memory entry before rest sum (3 * k + i) (λ e. d (omega arith)) (λ e. d (omega arith)) (λ e. d (omega arith)) in
           let z = elsewhere memory entry before rest sum (3 * k) (λ e. d (omega arith)) (λ e. d (omega arith)) (λ e. d (omega arith)) in
           x k stands (λ e. n (z ∙ e)) w
-          (same (getD kept (3 * k + 2) 0) (getD kept (3 * k + 1) 0) (getD kept (3 * k) 0)
-          (getD memory (3 * k + 2) 0) (getD memory (3 * k + 1) 0) (getD memory (3 * k) 0) (f 2 (omega arith)) (f 1 (omega arith)) z m)
+          (same (placeAt kept k) (getD kept (3 * k + 1) 0) (getD kept (3 * k) 0) (placeAt memory k) (getD memory (3 * k + 1) 0) (getD memory (3 * k) 0)
+          (ap (λ (i : ℕ). i % 2 ^ 64) (f 2 (omega arith))) (f 1 (omega arith)) z m)
 
 pub remembered-recalls : (all ls memory s : List ℕ) (before rest sum : ℕ) → Recalls all ls memory s
     → ((w : ℕ) → w ∈ comesOf all (exchangesBefore ls before) rest sum → w ∈ s) → Recalls all ls (remembered memory before rest sum) s

@@ -3,7 +3,7 @@
 use mathlib.Core.Path.{_≡_}
 use mathlib.Core.Bool.{Bool, true, false, not, _&&_, _||_}
 use mathlib.Core.List.{List, [], _∷_}
-use Prim.Native.Nat.{ℕ, zero, suc, _+_, _-_, _*_, _/_, _%_, _<_}
+use Prim.Native.Nat.{ℕ, zero, suc, _+_, _-_, _*_, _/_, _%_, _^_, _<_}
 use lib.Dec.{eqb, leb, ltb}
 use lib.ListN.{length, getD, set}
 use Rattle.meaning.specs.Sets.{_∈_}
@@ -30,12 +30,16 @@ coversIn (r ∷ rs) a b = asMuch (bag (r .left)) (bag a) (bag b) && coversIn rs 
 abbrev pub reaches : ℕ → ℕ → Bool
 reaches place before = leb before place && eqb ((place - before) % 2) 0
 
+-- The place that an entry's third label tells: its number, as far as a word holds it.
+abbrev pub placeAt : List ℕ → ℕ → ℕ
+placeAt memory entry = getD memory (3 * entry + 2) 0 % 2 ^ 64
+
 -- Whether what is kept at an entry covers a state: three labels stand there, the first is the state's, what the third tells was applied
 -- to it are the state's rules and maybe more, and of what these take no less was left.
 abbrev pub holdsAt : (memory ls : List ℕ) → (entry before rest sum : ℕ) → Bool
 holdsAt memory ls entry before rest sum =
     ltb (3 * entry + 2) (length memory) && (eqb (getD memory (3 * entry) 0) sum
-    && (reaches (getD memory (3 * entry + 2) 0) before && coversIn (exchangesBefore ls before) rest (getD memory (3 * entry + 1) 0)))
+    && (reaches (placeAt memory entry) before && coversIn (exchangesBefore ls before) rest (getD memory (3 * entry + 1) 0)))
 
 -- One of so many entries does, from one on. The empty label is no state's: an empty memory holds it everywhere.
 unfoldable pub holdsFrom : ℕ → (memory ls : List ℕ) → (entry before rest sum : ℕ) → Bool
@@ -56,4 +60,4 @@ remembered memory before rest sum = keptAt memory (ways * slotOf sum + wayOf res
 -- What is kept is true of a set: all that comes of a kept state is in it.
 abbrev pub Recalls : (all ls memory set : List ℕ) → Type 0
 Recalls all ls memory set = (entry : ℕ) → 3 * entry + 2 < length memory → (getD memory (3 * entry) 0 ≡ 0 → ⊥) → (w : ℕ)
-    → w ∈ comesOf all (exchangesBefore ls (getD memory (3 * entry + 2) 0)) (getD memory (3 * entry + 1) 0) (getD memory (3 * entry) 0) → w ∈ set
+    → w ∈ comesOf all (exchangesBefore ls (placeAt memory entry)) (getD memory (3 * entry + 1) 0) (getD memory (3 * entry) 0) → w ∈ set

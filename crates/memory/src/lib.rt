@@ -9,6 +9,7 @@ use labels::Label;
 use labels::bags::as_much;
 use labels::packing::label_of;
 use labels::packing::number_of;
+use labels::packing::residue;
 use labels::packing::same;
 use labels::packing::tau;
 use rules::State;
@@ -19,9 +20,9 @@ ghost use Rattle.labels.specs.Packing.{code};
 ghost use Rattle.rules.specs.Rules.{exchangesBefore};
 ghost use Rattle.memory.specs.Memory.{slotOf, wayOf, coversIn, holdsAt, holdsFrom, knownIn, remembered};
 
-// How many labels a memory takes: three for each of sixteen states with the same label, or with another that falls to the same
-// slot.
-pub const MEMORY_LABELS: usize = 12048;
+// How many words a memory takes: those of three labels for each of sixteen states with the same label, or with another that falls to the
+// same slot.
+pub const MEMORY_WORDS: usize = 24096;
 
 const SLOTS: u64 = 251;
 
@@ -31,7 +32,7 @@ const WAYS: usize = 16;
 fn slot(label: Label) -> usize
     ensures { λ r. ⌜ (r ≡ slotOf (code label)) × (r < 251) ⌝ }
 {
-    let short = number_of(label) % 1000003 + 1000;
+    let short = residue(label) + 1000;
     ((short * short % 1000003) % SLOTS) as usize
 }
 

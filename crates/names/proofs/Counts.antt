@@ -1,18 +1,35 @@
--- Counts of names in words: a digit to base 32, and a word without it.
+-- Counts of names: a digit to base 32 of one of a label's two words, and the label without it.
 -- Assumes nothing.
 use mathlib.Core.Path.{_≡_, sym, ap, _∙_}
-use mathlib.Core.List.{[], _∷_}
-use Prim.Native.Nat.{ℕ, zero, suc, _+_, _*_, _/_, _%_, _^_, _≤_, _<_, zero-le}
-use native.Mathlib.Nat.{pow-suc, pow-succ', mod-eq-of-lt, not-suc-le-zero, mul-comm, mul-assoc, mul-one, div-div-eq-div-mul, le-of-suc-le-suc, div-one}
+use mathlib.Core.List.{[], _∷_, _++_, append-nil}
+use Prim.Native.Nat.{ℕ, zero, suc, _+_, _*_, _-_, _/_, _%_, _^_, _≤_, _<_, zero-le}
+use native.Mathlib.Nat.{pow-suc, pow-succ', not-suc-le-zero, mul-comm, mul-assoc, mul-one, div-div-eq-div-mul, le-of-suc-le-suc, div-one}
 use native.Mathlib.Omega.{arith}
 use lib.Dec.{lit<}
-use lib.ListN.{length, set, length-set}
+use lib.ListN.{length, set, length-set, List·getD-append}
+use lib.Pow.{pow-add}
+use lib.Seq.{getD-append-add, set-out}
 use Rattle.meaning.specs.Labels.{Label, count, number, labelOf}
-use Rattle.meaning.proofs.Digits.{Small, labelOf-number, length-labelOf, small-labelOf}
+use Rattle.meaning.proofs.Digits.{Small, labelOf-number, length-labelOf, small-labelOf, number-labelOf}
+use Rattle.labels.specs.declared.Label as packing
+use Rattle.labels.specs.Packing.{code, packed}
 use Rattle.labels.specs.Bags.{bag}
-use Rattle.labels.proofs.Words.{number-bag, pow-mul}
+use Rattle.labels.proofs.Codes.{words-packed}
+use Rattle.labels.proofs.Words.{number-bag, pow-mul, labelOf-words}
 
--- A digit of a word, by a division and by a shift.
+-- The digits of a label are those of its two words; what stands above a lower word's twelve is passed over.
+low-word : (w : ℕ) → labelOf 12 w ≡ labelOf 12 (w % 2 ^ 60)
+unfolding labelOf
+low-word w =
+    let e : w ≡ w % 2 ^ 60 + 2 ^ 60 * (w / 2 ^ 60) = omega arith in
+    ap (labelOf 12) e ∙ labelOf-words 12 0 (w % 2 ^ 60) (w / 2 ^ 60) (omega arith) ∙ append-nil (labelOf 12 (w % 2 ^ 60))
+
+pub labelOf-code : (more : ℕ) (a : packing.Label) → labelOf (12 + more) (code a) ≡ labelOf 12 (a .lower) ++ labelOf more (a .upper)
+unfolding code
+labelOf-code more a =
+    labelOf-words 12 more (a .lower % 2 ^ 60) (a .upper) (omega arith) ∙ ap (λ (l : Label). l ++ labelOf more (a .upper)) (sym (low-word (a .lower)))
+
+-- A digit of a number, by a division and by a shift.
 count-labelOf : (names w n : ℕ) → n < names → count (labelOf names w) n ≡ w / 32 ^ n % 32
 unfolding labelOf
 count-labelOf zero w n h = absurd (not-suc-le-zero h)
@@ -21,10 +38,10 @@ count-labelOf (suc names) w (suc n) h =
     count-labelOf names (w / 32) n (le-of-suc-le-suc h)
     ∙ ap (λ (x : ℕ). x % 32) (div-div-eq-div-mul w 32 (32 ^ n) ∙ ap (λ (x : ℕ). w / x) (sym (pow-succ' 32 n)))
 
-pub word-count : (w n : ℕ) → n < 13 → count (bag w) n ≡ w / 2 ^ (5 * n) % 32
-word-count w n h = count-labelOf 13 w n h ∙ ap (λ (x : ℕ). w / x % 32) (sym (pow-mul 5 n))
+shifted : (names w n : ℕ) → n < names → count (labelOf names w) n ≡ w / 2 ^ (5 * n) % 32
+shifted names w n h = count-labelOf names w n h ∙ ap (λ (x : ℕ). w / x % 32) (sym (pow-mul 5 n))
 
--- What is left of a word without it.
+-- What is left of a number without it.
 number-cleared : (a : Label) (n : ℕ) → n < length a → number (set a n 0) + count a n * 32 ^ n ≡ number a
 unfolding number
 number-cleared [] n h = absurd (not-suc-le-zero h)
@@ -35,6 +52,77 @@ number-cleared (x ∷ a) (suc n) h =
     rw (pow-suc 32 n) (sym (mul-assoc (count a n) (32 ^ n) 32) ∙ mul-comm (count a n * 32 ^ n) 32) in
     omega arith
 
+cleared : (names w n : ℕ) → w < 32 ^ names → n < names
+    → number (set (labelOf names w) n 0) + count (labelOf names w) n * 2 ^ (5 * n) ≡ w
+cleared names w n h k = rw (pow-mul 5 n) (number-cleared (labelOf names w) n (rw (length-labelOf names w) k) ∙ number-labelOf names w h)
+
+-- A name has its digit in one of the two words.
+module _ (a : packing.Label) (n : ℕ) where
+  lower-name : n < 12 → count (bag (code a)) n ≡ count (labelOf 12 (a .lower)) n
+  lower-name h =
+      rw (labelOf-code 13 a) (List·getD-append (labelOf 12 (a .lower)) (labelOf 13 (a .upper)) 0 n (rw (length-labelOf 12 (a .lower)) h))
+
+  upper-name : 12 ≤ n → count (bag (code a)) n ≡ count (labelOf 13 (a .upper)) (n - 12)
+  upper-name h =
+      let at : length (labelOf 12 (a .lower)) + (n - 12) ≡ n = omega (arith, length-labelOf 12 (a .lower)) in
+      rw (labelOf-code 13 a) (rw at at (getD-append-add (labelOf 12 (a .lower)) (labelOf 13 (a .upper)) (n - 12) 0))
+
+  pub lower-count : n < 12 → count (bag (code a)) n ≡ a .lower / 2 ^ (5 * n) % 32
+  lower-count h = lower-name h ∙ shifted 12 (a .lower) n h
+
+  pub upper-count : 12 ≤ n → n < 25 → count (bag (code a)) n ≡ a .upper / 2 ^ (5 * (n - 12)) % 32
+  upper-count h k = upper-name h ∙ shifted 13 (a .upper) (n - 12) (omega arith)
+
+  -- The label without the name: its part of the word goes.
+  lower-part : n < 12 → count (bag (code a)) n * 2 ^ (5 * n) ≤ a .lower % 2 ^ 60
+  lower-part h =
+      let e = cleared 12 (a .lower % 2 ^ 60) n (omega arith) h in
+      let same = lower-name h ∙ ap (λ (b : Label). count b n) (low-word (a .lower)) in
+      rw same (omega arith)
+
+  upper-part : a .upper < 2 ^ 64 → 12 ≤ n → n < 25 → count (bag (code a)) n * 2 ^ (5 * (n - 12)) ≤ a .upper
+  upper-part w h k = let e = cleared 13 (a .upper) (n - 12) (omega arith) (omega arith) in rw (upper-name h) (omega arith)
+
+  upper-weight : 12 ≤ n → (x : ℕ) → x * 2 ^ (5 * n) ≡ 2 ^ 60 * (x * 2 ^ (5 * (n - 12)))
+  upper-weight h x =
+      let e : 5 * n ≡ 60 + 5 * (n - 12) = omega arith in
+      ap (λ (k : ℕ). x * k) (ap (λ (k : ℕ). 2 ^ k) e ∙ pow-add 2 60 (5 * (n - 12)))
+      ∙ sym (mul-assoc x (2 ^ 60) (2 ^ (5 * (n - 12))))
+      ∙ ap (λ (k : ℕ). k * 2 ^ (5 * (n - 12))) (mul-comm x (2 ^ 60))
+      ∙ mul-assoc (2 ^ 60) x (2 ^ (5 * (n - 12)))
+
+  module _ (w : a .upper < 2 ^ 64) (x : ℕ) (e : x ≡ count (bag (code a)) n) where
+    rest : n < 25 → number (set (bag (code a)) n 0) + x * 2 ^ (5 * n) ≡ code a
+    unfolding code
+    rest h = rw e (cleared 25 (code a) n (omega arith) h)
+
+    pub lower-share : n < 12 → (x * 2 ^ (5 * n)) % 2 ^ 64 ≤ a .lower % 2 ^ 60
+    lower-share h = rw e (omega (arith, lower-part h))
+
+    pub upper-share : 12 ≤ n → n < 25 → (x * 2 ^ (5 * (n - 12))) % 2 ^ 64 ≤ a .upper
+    upper-share h k = rw e (omega (arith, upper-part w h k))
+
+    pub lower-cleared : n < 12
+        → record { lower = a .lower % 2 ^ 60 - (x * 2 ^ (5 * n)) % 2 ^ 64; upper = a .upper } ≡ packed (number (set (bag (code a)) n 0))
+    unfolding code
+    lower-cleared h =
+        let part = rw (← e) at (lower-part h) in
+        words-packed (a .lower % 2 ^ 60 - (x * 2 ^ (5 * n)) % 2 ^ 64) (a .upper) (omega arith) (omega (arith, rest (omega arith)))
+
+    pub upper-cleared : 12 ≤ n → n < 25
+        → record { lower = a .lower % 2 ^ 60; upper = a .upper - (x * 2 ^ (5 * (n - 12))) % 2 ^ 64 } ≡ packed (number (set (bag (code a)) n 0))
+    unfolding code
+    upper-cleared h k =
+        let part = rw (← e) at (upper-part w h k) in
+        words-packed (a .lower % 2 ^ 60) (a .upper - (x * 2 ^ (5 * (n - 12))) % 2 ^ 64) (omega arith) (omega (arith, rest k, upper-weight h x))
+
+  pub none-cleared : a .upper < 2 ^ 64 → 25 ≤ n → record { lower = a .lower % 2 ^ 60; upper = a .upper } ≡ packed (number (set (bag (code a)) n 0))
+  unfolding code
+  none-cleared w h =
+      let e = set-out (bag (code a)) n 0 (rw (length-labelOf 25 (code a)) h) in
+      rw e (words-packed (a .lower % 2 ^ 60) (a .upper) (omega arith) (omega (arith, number-bag (code a) (omega arith))))
+
+-- A label that is hidden from again: its digits are those of the label.
 pub number-less : (a : Label) (n : ℕ) → number (set a n 0) ≤ number a
 unfolding number
 number-less [] n = zero-le
@@ -48,11 +136,5 @@ small-cleared (x ∷ a) (suc n) h = (h .0, small-cleared a n (h .1))
 
 pub bag-cleared : (w n : ℕ) → bag (number (set (bag w) n 0)) ≡ set (bag w) n 0
 bag-cleared w n =
-    let l : length (set (bag w) n 0) ≡ 13 = length-set (bag w) n 0 ∙ length-labelOf 13 w in
-    rw l at (labelOf-number (set (bag w) n 0) (small-cleared (bag w) n (small-labelOf 13 w)))
-
-pub word-cleared : (w n : ℕ) → w < 2 ^ 64 → n < 13 → number (set (bag w) n 0) + (count (bag w) n * 2 ^ (5 * n)) % 2 ^ 64 ≡ w
-word-cleared w n h k =
-    let e = number-cleared (bag w) n (rw (length-labelOf 13 w) k) ∙ number-bag w h in
-    let m : (count (bag w) n * 32 ^ n) % 2 ^ 64 ≡ count (bag w) n * 32 ^ n = mod-eq-of-lt (omega arith) in
-    rw (pow-mul 5 n, m) e
+    let l : length (set (bag w) n 0) ≡ 25 = length-set (bag w) n 0 ∙ length-labelOf 25 w in
+    rw l at (labelOf-number (set (bag w) n 0) (small-cleared (bag w) n (small-labelOf 25 w)))

@@ -13,10 +13,10 @@ pub record Counted (w n r : ℕ) : Type 0 where
   pub exact : r ≡ count (bag w) n
   pub small : r < 32
 
--- A map of names as the list of where each goes, from name `first` on; the 12 names under pairs.
+-- A map of names as the list of where each goes, from name `first` on; the 24 names under pairs.
 unfoldable pub tabulated : ℕ → ℕ → (ℕ → ℕ) → List ℕ
 tabulated zero first to = []
 tabulated (suc more) first to = to first ∷ tabulated more (suc first) to
 
 abbrev pub targets : List Pair → List ℕ
-targets ps = tabulated 12 0 (target ps)
+targets ps = tabulated 24 0 (target ps)

@@ -1,5 +1,6 @@
 -- The laws of operators' lists.
--- Over, over-start, over-step, over-end: rules taken two words at a time; first-few, lent-rules: the words that are lent of them
+-- Over, over-few, over-start, over-step, over-end: rules taken three words at a time; first-few, lent-rules: the labels that are lent of
+-- them
 pub mod Exchanged
 -- wayOf, wayWords: the way of an operator of a description, and its list as the way takes it; way-same, words-same: they are those that
 -- the lists of a legal description give

@@ -6,11 +6,14 @@ use crate::exchanging::first_rules;
 use exchanges::closing::close_each;
 use images::Way;
 use images::imaging::add_image;
+use labels::LABEL_WORDS;
 use ordering::in_order;
 use ordering::many_choices;
 use sets::Built;
 use slots::Operator;
 use slots::Place;
+use table::RULE_WORDS;
+use table::lists::label_words_of;
 use table::lists::rule_words_of;
 use table::lists::words_of;
 ghost use mathlib.Core.Path.{_≡_};
@@ -20,14 +23,15 @@ ghost use Rattle.ordering.specs.Ordering.{rulesFor, listFor};
 ghost use Rattle.images.specs.declared.Way.the-variants.{Comm};
 ghost use Rattle.operators.specs.Operators.{Passes, ruleList, wayFor, placeFor, wordsFor};
 
-// The rules as they are followed from some labels, in the first words of sixteen: in order where there is much to choose from, and
-// else as they stand.
-fn rules_for(labels: &[u64], list: [u64; 16], end: usize) -> [u64; 16]
+// The rules as they are followed from some labels, in room for sixteen labels of which so many are used: in order where there is much
+// to choose from, and else as they stand.
+fn rules_for(labels: &[u64], list: [u64; 32], end: usize) -> [u64; 32]
     requires { ⌜ end ≤ 16 ⌝ }
     ensures { λ r. ⌜ held r ≡ listFor (held (now (labels .entry))) end (held list) ⌝ }
 {
-    if many_choices(labels, &list[..end]) {
-        return in_order(&list[..end]);
+    let used = LABEL_WORDS * end;
+    if many_choices(labels, &list[..used]) {
+        return in_order(&list[..used]);
     }
     list
 }
@@ -38,9 +42,9 @@ fn communicate(rules: &[u64], labels: &[u64], operand: &[u64], out: &mut [u64]) 
         (held (now (operand .entry))) (held (now (out .entry))) (held (now (out .exit))) r ⌝ }
 {
     let first = first_rules(rules);
-    let end = first.len();
+    let end = first.len() / RULE_WORDS * 2;
     let list = rules_for(labels, exchanges(first), end);
-    close_each(labels, operand, &list[..end], out, 0)
+    close_each(labels, operand, &list[..LABEL_WORDS * end], out, 0)
 }
 
 // The way of an operator.
@@ -83,6 +87,14 @@ pub fn through(
     let place = list_place(operator);
     match operator {
         Operator::Comm(_) => communicate(rule_words_of(lists, place), labels, operand, out),
+        Operator::Allow(_) => add_image(
+            Way::Allow,
+            label_words_of(lists, place),
+            labels,
+            operand,
+            out,
+            0,
+        ),
         _ => add_image(
             way_of(operator),
             words_of(lists, place),

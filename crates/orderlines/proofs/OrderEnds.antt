@@ -13,6 +13,7 @@ use Rattle.meaning.specs.Bytes.{Text}
 use Rattle.meaning.specs.Labels as L
 use Rattle.meaning.specs.Descriptions as D
 use Rattle.areas.specs.Areas.{zeroed}
+use Rattle.areas.proofs.Held.{length-inWords}
 use Rattle.table.specs.Decoded.{nameOf}
 use Rattle.table.specs.Encoded.{filled, orderWords}
 use Rattle.table.proofs.Fillings.{zeroed-filled}
@@ -39,18 +40,18 @@ module _ {text : Text} {line : ℕ} {due : Walk D.Order} {before after : List �
 
 -- The line as the text's only one, by its number and the names.
 module _ (names : List ℕ) (line : ℕ) (text : Text) where
-  pub names-over : 12 < length names → halted atFirst line ≡ orderLast names line text
+  pub names-over : 24 < length names → halted atFirst line ≡ orderLast names line text
   unfolding orderLast
-  names-over h = rw (lt-leb (length names) 12 h)
+  names-over h = rw (lt-leb (length names) 24 h)
 
-  module _ (few : length names ≤ 12) where
+  module _ (few : length names ≤ 24) where
     pub line-over : 18446744073709551615 ≤ line → halted atFirst line ≡ orderLast names line text
     unfolding orderLast
-    line-over h = rw (le-leb (length names) 12 few, le-ltb line 18446744073709551615 h)
+    line-over h = rw (le-leb (length names) 24 few, le-ltb line 18446744073709551615 h)
 
     pub order-there : line < 18446744073709551615 → nothingAfter (orderFirst names line text) ≡ orderLast names line text
     unfolding orderLast
-    order-there h = rw (le-leb (length names) 12 few, lt-ltb line 18446744073709551615 h)
+    order-there h = rw (le-leb (length names) 24 few, lt-ltb line 18446744073709551615 h)
 
 module _ {text : Text} {line : ℕ} {first last : Walk D.Order} (there : nothingAfter first ≡ last) {before after : List ℕ} {r : Ordered}
     (w : OrderWalked text line first before after r) where
@@ -86,28 +87,29 @@ module _ {text : Text} {line : ℕ} {names before left : List ℕ} {r : Ordered}
   pub end-kept : {v took : ℕ} → r .progress ≡ To v took → OrderEnd text line names before left r
   end-kept e = record { walked = w; cleared = rw e tt }
 
-  pub end-cleared : {after : List ℕ} {f : F.Flaw} {l : ℕ} → length before ≤ 32 → length left ≡ length before → after ≡ zeroed 32 left
+  pub end-cleared : {after : List ℕ} {f : F.Flaw} {l : ℕ} → length before ≤ 64 → length left ≡ length before → after ≡ zeroed 64 left
       → r .progress ≡ Bad f l → OrderEnd text line names before after r
   end-cleared {after} h s z e =
       let k = rw e at (w .came) in
-      let zeros : after ≡ zeroed 32 before =
-      z ∙ zeroed-filled 32 left (omega arith) ∙ ap (λ n. filled n 0 []) s ∙ sym (zeroed-filled 32 before h) in
+      let zeros : after ≡ zeroed 64 before =
+      z ∙ zeroed-filled 64 left (omega arith) ∙ ap (λ n. filled n 0 []) s ∙ sym (zeroed-filled 64 before h) in
       record { walked = record { came = rw e (record { says = k .says; low = k .low; none = k .none }) }; cleared = rw e zeros }
 
--- An order has at most 32 labels.
+-- An order has at most 64 words: those of 32 labels.
 abbrev FewTaken : Taken D.Order → Type 0
-FewTaken (taken o rest) = length (orderWords o) ≤ 32
+FewTaken (taken o rest) = length (orderWords o) ≤ 64
 FewTaken (faulty f from) = Unit {0}
 
 abbrev FewReached : Walk D.Order → Type 0
-FewReached (reached o line rest) = length (orderWords o) ≤ 32
+FewReached (reached o line rest) = length (orderWords o) ≤ 64
 FewReached (halted f line) = Unit {0}
 
-few-said : (words : List Text) (l : OrderLine) → orderFault words l ≡ fine → length (orderWords (orderSaid words l)) ≤ 32
+few-said : (words : List Text) (l : OrderLine) → orderFault words l ≡ fine → length (orderWords (orderSaid words l)) ≤ 64
 unfolding orderFault
 few-said words all e = omega arith
 few-said words (only ls) e =
-    omega (arith, labels-few words ls e, length-map (map (λ l. labelSaid words (l .it)) ls) L.number, length-map ls (λ l. labelSaid words (l .it)))
+    let said = map (λ l. labelSaid words (l .it)) ls in
+    omega (arith, labels-few words ls e, length-inWords (map L.number said), length-map said L.number, length-map ls (λ l. labelSaid words (l .it)))
 
 few-unless : (words : List Text) (l : OrderLine) (rest : Text) (f : Found) → orderFault words l ≡ f → FewTaken (takenUnless f (orderSaid words l) rest)
 few-unless words l rest fine e = few-said words l e
@@ -130,14 +132,14 @@ few-last : (names : List ℕ) (line : ℕ) (text : Text) → FewReached (orderLa
 unfolding orderLast
 few-last names line text =
     let words = map (nameOf 8) names in
-    by-test (leb (length names) 12 && ltb line 18446744073709551615) (nothingAfter (orderFirst names line text))
+    by-test (leb (length names) 24 && ltb line 18446744073709551615) (nothingAfter (orderFirst names line text))
     (few-after line text (takeOrder words text) (few-taken words text))
   where
     by-test : (t : Bool) (w : Walk D.Order) → FewReached w → FewReached (formIf t line w)
     by-test true w h = h
     by-test false w h = tt
 
--- More words than a list has: the first 32 are lent, and the others stay.
+-- More words than a list has: the first 64 are lent, and the others stay.
 over-front : (n : ℕ) (ws before : List ℕ) → length ws ≤ n → overlaid ws (take n before) ++ drop n before ≡ overlaid ws before
 unfolding overlaid
 over-front n [] before h = take-append-drop n before
@@ -153,9 +155,9 @@ zero-front (suc n) (w ∷ ws) = ap (λ l. 0 ∷ l) (zero-front n ws)
 
 module _ (text : Text) (line : ℕ) (names before front : List ℕ) (r : Ordered) where
   abbrev whole : List ℕ
-  whole = front ++ drop 32 before
+  whole = front ++ drop 64 before
 
-  walks-front : (p : Progress) → OrderWalks text line (orderLast names line text) (take 32 before) front (r .order) p
+  walks-front : (p : Progress) → OrderWalks text line (orderLast names line text) (take 64 before) front (r .order) p
       → OrderWalks text line (orderLast names line text) before whole (r .order) p
   walks-front (To v took) w =
       record {
@@ -165,14 +167,14 @@ module _ (text : Text) (line : ℕ) (names before front : List ℕ) (r : Ordered
         within = w .within;
         kept = w .kept;
         stored =
-            ap (λ l. l ++ drop 32 before) (w .stored)
-            ∙ over-front 32 (orderWords (w .order)) before (subst FewReached (sym (w .says)) (few-last names line text));
+            ap (λ l. l ++ drop 64 before) (w .stored)
+            ∙ over-front 64 (orderWords (w .order)) before (subst FewReached (sym (w .says)) (few-last names line text));
       }
   walks-front (Bad f l) w = record { says = w .says; low = w .low; none = w .none }
 
-  zero-whole : (p : Progress) → ZeroAfter p (take 32 before) front → ZeroAfter p before whole
+  zero-whole : (p : Progress) → ZeroAfter p (take 64 before) front → ZeroAfter p before whole
   zero-whole (To v took) z = tt
-  zero-whole (Bad f l) z = ap (λ l. l ++ drop 32 before) z ∙ zero-front 32 before
+  zero-whole (Bad f l) z = ap (λ l. l ++ drop 64 before) z ∙ zero-front 64 before
 
-  pub end-front : OrderEnd text line names (take 32 before) front r → OrderEnd text line names before whole r
+  pub end-front : OrderEnd text line names (take 64 before) front r → OrderEnd text line names before whole r
   end-front e = record { walked = record { came = walks-front (r .progress) (e .walked .came) }; cleared = zero-whole (r .progress) (e .cleared) }

@@ -3,7 +3,7 @@
 use mathlib.Core.Path.{_≡_, refl, sym, ap, subst, _∙_}
 use mathlib.Core.Bool.{Bool, true, false}
 use mathlib.Core.List.{List, map}
-use Prim.Native.Nat.{ℕ, _+_, _≤_}
+use Prim.Native.Nat.{ℕ, _+_, _%_, _^_, _≤_, _<_}
 use native.Mathlib.Omega.{arith}
 use lib.ListN.{length, drop, length-drop, length-map}
 use lib.Seq.{drop-drop}
@@ -15,7 +15,9 @@ use Rattle.grammar.specs.Faults.{orderFault, labelSaid}
 use Rattle.grammar.proofs.Onwards.{rest→}
 use Rattle.faults.specs.declared.Found.the-variants.{Fine}
 use Rattle.words.proofs.Rests.{sign-within}
+use Rattle.labels.specs.Packing.{code}
 use Rattle.words.specs.Steps.{Stands}
+use Rattle.words.proofs.Several.{labels-several}
 use Rattle.words.proofs.Steps.{stops, goes, no-sign, past-sign, arrived, shifted, back-stuck, back-past}
 use Rattle.lists.specs.Tallies.{Said}
 use Rattle.lists.specs.Entries.{saidOf, labelEntry}
@@ -64,15 +66,19 @@ module _ (words : List Text) (text : Text) (at : ℕ) (i : at ≤ length text) {
     pub labels-on : starts lf (drop (at + n) text) ≡ false → Stands text (at + n) (stuck (drop (at + n) text)) (onlyThese (drop at text))
     labels-on f = let l = went in goes after-labels (l .1) (no-sign lf text (at + n) (λ _ p. past (only (l .0)) p) f (l .1 .within))
 
-    pub labels-taken : starts lf (drop (at + n) text) ≡ true
-        → OrderTaken words text (onlyThese (drop at text)) before after (Only (record { at = 0; entries = e .first })) (e .fault) (at + n + 1)
+    -- (there are no more labels than bytes, and one)
+    pub labels-taken : {entries : ℕ} → length text + 1 < 2 ^ 64 → entries ≡ code (e .first) % 2 ^ 64 → starts lf (drop (at + n) text) ≡ true
+        → OrderTaken words text (onlyThese (drop at text)) before after (Only (record { at = 0; entries = entries })) (e .fault) (at + n + 1)
     unfolding orderFault
-    labels-taken f =
+    labels-taken {entries} wide q f =
         let l = went in
         let w = sign-within lf text (at + n) f in
         let end = past-sign lf text (at + n) (λ _ p. past (only (l .0)) p) f (arrived {at = at + n + 1} (only (l .0)) (omega arith)) in
         let whole = goes after-labels (l .1) end in
-        let counted = ap (λ s. s .first) (l .2) ∙ length-map (l .0) (labelEntry words) ∙ sym (length-map (l .0) (λ l. labelSaid words (l .it))) in
+        let few = labels-several (drop at text) .holds (l .0) _ (sym (l .1 .says)) in
+        let said = map (λ l. labelSaid words (l .it)) (l .0) in
+        let counted : entries ≡ length said =
+        omega (arith, ap (λ s. s .first) (l .2), length-map (l .0) (labelEntry words), length-map (l .0) (λ l. labelSaid words (l .it)), length-drop at text) in
         record {
           line = only (l .0);
           says = whole .says;

@@ -59,7 +59,7 @@ nothingAfter (reached a line []) = reached a line []
 nothingAfter (reached a line (b ∷ s)) = halted atFirst line
 nothingAfter (halted f line) = halted f line
 
--- The order's line as a text's first, and as its only one. Over twelve names, and a line after which no line has a number, are a fault
+-- The order's line as a text's first, and as its only one. Over twenty-four names, and a line after which no line has a number, are a fault
 -- of form at the line's first byte.
 abbrev pub orderFirst : List ℕ → ℕ → Text → Walk D.Order
 orderFirst names line text = oneLine (takeOrder (map (nameOf 8) names)) line text
@@ -69,7 +69,7 @@ formIf true line w = w
 formIf false line w = halted atFirst line
 
 unfoldable pub orderLast : List ℕ → ℕ → Text → Walk D.Order
-orderLast names line text = formIf (leb (length names) 12 && ltb line 18446744073709551615) line (nothingAfter (orderFirst names line text))
+orderLast names line text = formIf (leb (length names) 24 && ltb line 18446744073709551615) line (nothingAfter (orderFirst names line text))
 
 -- The order, its labels over the start of the words that are lent.
 pub record OrderTo (text : Text) (line : ℕ) (due : Walk D.Order) (before after : List ℕ) (x : Order) (v took : ℕ) : Type 0 where
@@ -93,10 +93,10 @@ OrderWalks text line due before after x (Bad f l) = OrderBad line due x (flawOf 
 pub record OrderWalked (text : Text) (line : ℕ) (due : Walk D.Order) (before after : List ℕ) (r : Ordered) : Type 0 where
   pub came : OrderWalks text line due before after (r .order) (r .progress)
 
--- All words that are lent: after a bad line the first 32 are 0, and the others are as they were.
+-- All words that are lent: after a bad line the first 64 are 0, and the others are as they were.
 abbrev pub ZeroAfter : Progress → (before after : List ℕ) → Type 0
 ZeroAfter (To v took) before after = Unit {0}
-ZeroAfter (Bad f l) before after = after ≡ zeroed 32 before
+ZeroAfter (Bad f l) before after = after ≡ zeroed 64 before
 
 pub record OrderEnd (text : Text) (line : ℕ) (names before after : List ℕ) (r : Ordered) : Type 0 where
   pub walked : OrderWalked text line (orderLast names line text) before after r

@@ -14,6 +14,7 @@ use faults::first_flaw;
 use faults::flaw_after;
 use faults::flaw_in;
 use keyed::Progress;
+use labels::packing::number_of;
 use lists::ListKind;
 use lists::SaidStep;
 use lists::read_whole;
@@ -64,7 +65,7 @@ fn refused(flaw: Flaw, line: usize) -> Ordered
 
 // What follows the key where it is not `all`.
 fn read_labels(text: &[u8], at: usize, names: &[u64], listed: &mut [u64]) -> OrderStep
-    requires { ⌜ (at ≤ length (now text)) × (length (now names) ≤ 12) ⌝ }
+    requires { ⌜ (at ≤ length (now text)) × (length (now names) ≤ 24) ⌝ }
     ensures { λ r. ⌜ OrderRead (map (nameOf 8) (now (names .entry))) (now (text .entry))
         (onlyThese (drop at (now (text .entry)))) (now (listed .entry)) (now (listed .exit)) r ⌝ }
 {
@@ -76,16 +77,17 @@ fn read_labels(text: &[u8], at: usize, names: &[u64], listed: &mut [u64]) -> Ord
     if !sign_at(text, next, b'\n') {
         return OrderStep::Stuck(next);
     }
+    let entries = said.first;
     let place = Place {
         at: 0,
-        entries: said.first as usize,
+        entries: number_of(entries) as usize,
     };
     let fault = said.fault;
     OrderStep::To(Order::Only(place), fault, next + 1)
 }
 
 fn read_order(text: &[u8], names: &[u64], listed: &mut [u64]) -> OrderStep
-    requires { ⌜ length (now names) ≤ 12 ⌝ }
+    requires { ⌜ length (now names) ≤ 24 ⌝ }
     ensures { λ r. ⌜ OrderRead (map (nameOf 8) (now (names .entry))) (now (text .entry))
         (orderLine (now (text .entry))) (now (listed .entry)) (now (listed .exit)) r ⌝ }
 {
@@ -101,7 +103,7 @@ fn read_order(text: &[u8], names: &[u64], listed: &mut [u64]) -> OrderStep
 
 // The text's first line.
 fn first_line(text: &[u8], line: usize, names: &[u64], listed: &mut [u64]) -> Ordered
-    requires { ⌜ length (now names) ≤ 12 ⌝ }
+    requires { ⌜ length (now names) ≤ 24 ⌝ }
     ensures { λ r. ⌜ OrderWalked (now (text .entry)) line (orderFirst (now (names .entry)) line (now (text .entry)))
         (now (listed .entry)) (now (listed .exit)) r ⌝ }
 {
@@ -142,7 +144,7 @@ fn only_line(text: &[u8], line: usize, names: &[u64], listed: &mut [u64]) -> Ord
 
 // The same, with words of 0 after a bad line.
 fn take_end(text: &[u8], line: usize, names: &[u64], listed: &mut [u64]) -> Ordered
-    requires { ⌜ length (now listed) ≤ 32 ⌝ }
+    requires { ⌜ length (now listed) ≤ 64 ⌝ }
     ensures { λ r. ⌜ OrderEnd (now (text .entry)) line (now (names .entry)) (now (listed .entry)) (now (listed .exit)) r ⌝ }
 {
     let last = only_line(text, line, names, listed);
@@ -155,7 +157,7 @@ fn take_end(text: &[u8], line: usize, names: &[u64], listed: &mut [u64]) -> Orde
 }
 
 // An order that is all of its text, with the number of its line: its labels go to the start of the words that are lent. After a bad line
-// the first 32 of these are 0. The others stay as they were, whatever the line is.
+// the first 64 of these are 0. The others stay as they were, whatever the line is.
 pub fn take_order(text: &[u8], line: usize, names: &[u64], listed: &mut [u64]) -> Ordered
     ensures { λ r. ⌜ OrderEnd (now (text .entry)) line (now (names .entry)) (now (listed .entry)) (now (listed .exit)) r ⌝ }
 {

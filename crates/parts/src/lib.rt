@@ -5,6 +5,9 @@ pub mod placing;
 // How many labels a set may have.
 pub const MOST_LABELS: usize = 1024;
 
+// The words of as many labels.
+pub const MOST_WORDS: usize = 2048;
+
 // The labels of the slice from a place up to another.
 pub struct Part {
     pub from: usize,

@@ -1,4 +1,4 @@
--- For callers: what is printed over the twelve packed names and the packed labels is what is printed over a description's own
+-- For callers: what is printed over the packed names and the packed labels is what is printed over a description's own
 -- words and labels. A name that is not there has count 0 and prints nothing.
 -- Assumes nothing.
 use mathlib.Core.Path.{_≡_, refl, sym, ap, ap₂, _∙_, _≡⟨_⟩_, _∎}
@@ -72,15 +72,15 @@ same-parts (suc k) (w ∷ ws) (x ∷ a) h e f =
     ap₂ (λ (n : Text) (b : Label). partTexts (n ∷ names) b) (unpacked 8 w (e .0 .0) (e .0 .1)) (ap₂ {C = Label} _∷_ low (ap (labelOf k) high))
     ∙ same-part w x names ws (labelOf k (number a)) a (same-parts k ws a (le-of-suc-le-suc h) (e .1) (suc-inj (f .0), f .1 .1))
 
-module _ (ws : List Text) (few : length ws ≤ 12) (words : Each Bytes ws) where
+module _ (ws : List Text) (few : length ws ≤ 24) (words : Each Bytes ws) where
   same-lines : (labels : List Label) → Each (Fits ws) labels →
-      labelLines (nameTexts (filled 12 0 (map wordOf ws))) (map countsOf (map number labels)) ≡ labelLines ws labels
+      labelLines (nameTexts (filled 24 0 (map wordOf ws))) (map countsOf (map number labels)) ≡ labelLines ws labels
   unfolding labelLines printedLabel
   same-lines [] f = refl
   same-lines (a ∷ labels) f =
-      ap₂ (λ (ts : List Text) (t : Text). line (ascii "label=") (orTau (joinedBy dot ts)) ++ t) (same-parts 12 ws a few words (f .0)) (same-lines labels (f .1))
+      ap₂ (λ (ts : List Text) (t : Text). line (ascii "label=") (orTau (joinedBy dot ts)) ++ t) (same-parts 24 ws a few words (f .0)) (same-lines labels (f .1))
 
   pub same-answer : (rounds : ℕ) (labels : List Label) → Each (Fits ws) labels →
-      answerText (nameTexts (filled 12 0 (map wordOf ws))) rounds (map countsOf (map number labels)) ≡ answerText ws rounds labels
+      answerText (nameTexts (filled 24 0 (map wordOf ws))) rounds (map countsOf (map number labels)) ≡ answerText ws rounds labels
   unfolding answerText
   same-answer rounds labels f = rw (length-map, length-map, same-lines labels f)

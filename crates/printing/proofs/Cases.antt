@@ -12,6 +12,6 @@ use Rattle.table.specs.Decoded.{nameOf}
 use Rattle.table.specs.Encoded.{filled, wordOf}
 use Rattle.label_texts.specs.Packed.{nameTexts, countsOf}
 
-pub packed-listing : answerText (nameTexts (filled 12 0 (map wordOf names))) 2 (map countsOf (1 ∷ 2 ∷ 32 ∷ [])) ≡ text listing
+pub packed-listing : answerText (nameTexts (filled 24 0 (map wordOf names))) 2 (map countsOf (1 ∷ 2 ∷ 32 ∷ [])) ≡ text listing
 unfolding answerText labelLines printedLabel partTexts joinedBy followed digits labelOf nameOf filled wordOf
 packed-listing = refl

@@ -37,8 +37,8 @@ length-lines names labels i h =
     let rest = linesFrom names labels (i + 1) in
     rw (lines-step names labels i h, length-append (line (ascii "label=") value) rest, length-line (ascii "label=") value) (omega arith)
 
--- no line is longer than 151 bytes
-pub lines-short : (names labels : List ℕ) → length (labelLines (nameTexts names) (map countsOf labels)) ≤ 151 * length labels
+-- no line is longer than 295 bytes
+pub lines-short : (names labels : List ℕ) → length (labelLines (nameTexts names) (map countsOf labels)) ≤ 295 * length labels
 unfolding labelLines
 lines-short names [] = zero-le
 lines-short names (l ∷ labels) =

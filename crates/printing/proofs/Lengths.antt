@@ -12,6 +12,6 @@ use Rattle.printing.proofs.LabelLines.{lines-short}
 use Rattle.printing.proofs.Answers.{length-answer-head, length-joined}
 
 pub length-answer : (names : List ℕ) (rounds : ℕ) (labels : List ℕ) →
-    length (answerText (nameTexts names) rounds (map countsOf labels)) ≤ 80 + 151 * length labels
+    length (answerText (nameTexts names) rounds (map countsOf labels)) ≤ 80 + 295 * length labels
 length-answer names rounds labels =
     omega (arith, length-joined names rounds labels, length-answer-head rounds (length labels), lines-short names labels)

@@ -4,6 +4,7 @@
 // into the rest of the area behind the lines before it.
 mod lines;
 
+use areas::rows::labels_in;
 use lines::LONGEST_LINE;
 use lines::label_lines_fit;
 use lines::write_head;
@@ -15,6 +16,7 @@ ghost use mathlib.Core.List.{map};
 ghost use Prim.Native.Nat.{_≤_};
 ghost use lib.Dec.{leb};
 ghost use lib.ListN.{length};
+ghost use Rattle.areas.specs.Rows.{held};
 ghost use Rattle.grammar.specs.Printed.{answerText, refusedText};
 ghost use Rattle.grammar.specs.Areas.{Written, Printed};
 ghost use Rattle.label_texts.specs.Packed.{nameTexts, countsOf};
@@ -32,13 +34,14 @@ fn write_answer_head(text: &mut [u8], rounds: usize, count: usize) -> usize
 
 // Where the longest answer would fit, no length is worked out. Else the labels are held to what the head leaves.
 fn answer_fits(names: [u64; NAMES], rounds: usize, labels: &[u64], room: usize) -> bool
-    ensures { λ r. ⌜ r ≡ leb (length (answerText (nameTexts names) rounds (map countsOf (now (labels .entry))))) room ⌝ }
+    ensures { λ r. ⌜ r ≡ leb (length (answerText (nameTexts names) rounds (map countsOf (held (now (labels .entry)))))) room ⌝ }
 {
-    if LONGEST_HEAD <= room && labels.len() <= (room - LONGEST_HEAD) / LONGEST_LINE {
+    let count = labels_in(labels);
+    if LONGEST_HEAD <= room && count <= (room - LONGEST_HEAD) / LONGEST_LINE {
         return true;
     }
     let mut scratch = [0u8; LONGEST_HEAD];
-    let size = write_answer_head(&mut scratch, rounds, labels.len());
+    let size = write_answer_head(&mut scratch, rounds, count);
     if room < size {
         return false;
     }
@@ -48,10 +51,10 @@ fn answer_fits(names: [u64; NAMES], rounds: usize, labels: &[u64], room: usize) 
 
 // The text of an answer: its length is returned, or 0 where the area is too short for it.
 pub fn write_answer(text: &mut [u8], names: [u64; NAMES], rounds: usize, labels: &[u64]) -> usize
-    ensures { λ r. ⌜ Printed (answerText (nameTexts names) rounds (map countsOf (now (labels .entry)))) (now (text .entry)) (now (text .exit)) r ⌝ }
+    ensures { λ r. ⌜ Printed (answerText (nameTexts names) rounds (map countsOf (held (now (labels .entry))))) (now (text .entry)) (now (text .exit)) r ⌝ }
 {
     if answer_fits(names, rounds, labels, text.len()) {
-        let at = write_answer_head(text, rounds, labels.len());
+        let at = write_answer_head(text, rounds, labels_in(labels));
         return at + write_label_lines(&mut text[at..], names, labels);
     }
     0

@@ -1,6 +1,9 @@
 // The lines of a text: what was answered and two counts, then a line for each label.
+use areas::rows::labels_in;
+use areas::rows::read_label;
 use label_texts::label_length;
 use label_texts::write_label;
+use labels::Label;
 use numerals::lines::write_count_line;
 use table::NAMES;
 ghost use mathlib.Core.Path.{_≡_};
@@ -9,6 +12,8 @@ ghost use Prim.Native.Nat.{_≤_};
 ghost use lib.Dec.{leb};
 ghost use lib.ListN.{length};
 ghost use Rattle.meaning.specs.Bytes.{ascii};
+ghost use Rattle.areas.specs.Rows.{held};
+ghost use Rattle.labels.specs.Packing.{code};
 ghost use Rattle.grammar.specs.Printed.{line, printedLabel, labelLines};
 ghost use Rattle.grammar.specs.Areas.{Written};
 ghost use Rattle.label_texts.specs.Packed.{nameTexts, countsOf};
@@ -31,9 +36,9 @@ pub(crate) fn write_head(
     second + write_count_line(&mut text[second..], next_key, m)
 }
 
-fn write_label_line(text: &mut [u8], names: [u64; NAMES], label: u64) -> usize
-    requires { ⌜ length (line (ascii "label=") (printedLabel (nameTexts names) (countsOf label))) ≤ length (now text) ⌝ }
-    ensures { λ r. ⌜ Written (line (ascii "label=") (printedLabel (nameTexts names) (countsOf label))) (now (text .entry)) (now (text .exit)) r ⌝ }
+fn write_label_line(text: &mut [u8], names: [u64; NAMES], label: Label) -> usize
+    requires { ⌜ length (line (ascii "label=") (printedLabel (nameTexts names) (countsOf (code label)))) ≤ length (now text) ⌝ }
+    ensures { λ r. ⌜ Written (line (ascii "label=") (printedLabel (nameTexts names) (countsOf (code label)))) (now (text .entry)) (now (text .exit)) r ⌝ }
 {
     let at = bytes::copy(b"label=", text);
     let end = at + write_label(&mut text[at..], names, label);
@@ -42,13 +47,15 @@ fn write_label_line(text: &mut [u8], names: [u64; NAMES], label: u64) -> usize
 }
 
 pub(crate) fn write_label_lines(text: &mut [u8], names: [u64; NAMES], labels: &[u64]) -> usize
-    requires { ⌜ length (labelLines (nameTexts names) (map countsOf (now labels))) ≤ length (now text) ⌝ }
-    ensures { λ r. ⌜ Written (labelLines (nameTexts names) (map countsOf (now (labels .entry)))) (now (text .entry)) (now (text .exit)) r ⌝ }
+    requires { ⌜ length (labelLines (nameTexts names) (map countsOf (held (now labels)))) ≤ length (now text) ⌝ }
+    ensures { λ r. ⌜ Written (labelLines (nameTexts names) (map countsOf (held (now (labels .entry))))) (now (text .entry)) (now (text .exit)) r ⌝ }
 {
+    let end = labels_in(labels);
     let mut at = 0;
     let mut i = 0;
-    while i < labels.len() {
-        at += write_label_line(&mut text[at..], names, labels[i]);
+    while i < end {
+        let label = read_label(labels, i);
+        at += write_label_line(&mut text[at..], names, label);
         i += 1;
     }
     at
@@ -58,20 +65,21 @@ pub(crate) fn write_label_lines(text: &mut [u8], names: [u64; NAMES], labels: &[
 const AROUND_A_LABEL: usize = 7;
 
 // A label of the longest, with the bytes around it.
-pub(crate) const LONGEST_LINE: usize = 151;
+pub(crate) const LONGEST_LINE: usize = 295;
 
 // Where the longest lines would fit, no length is worked out. Else the room goes down line by line: the lengths of all lines
 // together could pass a word.
 pub(crate) fn label_lines_fit(names: [u64; NAMES], labels: &[u64], room: usize) -> bool
-    ensures { λ r. ⌜ r ≡ leb (length (labelLines (nameTexts names) (map countsOf (now (labels .entry))))) room ⌝ }
+    ensures { λ r. ⌜ r ≡ leb (length (labelLines (nameTexts names) (map countsOf (held (now (labels .entry)))))) room ⌝ }
 {
-    if labels.len() <= room / LONGEST_LINE {
+    let end = labels_in(labels);
+    if end <= room / LONGEST_LINE {
         return true;
     }
     let mut left = room;
     let mut i = 0;
-    while i < labels.len() {
-        let size = label_length(names, labels[i]) + AROUND_A_LABEL;
+    while i < end {
+        let size = label_length(names, read_label(labels, i)) + AROUND_A_LABEL;
         if left < size {
             return false;
         }

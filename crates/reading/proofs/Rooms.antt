@@ -78,17 +78,17 @@ few-head text =
     (λ words line s. ends-walk Few (oneLine (takeNumber (ascii "equations=") equationsInRange form) line s) (λ e line s. headTerms words e line s)
     (few-terms words)))
 
-pub never-crowded : (text : Text) (room : ℕ) → 3072 ≤ room → linesIn room text ≡ comes (described (wholeText text))
+pub never-crowded : (text : Text) (room : ℕ) → 6144 ≤ room → linesIn room text ≡ comes (described (wholeText text))
 unfolding linesIn
 never-crowded text room h = by-head (headText text) (few-head text)
   where
     by-head : (w : Walk Heading) → Ends Few w → unlessCrowded room w (described (wholeText text)) ≡ comes (described (wholeText text))
-    by-head (reached x line s) f = rw (le-leb (32 * x .terms) room (omega arith))
+    by-head (reached x line s) f = rw (le-leb (64 * x .terms) room (omega arith))
     by-head (halted x line) f = refl
 
-pub read-in-full : (text : Text) (table lists listed : ℕ) → 128 ≤ table → 3072 ≤ lists → 32 ≤ listed → readIn text table lists listed ≡ comes (readText text)
+pub read-in-full : (text : Text) (table lists listed : ℕ) → 140 ≤ table → 6144 ≤ lists → 64 ≤ listed → readIn text table lists listed ≡ comes (readText text)
 unfolding readIn readText
-read-in-full text table lists listed h k l = rw (le-ltb table 128 h, le-ltb listed 32 l, never-crowded text lists k) (by-length (ltb 8192 (length text)))
+read-in-full text table lists listed h k l = rw (le-ltb table 140 h, le-ltb listed 64 l, never-crowded text lists k) (by-length (ltb 8192 (length text)))
   where
     by-length : (b : Bool) → pick (b || false || false) (comes overlong) (comes (described (wholeText text)))
         ≡ comes (elim b [ true ↦ overlong | false ↦ described (wholeText text) ])
@@ -142,23 +142,23 @@ module _ (t : ℕ) where
   termed-read (halted f line) q e = let z : _≡_ {A = ℕ} 0 1 = cc in absurd (omega arith)
 
 pub lists-fit : (text : Text) (room : ℕ) {d : D.Description} {o : D.Order} → linesIn room text ≡ comes (read d o)
-    → (described (wholeText text) ≡ read d o) × (32 * D.termCount d ≤ room)
+    → (described (wholeText text) ≡ read d o) × (64 * D.termCount d ≤ room)
 unfolding linesIn
 lists-fit text room {d} {o} e = by-head (headText text) refl e
   where
-    by-room : (b : Bool) (h : Heading) (line : ℕ) (s : Text) → reached h line s ≡ headText text → leb (32 * h .terms) room ≡ b
-        → pick b (comes (described (wholeText text))) crowded ≡ comes (read d o) → (described (wholeText text) ≡ read d o) × (32 * D.termCount d ≤ room)
+    by-room : (b : Bool) (h : Heading) (line : ℕ) (s : Text) → reached h line s ≡ headText text → leb (64 * h .terms) room ≡ b
+        → pick b (comes (described (wholeText text))) crowded ≡ comes (read d o) → (described (wholeText text) ≡ read d o) × (64 * D.termCount d ≤ room)
     by-room true h line s q l e =
         let k : described (wholeText text) ≡ read d o = cc in
         let w = fromTerms (h .words) (h .equations) (h .terms) line s in
         let all = termed-all (h .terms) (h .words) (h .equations) line s in
         let n = termed-read (h .terms) w all (ends-on onTerms q ∙ ap described (head-joins text) ∙ k) in
-        (k, omega (arith, leb-true (32 * h .terms) room l))
+        (k, omega (arith, leb-true (64 * h .terms) room l))
     by-room false h line s q l e = let z : _≡_ {A = ℕ} 0 1 = cc in absurd (omega arith)
 
     by-head : (w : Walk Heading) → w ≡ headText text → unlessCrowded room w (described (wholeText text)) ≡ comes (read d o)
-        → (described (wholeText text) ≡ read d o) × (32 * D.termCount d ≤ room)
-    by-head (reached h line s) q e = by-room (leb (32 * h .terms) room) h line s q refl e
+        → (described (wholeText text) ≡ read d o) × (64 * D.termCount d ≤ room)
+    by-head (reached h line s) q e = by-room (leb (64 * h .terms) room) h line s q refl e
     by-head (halted f line) q e =
         let k : described (wholeText text) ≡ read d o = cc in
         let m = ends-bad onTerms q ∙ ap described (head-joins text) ∙ k in
@@ -179,7 +179,7 @@ read-holds {text} {table} {lists} {listed} {table′} {lists′} {listed′} {r}
     by-test false q k =
         let room = rooms (length text) (length table) (length listed) q in
         let fit = lists-fit text (length lists) k in
-        let short = or-false→ (ltb 8192 (length text)) (ltb (length table) 128) (or-false→ _ (ltb (length listed) 32) q .0) .0 in
+        let short = or-false→ (ltb 8192 (length text)) (ltb (length table) 140) (or-false→ _ (ltb (length listed) 64) q .0) .0 in
         let legal = accepted→ text d o (rw (short, readText) (fit .0)) .1 in
         let t : table′ ≡ tableAfter d table = stored .tabled ∙ ap (λ x. tableFor x table) e in
         let l : lists′ ≡ listsOver 0 (d .terms) lists = stored .listing ∙ ap (λ x. listsFor x lists) e in

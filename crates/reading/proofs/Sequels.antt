@@ -41,7 +41,7 @@ end-told words ts equations due table listed table′ listed′ r (badLine f lin
 
 -- The terms, and the lines after them. The code has the number of names and of equations from the words that the table lends.
 module _ {text : Text} {count : ℕ} {table lists table′ lists′ names bodies : List ℕ} {p : Progress} (n : names ≡ namesIn table) (b : bodies ≡ bodiesIn table)
-    (room : (count ≤ 96) × (128 ≤ length table) × (32 * count ≤ length lists))
+    (room : (count ≤ 96) × (140 ≤ length table) × (64 * count ≤ length lists))
     (g : TermsGiven text (4 + length names) (length bodies) count table lists table′ lists′ p) where
   w : TermsRead text (4 + length (namesIn table)) (length (bodiesIn table)) count table lists table′ lists′ p
   w = (rw (n, b) at g) .roomy (omega (arith, names-few table), room .0, room .1, room .2)
@@ -55,7 +55,7 @@ module _ {text : Text} {count : ℕ} {table lists table′ lists′ names bodies
     tabled = w .tabled;
     listing = w .listing;
     result = λ words s. rw e (bad-result f (ends-bad _ (rw e at (w .came words s))) refl);
-    left = λ words s. rw (← ends-bad _ (rw e at (w .came words s))) (within-same 32 listed);
+    left = λ words s. rw (← ends-bad _ (rw e at (w .came words s))) (within-same 64 listed);
   }
 
   module _ (listed : List ℕ) {r : Ordered} {v took : ℕ} (e : p ≡ To v took) {rest : Text} (t : rest ≡ drop took text) {table″ listed′ : List ℕ}
@@ -101,20 +101,20 @@ module _ {text : Text} {count : ℕ} {table lists table′ lists′ names bodies
         }
 
 -- The lines before the terms, and those from the terms on.
-module _ {text : Text} {table table′ : List ℕ} {p : Progress} (long : 128 ≤ length table) (g : HeadGiven text table table′ p) (lists listed : List ℕ) where
+module _ {text : Text} {table table′ : List ℕ} {p : Progress} (long : 140 ≤ length table) (g : HeadGiven text table table′ p) (lists listed : List ℕ) where
   pub head-refused : {r : Read} {f : Flaw} {line : ℕ} → p ≡ Bad f line → r ≡ readOf (record { progress = p; order = All })
       → LinesRead text table lists listed table′ lists listed r
   head-refused {f = f} e q =
       let k = lines-halt text (length lists) (rw e at (g .roomy long .came)) in
       record {
         tabled = g .roomy long .tabled;
-        listing = within-same 3072 lists;
+        listing = within-same 6144 lists;
         result = bad-result f refl (rw e at q) ∙ ap readFor k;
-        left = rw (← k) (within-same 32 listed);
+        left = rw (← k) (within-same 64 listed);
       }
 
-module _ {text : Text} {table table′ : List ℕ} {v took : ℕ} (long : 128 ≤ length table) (tabled : Within 128 table table′)
-    (head : Section text (headText text) (λ h. 4 + length (h .words)) (HeadLeft table table′) v took) (lists listed : List ℕ) (room : 32 * v ≤ length lists)
+module _ {text : Text} {table table′ : List ℕ} {v took : ℕ} (long : 140 ≤ length table) (tabled : Within 140 table table′)
+    (head : Section text (headText text) (λ h. 4 + length (h .words)) (HeadLeft table table′) v took) (lists listed : List ℕ) (room : 64 * v ≤ length lists)
     {table″ lists′ listed′ : List ℕ} {last : Ordered} (b : TermsDue (drop took text) v table′ lists listed table″ lists′ listed′ last) {r : Read}
     (told : r ≡ readOf last) where
   with-counts : (words : List Text) (equations count : ℕ) (x : Reading) → TermsLeft words equations count x table′ lists listed table″ lists′ listed′
@@ -145,7 +145,7 @@ module _ {text : Text} {table table′ : List ℕ} {v took : ℕ} (long : 128 �
             (rw (q, m, l .returned) at (b .left (h .words) words)) (l .laid));
       }
 
-module _ {text : Text} {table table′ : List ℕ} {p : Progress} (long : 128 ≤ length table) (g : HeadGiven text table table′ p) {v took : ℕ} (e : p ≡ To v took)
+module _ {text : Text} {table table′ : List ℕ} {p : Progress} (long : 140 ≤ length table) (g : HeadGiven text table table′ p) {v took : ℕ} (e : p ≡ To v took)
   where
     head : Section text (headText text) (λ h. 4 + length (h .words)) (HeadLeft table table′) v took
     head = rw e at (g .roomy long .came)
@@ -156,21 +156,21 @@ module _ {text : Text} {table table′ : List ℕ} {p : Progress} (long : 128 �
     pub head-few : v ≤ 96
     head-few = omega (arith, head .left .returned, head .left .counted)
 
-    pub head-long : 128 ≤ length table′
+    pub head-long : 140 ≤ length table′
     head-long = omega (arith, g .roomy long .tabled .long)
 
-    pub head-crowded : (lists listed : List ℕ) {r : Read} → length lists < 32 * v → r ≡ refusing NoRoom
+    pub head-crowded : (lists listed : List ℕ) {r : Read} → length lists < 64 * v → r ≡ refusing NoRoom
         → LinesRead text table lists listed table′ lists listed r
     head-crowded lists listed h q =
         let k = lines-crowd text (length lists) (head .says) (omega (arith, head .left .returned)) in
         record {
           tabled = g .roomy long .tabled;
-          listing = within-same 3072 lists;
+          listing = within-same 6144 lists;
           result = q ∙ ap readFor k;
-          left = rw (← k) (within-same 32 listed);
+          left = rw (← k) (within-same 64 listed);
         }
 
-    pub head-read : (lists listed : List ℕ) → 32 * v ≤ length lists → {rest : Text} → rest ≡ drop took text
+    pub head-read : (lists listed : List ℕ) → 64 * v ≤ length lists → {rest : Text} → rest ≡ drop took text
         → {table″ lists′ listed′ : List ℕ} {last : Ordered} → TermsDue rest v table′ lists listed table″ lists′ listed′ last
         → {r : Read} → r ≡ readOf last → LinesRead text table lists listed table″ lists′ listed′ r
     head-read lists listed room t due told = all-read long (g .roomy long .tabled) head lists listed room (rw t at due) told

@@ -37,11 +37,11 @@ too-much-stored {text} {table} {lists} {listed} e q = record {
     over = rw e
 
 -- otherwise both areas that it looks at are long enough
-pub rooms : (text table listed : ℕ) → tooMuch text table listed ≡ false → (128 ≤ table) × (32 ≤ listed)
+pub rooms : (text table listed : ℕ) → tooMuch text table listed ≡ false → (140 ≤ table) × (64 ≤ listed)
 rooms text table listed e =
-    let k = or-false→ (ltb 8192 text || ltb table 128) (ltb listed 32) e in
-    let l = or-false→ (ltb 8192 text) (ltb table 128) (k .0) in
-    (ltb-false table 128 (l .1), ltb-false listed 32 (k .1))
+    let k = or-false→ (ltb 8192 text || ltb table 140) (ltb listed 64) e in
+    let l = or-false→ (ltb 8192 text) (ltb table 140) (k .0) in
+    (ltb-false table 140 (l .1), ltb-false listed 64 (k .1))
 
 -- Words that are touched no further than they are cleared.
 cleared-alike : (n : ℕ) (a b : List ℕ) → length b ≡ length a → drop n b ≡ drop n a → zeroed n b ≡ zeroed n a
@@ -82,11 +82,11 @@ module _ {text : Text} {table lists listed table′ lists′ listed′ : List �
       by-coming (comes (badLine f line)) e l = let k = sym (ap (λ x. x .answer) e) ∙ h in let z : _≡_ {A = ℕ} 0 1 = cc in absurd (omega arith)
       by-coming crowded e l = let k = sym (ap (λ x. x .answer) e) ∙ h in let z : _≡_ {A = ℕ} 0 1 = cc in absurd (omega arith)
 
-  pub cleared-stored : (r .answer ≡ Fine → ⊥) → Stored text table lists listed (zeroed 128 table′) (zeroed 3072 lists′) (zeroed 32 listed′) r
+  pub cleared-stored : (r .answer ≡ Fine → ⊥) → Stored text table lists listed (zeroed 140 table′) (zeroed 6144 lists′) (zeroed 64 listed′) r
   cleared-stored h = stored (by-coming (linesIn (length lists) text) (w .result) (w .left))
     where
       by-coming : (x : Coming) → r ≡ readFor x → LinesLeft x table lists listed table′ lists′ listed′
-          → (zeroed 128 table′ ≡ tableFor x table) × (zeroed 3072 lists′ ≡ listsFor x lists) × (zeroed 32 listed′ ≡ listedFor x listed)
+          → (zeroed 140 table′ ≡ tableFor x table) × (zeroed 6144 lists′ ≡ listsFor x lists) × (zeroed 64 listed′ ≡ listedFor x listed)
       by-coming (comes (read d o)) e l = absurd (h (ap (λ x. x .answer) e))
       by-coming (comes overlong) e l = absurd l
       by-coming (comes (badLine f line)) e l = (cleared (w .tabled), cleared (w .listing), cleared l)

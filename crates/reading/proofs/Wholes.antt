@@ -56,10 +56,10 @@ module _ (text : Text) (room : ℕ) where
   lines-halt q = rw (← head-joins text, ← q)
 
   module _ {h : Heading} {line : ℕ} {s : Text} (q : reached h line s ≡ headText text) where
-    pub lines-crowd : room < 32 * h .terms → crowded ≡ linesIn room text
+    pub lines-crowd : room < 64 * h .terms → crowded ≡ linesIn room text
     unfolding linesIn
-    lines-crowd l = rw (← q, lt-leb (32 * h .terms) room l)
+    lines-crowd l = rw (← q, lt-leb (64 * h .terms) room l)
 
-    pub lines-fit : 32 * h .terms ≤ room → comes (described (fromTerms (h .words) (h .equations) (h .terms) line s)) ≡ linesIn room text
+    pub lines-fit : 64 * h .terms ≤ room → comes (described (fromTerms (h .words) (h .equations) (h .terms) line s)) ≡ linesIn room text
     unfolding linesIn
-    lines-fit l = rw (← head-joins text, ← q, le-leb (32 * h .terms) room l)
+    lines-fit l = rw (← head-joins text, ← q, le-leb (64 * h .terms) room l)

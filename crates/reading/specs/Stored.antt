@@ -28,14 +28,14 @@ pub data Coming : Type 0 where
 
 abbrev pub unlessCrowded : (room : ℕ) → Walk Heading → Reading → Coming
 unlessCrowded room (halted f line) r = comes r
-unlessCrowded room (reached h line s) r = pick (leb (32 * h .terms) room) (comes r) crowded
+unlessCrowded room (reached h line s) r = pick (leb (64 * h .terms) room) (comes r) crowded
 
 unfoldable pub linesIn : (room : ℕ) → Text → Coming
 linesIn room text = unlessCrowded room (headText text) (described (wholeText text))
 
 -- Refusal 1: a text that is too long is not looked at, and so is every text where the table or the order has too few words.
 abbrev pub tooMuch : (text table listed : ℕ) → Bool
-tooMuch text table listed = ltb 8192 text || ltb table 128 || ltb listed 32
+tooMuch text table listed = ltb 8192 text || ltb table 140 || ltb listed 64
 
 unfoldable pub readIn : Text → (table lists listed : ℕ) → Coming
 readIn text table lists listed = pick (tooMuch (length text) table listed) (comes overlong) (linesIn lists text)
@@ -54,20 +54,20 @@ readFor crowded = refusing NoRoom
 abbrev pub tableFor : Coming → List ℕ → List ℕ
 tableFor (comes (read d o)) table = tableAfter d table
 tableFor (comes overlong) table = table
-tableFor (comes (badLine f line)) table = zeroed 128 table
-tableFor crowded table = zeroed 128 table
+tableFor (comes (badLine f line)) table = zeroed 140 table
+tableFor crowded table = zeroed 140 table
 
 abbrev pub listsFor : Coming → List ℕ → List ℕ
 listsFor (comes (read d o)) lists = listsOver 0 (d .terms) lists
 listsFor (comes overlong) lists = lists
-listsFor (comes (badLine f line)) lists = zeroed 3072 lists
-listsFor crowded lists = zeroed 3072 lists
+listsFor (comes (badLine f line)) lists = zeroed 6144 lists
+listsFor crowded lists = zeroed 6144 lists
 
 abbrev pub listedFor : Coming → List ℕ → List ℕ
 listedFor (comes (read d o)) listed = overlaid (orderWords o) listed
 listedFor (comes overlong) listed = listed
-listedFor (comes (badLine f line)) listed = zeroed 32 listed
-listedFor crowded listed = zeroed 32 listed
+listedFor (comes (badLine f line)) listed = zeroed 64 listed
+listedFor crowded listed = zeroed 64 listed
 
 pub record Stored (text : Text) (table lists listed table′ lists′ listed′ : List ℕ) (r : Read) : Type 0 where
   pub result : r ≡ readFor (readIn text (length table) (length lists) (length listed))

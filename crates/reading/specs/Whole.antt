@@ -44,11 +44,11 @@ abbrev pub TermsLeft : List Text → ℕ → ℕ → Reading → (table lists li
 TermsLeft words equations count (read d o) table lists listed table′ lists′ listed′ =
     TermsStored words equations count d o table lists listed table′ lists′ listed′
 TermsLeft words equations count overlong table lists listed table′ lists′ listed′ = ⊥
-TermsLeft words equations count (badLine f line) table lists listed table′ lists′ listed′ = Within 32 listed listed′
+TermsLeft words equations count (badLine f line) table lists listed table′ lists′ listed′ = Within 64 listed listed′
 
 pub record TermsDue (text : Text) (count : ℕ) (table lists listed table′ lists′ listed′ : List ℕ) (r : Ordered) : Type 0 where
-  pub tabled : Within 128 table table′
-  pub listing : Within 3072 lists lists′
+  pub tabled : Within 140 table table′
+  pub listing : Within 6144 lists lists′
   pub result : (words : List Text) → map (nameOf 8) (namesIn table) ≡ words
       → readOf r ≡ readFor (comes (described (fromTerms words (length (bodiesIn table)) count (4 + length (namesIn table)) text)))
   pub left : (words : List Text) → map (nameOf 8) (namesIn table) ≡ words
@@ -60,11 +60,11 @@ abbrev pub LinesLeft : Coming → (table lists listed table′ lists′ listed�
 LinesLeft (comes (read d o)) table lists listed table′ lists′ listed′ =
     (table′ ≡ tableAfter d table) × (lists′ ≡ listsOver 0 (d .terms) lists) × (listed′ ≡ overlaid (orderWords o) listed)
 LinesLeft (comes overlong) table lists listed table′ lists′ listed′ = ⊥
-LinesLeft (comes (badLine f line)) table lists listed table′ lists′ listed′ = Within 32 listed listed′
-LinesLeft crowded table lists listed table′ lists′ listed′ = Within 32 listed listed′
+LinesLeft (comes (badLine f line)) table lists listed table′ lists′ listed′ = Within 64 listed listed′
+LinesLeft crowded table lists listed table′ lists′ listed′ = Within 64 listed listed′
 
 pub record LinesRead (text : Text) (table lists listed table′ lists′ listed′ : List ℕ) (r : Read) : Type 0 where
-  pub tabled : Within 128 table table′
-  pub listing : Within 3072 lists lists′
+  pub tabled : Within 140 table table′
+  pub listing : Within 6144 lists lists′
   pub result : r ≡ readFor (linesIn (length lists) text)
   pub left : LinesLeft (linesIn (length lists) text) table lists listed table′ lists′ listed′

@@ -42,7 +42,7 @@ fn from_terms(
     lists: &mut [u64],
     listed: &mut [u64],
 ) -> Ordered
-    requires { ⌜ (count ≤ 96) × (128 ≤ length (now table)) × (32 * count ≤ length (now lists)) ⌝ }
+    requires { ⌜ (count ≤ 96) × (140 ≤ length (now table)) × (64 * count ≤ length (now lists)) ⌝ }
     ensures { λ r. ⌜ TermsDue (now (text .entry)) count (now (table .entry)) (now (lists .entry)) (now (listed .entry))
         (now (table .exit)) (now (lists .exit)) (now (listed .exit)) r ⌝ }
 {
@@ -65,7 +65,7 @@ pub(crate) fn read_lines(
     lists: &mut [u64],
     listed: &mut [u64],
 ) -> Read
-    requires { ⌜ (128 ≤ length (now table)) × (32 ≤ length (now listed)) ⌝ }
+    requires { ⌜ (140 ≤ length (now table)) × (64 ≤ length (now listed)) ⌝ }
     ensures { λ r. ⌜ LinesRead (now (text .entry)) (now (table .entry)) (now (lists .entry)) (now (listed .entry))
         (now (table .exit)) (now (lists .exit)) (now (listed .exit)) r ⌝ }
 {

@@ -15,3 +15,5 @@ pub mod DemandSteps
 pub mod Demands
 -- exact-list, exact-list-text: exact lists, beside the demands
 pub mod Exact
+-- prints-as-before, called-as-before, described-as-before: what is printed stays as it was with at most 12 names
+pub mod AsBefore

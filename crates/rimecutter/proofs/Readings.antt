@@ -1,4 +1,4 @@
--- What reading leaves for the call, in areas of its own: a table of 128 words, an order's list of 32, and lists of any length.
+-- What reading leaves for the call, in areas of its own: a table of 140 words, an order's list of 64, and lists of any length.
 -- Assumes nothing.
 use mathlib.Core.Path.{_≡_, refl, ap, _∙_}
 use mathlib.Core.Bool.{Bool, true, false, _||_}
@@ -27,15 +27,15 @@ use Rattle.reading.proofs.Rooms.{read-in-full, read-holds}
 -- A text that is not crowded comes to what it reads as.
 uncrowded : (room : ℕ) (w : Walk Heading) {r x : Reading} → unlessCrowded room w r ≡ comes x → r ≡ x
 uncrowded room (halted f line) e = cc
-uncrowded room (reached h line s) {r} {x} e = by (leb (32 * h .terms) room) e
+uncrowded room (reached h line s) {r} {x} e = by (leb (64 * h .terms) room) e
   where
     by : (b : Bool) → pick b (comes r) crowded ≡ comes x → r ≡ x
     by true e = cc
     by false e = let z : _≡_ {A = ℕ} 0 1 = cc in absurd (omega arith)
 
-read-as : (text : Text) (table room listed : ℕ) {x : Reading} → 128 ≤ table → 32 ≤ listed → readIn text table room listed ≡ comes x → readText text ≡ x
+read-as : (text : Text) (table room listed : ℕ) {x : Reading} → 140 ≤ table → 64 ≤ listed → readIn text table room listed ≡ comes x → readText text ≡ x
 unfolding readIn linesIn readText
-read-as text table room listed {x} wide long e = by (ltb 8192 (length text)) refl (rw (le-ltb table 128 wide, le-ltb listed 32 long) at e)
+read-as text table room listed {x} wide long e = by (ltb 8192 (length text)) refl (rw (le-ltb table 140 wide, le-ltb listed 64 long) at e)
   where
     by : (b : Bool) → ltb 8192 (length text) ≡ b → pick (b || false || false) (comes overlong) (linesIn room text) ≡ comes x → readText text ≡ x
     by true q e = rw (q, readText) (cc)
@@ -53,7 +53,7 @@ pub record ReadAs (text : Text) (table lists listed : List ℕ) (order : Order) 
 -- Why a text was not read: for what it is, or for want of room.
 abbrev pub Refused : Text → (room : ℕ) → A.Answer → Type 0
 Refused text room Fine = ⊥
-Refused text room NoRoom = 3072 ≤ room → ⊥
+Refused text room NoRoom = 6144 ≤ room → ⊥
 Refused text room TooLong = readText text ≡ overlong
 Refused text room (Bad f line) = readText text ≡ badLine (flawOf f) line
 
@@ -64,7 +64,7 @@ fault-back range = refl
 fault-back amount = refl
 
 module _ {text : Text} {table lists listed table′ lists′ listed′ : List ℕ} {r : Read} (done : Stored text table lists listed table′ lists′ listed′ r)
-    (wide : length table ≡ 128) (long : length listed ≡ 32) where
+    (wide : length table ≡ 140) (long : length listed ≡ 64) where
   abbrev coming : Coming
   coming = readIn text (length table) (length lists) (length listed)
 

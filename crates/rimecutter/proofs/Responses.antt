@@ -3,13 +3,13 @@
 use mathlib.Core.Path.{_≡_, refl, sym, ap, subst, _∙_}
 use mathlib.Core.Bool.{Bool, true, false}
 use mathlib.Core.List.{List, _++_, map}
-use Prim.Native.Nat.{ℕ, _≤_}
+use Prim.Native.Nat.{ℕ, _*_, _≤_}
 use native.Mathlib.Omega.{arith}
 use lib.Dec.{ltb}
 use lib.ListN.{length, drop, length-map}
 use borrow.Author.Tests.{ltb-false}
 use Rattle.meaning.specs.Bytes.{Text}
-use Rattle.meaning.specs.Labels.{number}
+use Rattle.meaning.specs.Labels.{Label, number, inWords}
 use Rattle.meaning.specs.Descriptions as D
 use Rattle.meaning.specs.Answers as A
 use Rattle.meaning.specs.Answers.{Outcome, tooLarge, listed, tooLong, inLine, large}
@@ -20,6 +20,7 @@ use Rattle.table.specs.declared.Order.{Order}
 use Rattle.table.specs.Encoded.{filled, wordOf}
 use Rattle.table.specs.Holding.{namesIn}
 use Rattle.table.proofs.Holdings.{names-held}
+use Rattle.areas.proofs.Held.{length-inWords}
 use Rattle.areas.proofs.Zeroes.{zeroed-front}
 use Rattle.reading.specs.declared.Answer as ReadAnswer
 use Rattle.reading.specs.declared.Answer.the-variants as B
@@ -112,7 +113,7 @@ module _ (text : Text) (room : ℕ) (answer : List ℕ) (r : Response) where
   few-refused s e h = record { untold = λ large. refl; told = refused-told s e h }
 
   -- where there was room for it
-  pub roomy-refused : (s : ReadAnswer.Answer) → r .answer ≡ refusalFor s → Refused text room s → room ≡ 3072 → Told (ownCall text) answer answer r
+  pub roomy-refused : (s : ReadAnswer.Answer) → r .answer ≡ refusalFor s → Refused text room s → room ≡ 6144 → Told (ownCall text) answer answer r
   roomy-refused s e h roomy = refused-told s e h (λ large. never s (sym e ∙ large) h)
     where
       never : (s : ReadAnswer.Answer) → refusalFor s ≡ TooLarge → Refused text room s → ⊥
@@ -121,20 +122,23 @@ module _ (text : Text) (room : ℕ) (answer : List ℕ) (r : Response) where
       never B.TooLong e h = let z : _≡_ {A = ℕ} 0 1 = cc in omega arith
       never (B.Bad f line) e h = let z : _≡_ {A = ℕ} 0 1 = cc in omega arith
 
+-- Labels are two words each.
+pub shown-length : (labels : List Label) → length (inWords (map number labels)) ≡ 2 * length labels
+shown-length labels = length-inWords (map number labels) ∙ ap (λ (n : ℕ). 2 * n) (length-map labels number)
+
 -- A description that was read, with what the rounds found.
 outcome-told : (d : D.Description) (x : Outcome) (answer : List ℕ) {f : RoundsAnswer.Answer} {answer′ : List ℕ} {r : Response} → f ≡ alphabetOf x
-    → answer′ ≡ answerArea x answer → r .answer ≡ answerFor f → r .names ≡ filled 12 0 (map wordOf (d .words)) → Told (ofOutcome d x) answer answer′ r
+    → answer′ ≡ answerArea x answer → r .answer ≡ answerFor f → r .names ≡ filled 24 0 (map wordOf (d .words)) → Told (ofOutcome d x) answer answer′ r
 outcome-told d tooLarge answer e a s n = (ap verdictFor (s ∙ ap answerFor e), a, tt)
 outcome-told d (listed rounds labels) answer e a s n =
-    let size : length (map number labels) ≡ length labels = rw length-map in
-    (ap verdictFor (s ∙ ap answerFor e), a ∙ ap (λ (n : ℕ). map number labels ++ drop n answer) size, n)
+    (ap verdictFor (s ∙ ap answerFor e), a ∙ ap (λ (n : ℕ). inWords (map number labels) ++ drop n answer) (shown-length labels), n)
 
 outcome-works : (d : D.Description) (x : Outcome) (work : List ℕ) → cleared work ≡ workAfter (ofOutcome d x) work
 outcome-works d tooLarge work = refl
 outcome-works d (listed rounds labels) work = refl
 
 module _ {text : Text} {table lists listed : List ℕ} {order : Order} (h : ReadAs text table lists listed order) (r : Response)
-    (printed : r .names ≡ filled 12 0 (namesIn table)) where
+    (printed : r .names ≡ filled 24 0 (namesIn table)) where
   abbrev outcome : Outcome
   outcome = A.answer (h .given) (h .wanted)
 
@@ -144,7 +148,7 @@ module _ {text : Text} {table lists listed : List ℕ} {order : Order} (h : Read
   found-told : (answer : List ℕ) {f : RoundsAnswer.Answer} {answer′ : List ℕ} → f ≡ alphabetOf outcome → answer′ ≡ answerArea outcome answer
       → r .answer ≡ answerFor f → Told (ownCall text) answer answer′ r
   found-told answer {answer′} e a s =
-      let named = printed ∙ ap (filled 12 0) (names-held (h .holds) (h .legal .nameCount .1)) in
+      let named = printed ∙ ap (filled 24 0) (names-held (h .holds) (h .legal .nameCount .1)) in
       subst (λ (c : Call). Told c answer answer′ r) (sym own-outcome) (outcome-told (h .given) outcome answer e a s named)
 
   pub few-worked : (f : RoundsAnswer.Answer) {answer answer′ : List ℕ} → AnsweredFew table lists order listed answer answer′ f → r .answer ≡ answerFor f

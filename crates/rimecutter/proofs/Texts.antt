@@ -4,7 +4,7 @@ use mathlib.Core.Path.{_≡_, refl, sym, ap, ap₂, subst, _∙_, _≡⟨_⟩_, 
 use mathlib.Core.Bool.{Bool, true, false, _&&_}
 use mathlib.Core.Logic.{inl, inr}
 use mathlib.Core.List.{List, [], _∷_, _++_, map}
-use Prim.Native.Nat.{ℕ, _≤_, _<_, zero-le}
+use Prim.Native.Nat.{ℕ, _*_, _≤_, _<_, zero-le}
 use native.Mathlib.Omega.{arith}
 use lib.Dec.{T, leb, leb→le}
 use Rattle.meaning.proofs.Tests.{and-left, and-right, or-cases}
@@ -13,7 +13,7 @@ use Rattle.printing.proofs.Lengths.{length-answer}
 use Rattle.printing.proofs.Refusals.{length-refusal}
 use lib.Seq.{take-at}
 use Rattle.meaning.specs.Bytes.{Text}
-use Rattle.meaning.specs.Labels.{Label, size, number}
+use Rattle.meaning.specs.Labels.{Label, size, number, inWords}
 use Rattle.meaning.specs.Descriptions.{Description, Order, names}
 use Rattle.meaning.specs.Legal.{Each}
 use Rattle.meaning.specs.Answers as A
@@ -30,18 +30,20 @@ use Rattle.grammar.proofs.Acceptance.{accepted→}
 use Rattle.grammar.proofs.Lengths.{→overlong}
 use Rattle.faults.specs.CodedFaults.{faultOf}
 use Rattle.table.specs.Encoded.{filled, wordOf}
+use Rattle.areas.specs.Rows.{held}
+use Rattle.areas.proofs.Held.{length-held, held-append, held-inWords}
 use Rattle.grammar.specs.Text.{isLower, isDigit}
 use Rattle.grammar.specs.Printed.{refusedText, answerText}
 use Rattle.grammar.specs.Areas.{Printed}
 use Rattle.label_texts.specs.Packed.{nameTexts, countsOf}
 use Rattle.printing.proofs.Callers.{Bytes, Fits, same-answer}
 use Rattle.rimecutter.specs.Calls.{Call, refusing, answering, workWords, answerWords, tooShort, ofOutcome}
-use Rattle.rimecutter.specs.Calls.{ofReading, unlessShort, call, ownCall, verdictOf, answerAfter, textOf}
+use Rattle.rimecutter.specs.Calls.{ofReading, unlessShort, call, ownCall, verdictOf, shown, answerAfter, textOf}
 use Rattle.rimecutter.specs.Answers.{verdictFor, NamesFor, saidText, listedIn, TextWritten}
 use Rattle.rimecutter.specs.declared.Answer.{Answer}
 use Rattle.rimecutter.specs.declared.calls.Response.{Response}
 use Rattle.rimecutter.specs.declared.Answer.the-variants.{Listed, TooLong, Bad, TooLarge}
-use Rattle.rimecutter.proofs.Responses.{Told}
+use Rattle.rimecutter.proofs.Responses.{Told, shown-length}
 
 -- A refusal's text is that of its number, line and column.
 refused-text : (c : Call) (v : Verdict) → v ≡ verdictOf c → (v .reason ≡ 0 → ⊥) → textOf c ≡ refusedText (v .reason) (v .line) (v .column)
@@ -143,10 +145,16 @@ name-bytes (b ∷ w) h =
     let first = within-byte 97 122 b (omega arith) (omega arith) (h .0) in
     (omega (arith, h .1), (first, each-weaken (λ c. T (inName c)) (λ c. (1 ≤ c) × (c < 256)) w name-byte (h .2)))
 
+-- An answer area begins with the labels' numbers.
+shown-held : (ls : List Label) (answer : List ℕ) → held (shown ls answer) ≡ map number ls ++ held (drop (2 * length ls) answer)
+shown-held ls answer =
+    let rest = drop (2 * length ls) answer in
+    held-append (length ls) (inWords (map number ls)) rest (shown-length ls) ∙ ap (λ (ns : List ℕ). ns ++ held rest) (held-inWords (map number ls))
+
 -- An answer's text is that of its words.
 record Listing (c : Call) (rounds n : ℕ) (names answer : List ℕ) : Type 0 where
   pub few : n ≤ 1024
-  pub says : textOf c ≡ answerText (nameTexts names) rounds (map countsOf (take n answer))
+  pub says : textOf c ≡ answerText (nameTexts names) rounds (map countsOf (take n (held answer)))
 
 listed-text : (text : Text) (c : Call) → ownCall text ≡ c → (rounds n : ℕ) (names answer answer′ : List ℕ)
     → verdictFor (Listed rounds n) ≡ verdictOf c → NamesFor c names → answer′ ≡ answerAfter c answer → Listing c rounds n names answer′
@@ -155,30 +163,37 @@ listed-text text (answering words k ls) e rounds n names answer answer′ v ns p
     let from = call→origin text words k ls workWords answerWords e in
     let d = from .given in
     let legal = accepted→ text d (from .order) (from .reads) in
-    let held = listed-held d (from .order) k ls (from .lists) in
+    let told = listed-held d (from .order) k ls (from .lists) in
     let count : n ≡ length ls = labels-eq v in
     let size : length (map number ls) ≡ n = sym (count ∙ sym (rw length-map)) in
-    let these : take n answer′ ≡ map number ls = ap (take n) put ∙ take-at (map number ls) (drop (length ls) answer) n size in
+    let rest = held (drop (2 * length ls) answer) in
+    let these : take n (held answer′) ≡ map number ls =
+    ap (λ (ws : List ℕ). take n (held ws)) put ∙ ap (take n) (shown-held ls answer) ∙ take-at (map number ls) rest n size in
     let bytes : Each Bytes words = subst (Each Bytes) (sym (from .named)) (each-weaken NameForm Bytes (d .words) name-bytes (legal .2 .0)) in
-    let fit : Each (Fits words) ls = each-in (Fits words) ls (λ a m. (held a m .0 ∙ ap length (sym (from .named)), size→small a (held a m .1))) in
-    let packed = filled 12 0 (map wordOf words) in
-    let few-words : length words ≤ 12 = omega (arith, legal .1 .nameCount .1, ap length (from .named)) in
+    let fit : Each (Fits words) ls = each-in (Fits words) ls (λ a m. (told a m .0 ∙ ap length (sym (from .named)), size→small a (told a m .1))) in
+    let packed = filled 24 0 (map wordOf words) in
+    let few-words : length words ≤ 24 = omega (arith, legal .1 .nameCount .1, ap length (from .named)) in
     record {
       few = omega (arith, listed-few d (from .order) k ls (from .lists));
       says = answerText words k ls
           ≡⟨ ap (λ (m : ℕ). answerText words m ls) (sym (rounds-eq v)) ⟩ answerText words rounds ls
           ≡⟨ sym (same-answer words few-words bytes rounds ls fit) ⟩ answerText (nameTexts packed) rounds (map countsOf (map number ls))
           ≡⟨ sym (ap₂ (λ (vs ws : List ℕ). answerText (nameTexts ws) rounds (map countsOf vs)) these ns) ⟩
-          answerText (nameTexts names) rounds (map countsOf (take n answer′)) ∎;
+          answerText (nameTexts names) rounds (map countsOf (take n (held answer′))) ∎;
     }
+
+-- Labels that are held are two words each.
+pub words-there : {labels count : ℕ} (words : List ℕ) → count ≡ length (held words) → labels ≤ count → 2 * labels ≤ length words
+words-there words counted h = omega (arith, length-held words)
 
 -- What a response's text is, by its answer.
 module _ {r : Response} {words area area′ : List ℕ} {n : ℕ} where
   pub written : (a : Answer) → r .answer ≡ a → Printed (saidText a (r .names) words) area area′ n → TextWritten r words area area′ n
   written a e h = record { printed = λ all. subst (λ (x : Answer). Printed (saidText x (r .names) words) area area′ n) (sym e) h }
 
-  pub unwritten : {rounds : ℕ} (labels : ℕ) → r .answer ≡ Listed rounds labels → length words < labels → TextWritten r words area area′ n
-  unwritten labels e few = record { printed = λ all. absurd (omega (arith, ap listedIn e)) }
+  pub unwritten : {rounds : ℕ} (labels : ℕ) {count : ℕ} → r .answer ≡ Listed rounds labels → count ≡ length (held words) → count < labels
+      → TextWritten r words area area′ n
+  unwritten labels e counted few = record { printed = λ all. absurd (omega (arith, ap listedIn e)) }
 
 -- An answer's labels are words of the answer area.
 listed-count : (a : Answer) → listedIn a ≡ verdictFor a .labels
@@ -187,15 +202,16 @@ listed-count TooLong = refl
 listed-count (Bad f line) = refl
 listed-count TooLarge = refl
 
-labels-fit : (c : Call) (answer : List ℕ) → verdictOf c .labels ≤ length (answerAfter c answer)
+labels-fit : (c : Call) (answer : List ℕ) → verdictOf c .labels ≤ length (held (answerAfter c answer))
 labels-fit (refusing r) answer = zero-le
 labels-fit (answering words rounds labels) answer =
-    omega (arith, length-append (map number labels) (drop (length labels) answer), length-map labels number)
+    let rest = held (drop (2 * length labels) answer) in
+    omega (arith, ap length (shown-held labels answer), length-append (map number labels) rest, length-map labels number)
 
 -- The text of what is told of a call is the call's.
 module _ (text : Text) (answer answer′ : List ℕ) (r : Response) (h : Told (ownCall text) answer answer′ r) where
-  all-there : listedIn (r .answer) ≤ length answer′
-  all-there = omega (arith, listed-count (r .answer), labels-eq (h .0), labels-fit (ownCall text) answer, ap length (h .1))
+  all-there : listedIn (r .answer) ≤ length (held answer′)
+  all-there = omega (arith, listed-count (r .answer), labels-eq (h .0), labels-fit (ownCall text) answer, ap (λ (ws : List ℕ). length (held ws)) (h .1))
 
   told-text : (a : Answer) → r .answer ≡ a → textOf (ownCall text) ≡ saidText a (r .names) answer′
   told-text (Listed rounds labels) e =
@@ -209,17 +225,17 @@ module _ (text : Text) (answer answer′ : List ℕ) (r : Response) (h : Told (o
   told-printed {area} {area′} {n} w =
       subst (λ (t : Text). Printed t area area′ n) (sym (told-text (r .answer) refl)) (w .printed all-there)
 
--- 155,648 bytes hold every text.
-pub text-fits : (text : Text) → length (textOf (ownCall text)) ≤ 155648
+-- 303,104 bytes hold every text.
+pub text-fits : (text : Text) → length (textOf (ownCall text)) ≤ 303104
 text-fits text = fits (ownCall text) refl
   where
-    fits : (c : Call) → ownCall text ≡ c → length (textOf c) ≤ 155648
+    fits : (c : Call) → ownCall text ≡ c → length (textOf c) ≤ 303104
     fits (refusing r) e = omega (arith, length-refusal (reasonOf r) (lineOf r) (columnOf r))
     fits (answering words k ls) e =
-        let names = filled 12 0 (map wordOf words) in
-        let l = listed-text text (answering words k ls) e k (length ls) names [] (map number ls ++ drop (length ls) []) refl refl refl in
-        let shown = take (length ls) (map number ls ++ drop (length ls) []) in
-        omega (arith, l .few, ap length (l .says), length-answer names k shown, length-take (length ls) (map number ls ++ drop (length ls) []))
+        let names = filled 24 0 (map wordOf words) in
+        let l = listed-text text (answering words k ls) e k (length ls) names [] (shown ls []) refl refl refl in
+        let these = held (shown ls []) in
+        omega (arith, l .few, ap length (l .says), length-answer names k (take (length ls) these), length-take (length ls) these)
 
 -- A text that is too long is refused with 1, without a line or a column.
 pub long-printed : (text : Text) {area area′ : List ℕ} {n : ℕ} → 8192 < length text → Printed (refusedText 1 0 0) area area′ n

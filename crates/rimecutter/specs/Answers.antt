@@ -10,6 +10,7 @@ use Rattle.meaning.specs.Answers.{tooLong, inLine, large, Verdict}
 use Rattle.faults.specs.CodedFaults.{faultOf}
 use Rattle.table.specs.Encoded.{filled, wordOf}
 use Rattle.areas.specs.Areas.{zeroed}
+use Rattle.areas.specs.Rows.{held}
 use Rattle.grammar.specs.Printed.{refusedText, answerText}
 use Rattle.grammar.specs.Areas.{Printed}
 use Rattle.label_texts.specs.Packed.{nameTexts, countsOf}
@@ -38,7 +39,7 @@ pub record Settled (c : Call) (work work′ answer answer′ : List ℕ) (r : An
 -- the names an answer is printed with, packed in words
 abbrev pub NamesFor : Call → List ℕ → Type 0
 NamesFor (refusing r) names = Unit {0}
-NamesFor (answering words rounds labels) names = names ≡ filled 12 0 (map wordOf words)
+NamesFor (answering words rounds labels) names = names ≡ filled 24 0 (map wordOf words)
 
 pub record Responded (c : Call) (work work′ answer answer′ : List ℕ) (r : Response) : Type 0 where
   pub settled : Settled c work work′ answer answer′ (r .answer)
@@ -73,7 +74,7 @@ pub record Cleared (r : Response) (work work′ : List ℕ) (a : Response) : Typ
 
 -- The text of a response, whose labels are the first words of an area.
 abbrev pub saidText : Answer → (names words : List ℕ) → Text
-saidText (Listed rounds labels) names words = answerText (nameTexts names) rounds (map countsOf (take labels words))
+saidText (Listed rounds labels) names words = answerText (nameTexts names) rounds (map countsOf (take labels (held words)))
 saidText TooLong names words = refusedText 1 0 0
 saidText (Bad f line) names words = refusedText (A.faultNumber (faultOf (f .fault))) line (f .column)
 saidText TooLarge names words = refusedText 7 0 0
@@ -85,4 +86,4 @@ listedIn (Bad f line) = 0
 listedIn TooLarge = 0
 
 pub record TextWritten (x : Response) (words area area′ : List ℕ) (r : ℕ) : Type 0 where
-  pub printed : listedIn (x .answer) ≤ length words → Printed (saidText (x .answer) (x .names) words) area area′ r
+  pub printed : listedIn (x .answer) ≤ length (held words) → Printed (saidText (x .answer) (x .names) words) area area′ r

@@ -2,15 +2,15 @@
 -- Assumes nothing.
 use mathlib.Core.Bool.{Bool, true, false, _||_}
 use mathlib.Core.List.{List, _++_, map}
-use Prim.Native.Nat.{ℕ}
+use Prim.Native.Nat.{ℕ, _*_}
 use lib.Dec.{ltb, leb}
 use lib.ListN.{length, drop, replicate}
 use Rattle.meaning.specs.Bytes.{Text}
-use Rattle.meaning.specs.Labels.{Label, number}
+use Rattle.meaning.specs.Labels.{Label, number, inWords}
 use Rattle.meaning.specs.Descriptions.{Description}
 use Rattle.meaning.specs.Answers as A
 use Rattle.meaning.specs.Answers.{Outcome, tooLarge, listed, Refusal, tooLong, inLine, large, Verdict}
-use Rattle.grammar.specs.Reading.{Reading, read, overlong, badLine, readText}
+use Rattle.grammar.specs.Reading.{Reading, read, overlong, badLine, readText, readUpTo}
 use Rattle.grammar.specs.Printed.{refusalText, answerText}
 
 -- A refusal, or an answer with the names it is printed with.
@@ -19,10 +19,10 @@ pub data Call : Type 0 where
   answering : (words : List Text) (rounds : ℕ) (labels : List Label) → Call
 
 abbrev pub workWords : ℕ
-workWords = 4096
+workWords = 8192
 
 abbrev pub answerWords : ℕ
-answerWords = 1024
+answerWords = 2048
 
 -- Refusal 1 comes first, refusal 7 last.
 abbrev pub tooShort : ℕ → ℕ → Bool
@@ -53,12 +53,15 @@ abbrev pub verdictOf : Call → Verdict
 verdictOf (refusing r) = A.refused r
 verdictOf (answering words rounds labels) = A.verdict (listed rounds labels)
 
--- On an answer the answer area begins with the label numbers and the rest is unchanged; on a refusal it is unchanged.
+-- On an answer the answer area begins with the label numbers, two words each, and the rest is unchanged; on a refusal it is unchanged.
+abbrev pub shown : List Label → List ℕ → List ℕ
+shown labels area = inWords (map number labels) ++ drop (2 * length labels) area
+
 abbrev pub answerAfter : Call → List ℕ → List ℕ
 answerAfter (refusing r) area = area
-answerAfter (answering words rounds labels) area = map number labels ++ drop (length labels) area
+answerAfter (answering words rounds labels) area = shown labels area
 
--- After refusal 1 the work area is unchanged; after every other call its first 4,096 words are 0 and the rest are unchanged.
+-- After refusal 1 the work area is unchanged; after every other call its first 8,192 words are 0 and the rest are unchanged.
 abbrev pub cleared : List ℕ → List ℕ
 cleared area = replicate workWords 0 ++ drop workWords area
 
@@ -72,6 +75,10 @@ workAfter (answering words rounds labels) area = cleared area
 abbrev pub textOf : Call → Text
 textOf (refusing r) = refusalText r
 textOf (answering words rounds labels) = answerText words rounds labels
+
+-- The text that was printed while a description had at most 12 names: that of the reading under that limit.
+abbrev pub printedBefore : Text → Text
+printedBefore text = textOf (ofReading (readUpTo 12 text))
 
 -- The number that the C call gives: 8, in this call alone, if the whole text does not fit the area, and else what its text says.
 abbrev pub numberInText : Call → (room : ℕ) → ℕ

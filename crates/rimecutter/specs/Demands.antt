@@ -2,11 +2,11 @@
 -- Assumes nothing.
 use mathlib.Core.Path.{_≡_}
 use mathlib.Core.Logic.{_↔_}
-use mathlib.Core.List.{List, _++_, map}
+use mathlib.Core.List.{List}
 use Prim.Native.Nat.{ℕ, _≤_}
-use lib.ListN.{length, take, drop}
+use lib.ListN.{length, take}
 use Rattle.meaning.specs.Bytes.{Text, ascii}
-use Rattle.meaning.specs.Labels.{Label, number}
+use Rattle.meaning.specs.Labels.{Label}
 use Rattle.meaning.specs.Sets.{_∈_}
 use Rattle.meaning.specs.Descriptions.{Description, Order}
 use Rattle.meaning.specs.Runs.{OnRun}
@@ -17,7 +17,7 @@ use Rattle.grammar.specs.Reading.{read, readText}
 use Rattle.grammar.specs.Printed.{line, answerText}
 use Rattle.grammar.specs.Areas.{withStart, Printed}
 use Rattle.rimecutter.specs.declared.Answer.{Answer}
-use Rattle.rimecutter.specs.Calls.{refusing, call, ownCall, cleared, workAfter, textOf, numberInText}
+use Rattle.rimecutter.specs.Calls.{refusing, call, ownCall, shown, cleared, workAfter, textOf, numberInText}
 use Rattle.rimecutter.specs.Answers.{verdictFor, Settled}
 use Rattle.rimecutter.specs.Refusals.{Due}
 
@@ -48,7 +48,7 @@ pub record Answered (m : Made) : Type 0 where
   pub labels : List Label
   pub lists : Lists given order rounds labels
   pub says : verdictGiven m ≡ A.verdict (listed rounds labels)
-  pub answers : m .answer′ ≡ map number labels ++ drop (length labels) (m .answer)
+  pub answers : m .answer′ ≡ shown labels (m .answer)
   pub works : m .work′ ≡ cleared (m .work)
 
 pub record RefusedWith (m : Made) (r : Refusal) : Type 0 where
@@ -68,7 +68,7 @@ pub record Listing (m : Made) (d : Description) (o : Order) : Type 0 where
   pub labels : List Label
   pub lists : Lists d o rounds labels
   pub says : verdictGiven m ≡ A.verdict (listed rounds labels)
-  pub answers : m .answer′ ≡ map number labels ++ drop (length labels) (m .answer)
+  pub answers : m .answer′ ≡ shown labels (m .answer)
 
 pub record Right (m : Made) (d : Description) (o : Order) : Type 0 where
   pub large : (verdictGiven m .reason ≡ 7) ↔ PassesLimit d
@@ -79,7 +79,7 @@ pub record Right (m : Made) (d : Description) (o : Order) : Type 0 where
 pub record Safe (m m′ : Made) (d : Description) (o : Order) : Type 0 where
   pub answered : verdictGiven m .reason ≡ 0
   pub listed-labels : List Label
-  pub shown : m′ .answer′ ≡ map number listed-labels ++ drop (length listed-labels) (m′ .answer)
+  pub shown : m′ .answer′ ≡ shown listed-labels (m′ .answer)
   pub count : verdictGiven m′ .labels ≡ length listed-labels
   pub covered : (a : Label) → OnRun d a → Allows o a → a ∈ listed-labels
 

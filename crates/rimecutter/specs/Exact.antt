@@ -2,9 +2,8 @@
 -- Assumes nothing.
 use mathlib.Core.Path.{_≡_}
 use mathlib.Core.Logic.{_↔_}
-use mathlib.Core.List.{List, _++_, map}
+use mathlib.Core.List.{List, map}
 use Prim.Native.Nat.{ℕ}
-use lib.ListN.{length, drop}
 use Rattle.meaning.specs.Labels.{Label, number}
 use Rattle.meaning.specs.Sets.{_∈_, Rising}
 use Rattle.meaning.specs.Descriptions.{Description, Order}
@@ -13,6 +12,7 @@ use Rattle.meaning.specs.Answers as A
 use Rattle.meaning.specs.Answers.{Allows, listed}
 use Rattle.grammar.specs.Printed.{answerText}
 use Rattle.grammar.specs.Areas.{withStart}
+use Rattle.rimecutter.specs.Calls.{shown}
 use Rattle.rimecutter.specs.Demands.{Made, verdictGiven, Called}
 
 -- What is listed are exactly the labels met on finite runs that the order allows.
@@ -25,7 +25,7 @@ pub record ExactListing (m : Made) (d : Description) (o : Order) : Type 0 where
   pub rising : Rising (map number labels)
   pub exactly : Exactly d o labels
   pub says : verdictGiven m ≡ A.verdict (listed rounds labels)
-  pub answers : m .answer′ ≡ map number labels ++ drop (length labels) (m .answer)
+  pub answers : m .answer′ ≡ shown labels (m .answer)
 
 -- The same over what a call for C prints.
 pub record ExactPrint (c : Called) (d : Description) (o : Order) : Type 0 where

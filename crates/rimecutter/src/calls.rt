@@ -114,7 +114,7 @@ fn cleared(r: Response, work: &mut [u64]) -> Response
     r
 }
 
-// The call, with the names that its answer is printed with. Refusal 1 comes first and touches no area; after it the first 4,096 words
+// The call, with the names that its answer is printed with. Refusal 1 comes first and touches no area; after it the first 8,192 words
 // of the work area are 0, whatever is answered.
 pub fn respond(description: &[u8], work: &mut [u64], answer: &mut [u64]) -> Response
     ensures { λ r. ⌜ Responded

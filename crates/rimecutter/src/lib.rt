@@ -9,14 +9,16 @@ use crate::calls::Response;
 use crate::calls::respond;
 use crate::calls::respond_few;
 use crate::calls::respond_full;
+use areas::rows::labels_in;
 use faults::Flaw;
 use faults::number_of;
+use labels::LABEL_WORDS;
 use printing::write_answer;
 use printing::write_refusal;
 use reading::TEXT_BYTES;
 use rounds::ANSWER_WORDS;
 use rounds::WORK_WORDS;
-use rounds::few::FEW_LABELS;
+use rounds::few::FEW_WORDS;
 
 // Listed with the rounds and the number of labels; or refused: with 1; with the fault of a line, its column and the line's number; or with 7.
 pub enum Answer {
@@ -26,9 +28,9 @@ pub enum Answer {
     TooLarge,
 }
 
-// Works the alphabet out in two lent areas. On an answer the labels' numbers stand at the start of `answer`, ascending; on a refusal
-// `answer` is as it was. The first 4,096 words of `work` are 0 afterwards. Refusal 1, also given for areas that are too short, changes
-// neither area.
+// Works the alphabet out in two lent areas. On an answer the labels' numbers stand at the start of `answer`, ascending, two words each, the
+// lower first; on a refusal `answer` is as it was. The first 8,192 words of `work` are 0 afterwards. Refusal 1, also given for areas that
+// are too short, changes neither area.
 pub fn alphabet(description: &[u8], work: &mut [u64], answer: &mut [u64]) -> Answer
     ensures { λ r. ⌜ Settled
         (call (now (description .entry)) (length (now (work .entry))) (length (now (answer .entry))))
@@ -56,10 +58,10 @@ fn write_response(text: &mut [u8], response: Response, answer: &[u64]) -> usize
     let names = response.names;
     match said {
         Answer::Listed(rounds, labels) => {
-            if answer.len() < labels {
+            if labels_in(answer) < labels {
                 return 0;
             }
-            write_answer(text, names, rounds, &answer[..labels])
+            write_answer(text, names, rounds, &answer[..LABEL_WORDS * labels])
         }
         Answer::TooLong => write_refusal(text, TOO_LONG, NO_LINE, NO_COLUMN),
         Answer::Bad(flaw, line) => {
@@ -84,7 +86,7 @@ fn text_full(description: &[u8], text: &mut [u8]) -> usize
 fn text_few(description: &[u8], text: &mut [u8]) -> usize
     ensures { λ r. ⌜ Printed (textOf (ownCall (now (description .entry)))) (now (text .entry)) (now (text .exit)) r ⌝ }
 {
-    let mut answer = [0u64; FEW_LABELS];
+    let mut answer = [0u64; FEW_WORDS];
     let response = respond_few(description, &mut answer);
     let said = response.answer;
     let Answer::TooLarge = said else {

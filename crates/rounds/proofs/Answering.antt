@@ -1,4 +1,4 @@
--- The root's set cut to the order: in words as in labels.
+-- The root's set cut to the order: by numbers as by labels.
 -- Assumes nothing.
 use mathlib.Core.Path.{_≡_, refl, ap}
 use mathlib.Core.Logic.{inl, inr}
@@ -13,9 +13,9 @@ use Rattle.meaning.specs.Answers.{admits, cut}
 use Rattle.labels.proofs.Refinement.{Packs}
 use Rattle.sets.proofs.Refinement.{AllPack}
 use Rattle.images.proofs.Refinement.{listed-packs, allowed-number}
-use Rattle.cutting.specs.Cutting.{allows, cutWords}
+use Rattle.cutting.specs.Cutting.{allows, cutLabels}
 
--- whether an order is `all`, and the words of its list
+-- whether an order is `all`, and the numbers of its labels
 abbrev pub isAll : Order → Bool
 isAll all = true
 isAll (only ls) = false
@@ -29,12 +29,12 @@ unfolding allows
 allows-number n all a h p = refl
 allows-number n (only ls) a h p = allowed-number n ls (listed-packs n ls (h .1)) (h .2) a p
 
-pub cut-number : (n : ℕ) (o : Order) (s : List Label) → LegalOrder n o → AllPack n s → cutWords (isAll o) (listOf o) (map number s) ≡ map number (cut o s)
-unfolding cutWords cut spread
+pub cut-number : (n : ℕ) (o : Order) (s : List Label) → LegalOrder n o → AllPack n s → cutLabels (isAll o) (listOf o) (map number s) ≡ map number (cut o s)
+unfolding cutLabels cut spread
 cut-number n o [] h p = refl
 cut-number n o (a ∷ s) h p = step (admits o a) (allows-number n o a h (p a (inl refl))) (cut-number n o s h (λ b m. p b (inr m)))
   where
-    step : (b : Bool) → allows (isAll o) (listOf o) (number a) ≡ b → cutWords (isAll o) (listOf o) (map number s) ≡ map number (cut o s)
-        → cutWords (isAll o) (listOf o) (number a ∷ map number s) ≡ map number (kept b a ++ cut o s)
-    step true e ih = rw (e, cutWords) (ap {B = List ℕ} (λ r. number a ∷ r) ih)
-    step false e ih = rw (e, cutWords) ih
+    step : (b : Bool) → allows (isAll o) (listOf o) (number a) ≡ b → cutLabels (isAll o) (listOf o) (map number s) ≡ map number (cut o s)
+        → cutLabels (isAll o) (listOf o) (number a ∷ map number s) ≡ map number (kept b a ++ cut o s)
+    step true e ih = rw (e, cutLabels) (ap {B = List ℕ} (λ r. number a ∷ r) ih)
+    step false e ih = rw (e, cutLabels) ih

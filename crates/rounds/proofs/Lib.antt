@@ -1,5 +1,5 @@
--- Laws of the order's cut, in words as in labels, and of the calls.
--- cut-number: the cut of words that are labels' numbers
+-- Laws of the order's cut, by numbers as by labels, and of the calls.
+-- cut-number: the cut of labels' numbers
 pub mod Answering
 -- cuts-to: the outcome under an order is the outcome under `all`, cut
 pub mod Orders

@@ -4,15 +4,15 @@ use mathlib.Core.Path.{_≡_, refl, sym, ap, ap₂, subst, _∙_, _≡⟨_⟩_, 
 use mathlib.Core.Logic.{_⊎_, inl, inr}
 use mathlib.Core.Bool.{Bool}
 use mathlib.Core.List.{List, [], _∷_, _++_, map, append-assoc}
-use Prim.Native.Nat.{ℕ, zero, suc, _+_, _-_, _≤_, _<_}
-use native.Mathlib.Nat.{mul-one, zero-add, suc-add}
+use Prim.Native.Nat.{ℕ, zero, suc, _+_, _*_, _-_, _/_, _≤_, _<_}
+use native.Mathlib.Nat.{zero-add, suc-add}
 use native.Mathlib.Omega.{arith}
 use native.Mathlib.Decide.{decLt}
 use borrow.Author.Tests.{le-leb}
 use lib.Dec.{T}
 use lib.ListN.{length, take, drop, replicate, length-map, length-append}
 use lib.Seq.{take-at, drop-at}
-use Rattle.meaning.specs.Labels.{Label, number}
+use Rattle.meaning.specs.Labels.{Label, number, inWords}
 use Rattle.meaning.specs.Descriptions as D
 use Rattle.meaning.specs.Legal.{Legal}
 use Rattle.meaning.specs.Rounds.{Rounds, roundSets}
@@ -24,17 +24,19 @@ use Rattle.meaning.proofs.Answers.{answer-right}
 use Rattle.sets.proofs.Refinement.{AllPack}
 use Rattle.table.specs.declared.Order.{Order}
 use Rattle.areas.specs.Areas.{zeroed}
+use Rattle.areas.specs.Rows.{held}
 use Rattle.table.specs.Encoded.{slotOf, orderWords, orderFor}
 use Rattle.table.specs.Holding.{rootIn, Holds, HoldsOrder}
 use Rattle.table.proofs.Holdings.{slots-held}
 use Rattle.areas.proofs.Zeroes.{zeroed-front}
-use Rattle.cutting.specs.Cutting.{put, cutWords, cutInto, whereRoom}
+use Rattle.areas.proofs.Held.{held-append, held-inWords, length-inWords}
+use Rattle.cutting.specs.Cutting.{put, cutLabels, cutInto, whereRoom}
 use Rattle.deltas.specs.Deltas.{overIn}
 use Rattle.deltas.proofs.Passing.{over-in, few-labels, few-packs}
 use Rattle.extents.specs.Extents.{partAt, wordsIn}
 use Rattle.stability.specs.declared.Last.the-variants as L
 use Rattle.stability.specs.Running.{Ready, Ran}
-use Rattle.stability.proofs.Runs.{ready-zeros}
+use Rattle.stability.proofs.Runs.{ready-zeros, length-zeros}
 use Rattle.stability.specs.declared.Found.the-variants as F
 use Rattle.keeping.specs.Settling.{whole, alone}
 use Rattle.stability.specs.Endings.{foundOf, labelsOf, Reached}
@@ -50,7 +52,9 @@ order-all (D.only ls) = refl
 
 order-list : (o : D.Order) (own : List ℕ) → take (length (orderWords o)) own ≡ orderWords o → listIn own (orderFor o) ≡ listOf o
 order-list D.all own e = refl
-order-list (D.only ls) own e = ap (λ (n : ℕ). take n own) (mul-one (length ls) ∙ sym (length-map ls number)) ∙ e
+order-list (D.only ls) own e =
+    let count : length ls * 2 ≡ length (inWords (map number ls)) = omega (arith, length-inWords (map number ls), length-map ls number) in
+    ap (λ (n : ℕ). held (take n own)) count ∙ ap held e ∙ held-inWords (map number ls)
 
 -- The set at the start of the work area.
 abbrev zeros : ℕ → List ℕ
@@ -85,33 +89,34 @@ module _ (d : D.Description) (o : D.Order) (k : ℕ) (labels : List Label) (l : 
   root-packs = rw (c .1) (few-packs 2048 (roundSets d k) few (D.names d) (d .root) (round-full d k (d .root)))
 
   module _ {order : Order} {own set : List ℕ} (area : List ℕ) (g : HoldsOrder o order own)
-      (e : set ≡ map number labels) (room : length labels ≤ length area) where
-    cut-words : cutInto (allIn order) (listIn own order) set area ≡ map number (cut o labels)
+      (e : set ≡ map number labels) (room : length labels ≤ length area / 2) where
+    cut-words : cutInto (allIn order) (listIn own order) set (length area / 2) ≡ map number (cut o labels)
     cut-words =
-        let fits : length set ≤ length area = omega (arith, ap length e, length-map labels number) in
+        let fits : length set ≤ length area / 2 = omega (arith, ap length e, length-map labels number) in
         let list = listIn own (orderFor o) in
         rw (g .ordered)
-        (ap (λ (t : Bool). whereRoom t (cutWords (allIn (orderFor o)) list set)) (le-leb (length set) (length area) fits)
-        ∙ ap₂ (λ (t : Bool) (v : List ℕ). cutWords t v set) (order-all o) (order-list o own (g .labels))
-        ∙ ap (cutWords (isAll o) (listOf o)) e
+        (ap (λ (t : Bool). whereRoom t (cutLabels (allIn (orderFor o)) list set)) (le-leb (length set) (length area / 2) fits)
+        ∙ ap₂ (λ (t : Bool) (v : List ℕ). cutLabels t v set) (order-all o) (order-list o own (g .labels))
+        ∙ ap (cutLabels (isAll o) (listOf o)) e
         ∙ cut-number (D.names d) o labels (l .order) root-packs)
 
     listed-right : {area′ : List ℕ} {n : ℕ} → Listing set order own area area′ n
         → (A.Listed k n ≡ alphabetOf (answer d o)) × (area′ ≡ answerArea (answer d o) area)
     listed-right t = rw (c .0) (
       ap (A.Listed k) (t .1 ∙ ap length cut-words ∙ length-map (cut o labels) number),
-      t .0 ∙ ap (λ (ws : List ℕ). put ws area) cut-words,
+      t .0 ∙ ap (λ (ws : List ℕ). put (inWords ws) area) cut-words,
     )
 
 -- The call: an area too short, a limit passed, an answer.
 module _ {table lists : List ℕ} {order : Order} {own work area : List ℕ} where
-  pub answered-short : length area < 1024 → Answered table lists order own work area work area A.TooLarge
+  pub answered-short : length area < 2048 → Answered table lists order own work area work area A.TooLarge
   answered-short h = record { short = λ x. (refl, refl, refl); right = λ d o l e g room m. absurd (omega arith) }
 
-  module _ (most : 1024 ≤ length area) where
+  module _ (most : 2048 ≤ length area) where
     pub answered-large : {work′ : List ℕ}
         → Reached table lists work work′ F.TooLarge
         → Answered table lists order own work area work′ area A.TooLarge
+    unfolding inWords
     answered-large {work′} p =
         record {
           short = λ x. elim x [ inl h ↦ (refl, p .short h .1, refl) | inr h ↦ absurd (omega arith) ];
@@ -122,18 +127,19 @@ module _ {table lists : List ℕ} {order : Order} {own work area : List ℕ} whe
         by : (d : D.Description) (o : D.Order) (x : Outcome)
             → Cuts d o x (answer d o)
             → F.TooLarge ≡ foundOf x
-            → work′ ≡ alone (map number (labelsOf x)) work
+            → work′ ≡ alone (inWords (map number (labelsOf x))) work
             → (A.TooLarge ≡ alphabetOf (answer d o)) × (area ≡ answerArea (answer d o) area) × (work′ ≡ alone [] work)
         by d o tooLarge c e w = rw c (refl, refl, w)
         by d o (listed j labels) c e w = absurd (let z : _≡_ {A = ℕ} 0 1 = cc in omega arith)
 
-    pub answered-listed : {now set work′ area′ : List ℕ} {k count n : ℕ}
+    pub answered-listed : {now set work′ area′ : List ℕ} {k count used n : ℕ}
         → Reached table lists work now (F.At k count)
-        → set ≡ wordsIn (record { from = 0; to = count }) now
+        → set ≡ wordsIn (record { from = 0; to = count }) (held now)
+        → used ≡ length set
         → Listing set order own area area′ n
-        → work′ ≡ zeroed count now
+        → work′ ≡ zeroed (2 * used) now
         → Answered table lists order own work area work′ area′ (A.Listed k n)
-    answered-listed {now} {set} {work′} {area′} {k} {count} {n} p taken q w =
+    answered-listed {now} {set} {work′} {area′} {k} {count} {used} {n} p taken all q w =
         record {
           short = λ x. elim x [
             | inl h ↦ absurd (let s = p .short h .0 in let z : _≡_ {A = ℕ} 0 1 = cc in omega arith)
@@ -149,20 +155,24 @@ module _ {table lists : List ℕ} {order : Order} {own work area : List ℕ} whe
             → (x : Outcome)
             → Cuts d o x (answer d o)
             → F.At k count ≡ foundOf x
-            → now ≡ alone (map number (labelsOf x)) work
+            → now ≡ alone (inWords (map number (labelsOf x))) work
             → (A.Listed k n ≡ alphabetOf (answer d o)) × (area′ ≡ answerArea (answer d o) area) × (work′ ≡ alone [] work)
         by d o l g tooLarge c e v = absurd (let z : _≡_ {A = ℕ} 0 1 = cc in omega arith)
         by d o l g (listed j labels) c e v =
             let found = map number labels in
+            let words = inWords found in
+            let behind = zeros (whole - length words) ++ drop whole work in
             let same : k ≡ j = cc in
             let size : length found ≡ count = length-map labels number ∙ (cc) in
             let small = root-few d o j labels l c in
-            let few : count ≤ whole = omega (arith, length-map labels number) in
-            let start : set ≡ found = taken ∙ ap (take count) v ∙ take-at found (zeros (whole - length found) ++ drop whole work) count size in
+            let there : held now ≡ found ++ held behind =
+            ap held v ∙ held-append (length found) words behind (length-inWords found) ∙ ap (λ (s : List ℕ). s ++ held behind) (held-inWords found) in
+            let start : set ≡ found = taken ∙ ap (take count) there ∙ take-at found (held behind) count size in
+            let long : length words ≡ 2 * used = omega (arith, length-inWords found, all, ap length start) in
             let right = listed-right d o j labels l c area g start (omega arith) q in (
               ap (λ (i : ℕ). A.Listed i n) same ∙ right .0,
               right .1,
-              w ∙ ap (zeroed count) v ∙ alone-cleared found work count size few,
+              w ∙ ap (zeroed (2 * used)) v ∙ alone-cleared words work (2 * used) long (omega (arith, length-inWords found, length-map labels number)),
             )
 
 -- The call in small areas: no room, or an answer.
@@ -170,8 +180,8 @@ module _ {table lists : List ℕ} {order : Order} {own area : List ℕ} where
   pub few-large : AnsweredFew table lists order own area area A.TooLarge
   few-large = record { unchanged = λ e. refl; right = λ d o l h g k n e. absurd (let z : _≡_ {A = ℕ} 0 1 = cc in omega arith) }
 
-  pub few-listed : {slots sets news work log out set area′ : List ℕ} {k n : ℕ} {root : ℕ} → 96 ≤ length area
-      → Ran table lists (zeros 16) (zeros 34) (zeros 224) (zeros 192) (zeros 96) (zeros 96) slots sets news work log out (L.Stable k)
+  pub few-listed : {slots sets news work log out set area′ : List ℕ} {k n : ℕ} {root : ℕ} → 192 ≤ length area
+      → Ran table lists (zeros 16) (zeros 34) (zeros 224) (held (zeros 384)) (held (zeros 192)) (held (zeros 192)) slots sets news work log out (L.Stable k)
       → root ≡ rootIn table → set ≡ wordsIn (partAt sets root) work → Listing set order own area area′ n
       → AnsweredFew table lists order own area area′ (A.Listed k n)
   few-listed {sets = sets} {work = work} {set = set} {k = k} room run e taken q = record {
@@ -183,13 +193,16 @@ module _ {table lists : List ℕ} {order : Order} {own area : List ℕ} where
         let start : set ≡ map number (x .labels) = taken ∙ ap (λ (t : ℕ). wordsIn (partAt sets t) work) (e ∙ h .rooted) ∙ x .words in
         let cuts = subst (λ (y : Outcome). Cuts d o y (answer d o)) (x .outcome) (cuts-to d o) in
         let small = x .few in
-        let right = listed-right d o k (x .labels) l cuts area g start (omega arith) q in
+        let right = listed-right d o k (x .labels) l cuts area g start (omega (arith, length-zeros 192)) q in
         (sym z ∙ right .0, right .1);
   }
     where
-      few-ready : (terms : ℕ) → terms ≤ 16 → Ready terms (zeros 16) (zeros 34) (zeros 224) (zeros 192) (zeros 96) (zeros 96)
+      few-ready : (terms : ℕ) → terms ≤ 16 → Ready terms (zeros 16) (zeros 34) (zeros 224) (held (zeros 384)) (held (zeros 192)) (held (zeros 192))
       few-ready terms h =
-          ready-zeros terms 34 224 96 96 (zeros 16) (zeros 192) (omega arith) (omega arith) (omega arith) (omega arith) (omega arith) (omega arith)
+          let halves = length-zeros 384 in
+          let one = length-zeros 192 in
+          ready-zeros terms 34 224 (zeros 16) (held (zeros 384)) (held (zeros 192)) (held (zeros 192)) (omega arith) (omega arith) (omega arith)
+          (omega arith) (omega arith) (omega arith)
 
       -- a table of more terms has no stable round here
       few-slots : (terms : ℕ) → (16 < terms → L.Stable k ≡ L.TooLarge) → terms ≤ 16
@@ -214,7 +227,7 @@ module _ (table lists : List ℕ) (order : Order) (own work area work₁ area₁
       → (r₁ ≡ r₂) × (area₁ ≡ area₂) × (work₁ ≡ work₂)
   answered-unique d o l e g = elim (decLt (length work) whole) [
     | yes h ↦ too-short (inl h)
-    | no h ↦ elim (decLt (length area) 1024) [
+    | no h ↦ elim (decLt (length area) 2048) [
       | yes k ↦ too-short (inr k)
       | no k ↦
           same (alphabetOf (answer d o)) (answerArea (answer d o) area) (alone [] work)
@@ -223,7 +236,7 @@ module _ (table lists : List ℕ) (order : Order) (own work area work₁ area₁
     ]
   ]
     where
-      too-short : (length work < whole) ⊎ (length area < 1024) → (r₁ ≡ r₂) × (area₁ ≡ area₂) × (work₁ ≡ work₂)
+      too-short : (length work < whole) ⊎ (length area < 2048) → (r₁ ≡ r₂) × (area₁ ≡ area₂) × (work₁ ≡ work₂)
       too-short h = let a = p .short h in let b = q .short h in same A.TooLarge area work (a .0, a .2, a .1) (b .0, b .2, b .1)
 
 outcome-rounds : (d : D.Description) (o : D.Order) (x : Outcome) (k n : ℕ)
@@ -241,7 +254,7 @@ pub answered-rounds : (table lists : List ℕ) (order : Order) (own work area wo
     → Holds d table lists
     → HoldsOrder o order own
     → whole ≤ length work
-    → 1024 ≤ length area
+    → 2048 ≤ length area
     → Rounds d k × (k ≤ 2049)
 answered-rounds table lists order own work area work′ area′ k n p d o l e g room most =
     outcome-rounds d o (answer d o) k n (answer-right d o) (p .right d o l e g room most .0)

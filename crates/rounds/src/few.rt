@@ -18,11 +18,10 @@ pub const FEW_TERMS: usize = 16;
 // The numbers that say where the sets of that many terms stand, and where their half ends.
 const FEW_ROW: usize = 34;
 
-// How many labels all sets may have together.
-pub const FEW_LABELS: usize = 96;
+// The words of as many labels as all sets may have together, which are 96; and of two halves, each with room for that many.
+pub const FEW_WORDS: usize = 192;
 
-// Two halves, each with room for that many labels.
-const FEW_WORDS: usize = 192;
+const FEW_HALVES: usize = 384;
 
 // That the alphabet is too large means no more here than that there was no room: then nothing is written.
 pub fn alphabet_of_few(
@@ -34,15 +33,15 @@ pub fn alphabet_of_few(
 ) -> Answer
     ensures { λ r. ⌜ AnsweredFew (now (table .entry)) (now (lists .entry)) order (now (listed .entry)) (now (answer .entry)) (now (answer .exit)) r ⌝ }
 {
-    if answer.len() < FEW_LABELS {
+    if answer.len() < FEW_WORDS {
         return Answer::TooLarge;
     }
     let mut slots = [0u64; FEW_TERMS];
     let mut sets = [0usize; FEW_ROW];
     let mut news = [0usize; NEWS_ROW];
-    let mut work = [0u64; FEW_WORDS];
-    let mut log = [0u64; FEW_LABELS];
-    let mut out = [0u64; FEW_LABELS];
+    let mut work = [0u64; FEW_HALVES];
+    let mut log = [0u64; FEW_WORDS];
+    let mut out = [0u64; FEW_WORDS];
     let last = run(
         table,
         lists,

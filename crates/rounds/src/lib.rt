@@ -4,7 +4,9 @@ mod listing;
 
 use crate::listing::cut_to;
 use areas::clear;
+use areas::rows::labels_in;
 use extents::labels_of;
+use labels::LABEL_WORDS;
 use parts::Part;
 use stability::Found;
 use stability::until_stable;
@@ -14,7 +16,7 @@ ghost use Rattle.rounds.specs.Alphabets.{Answered};
 // The words that are used of the work area, and the words that the answer may take.
 pub const WORK_WORDS: usize = stability::WORK_WORDS;
 
-pub const ANSWER_WORDS: usize = 1024;
+pub const ANSWER_WORDS: usize = 2048;
 
 // A limit is passed; or the round count, and how many labels are listed.
 pub enum Answer {
@@ -44,7 +46,8 @@ pub fn alphabet(
         return Answer::TooLarge;
     };
     let set = labels_of(work, Part { from: 0, to: count });
+    let used = LABEL_WORDS * labels_in(set);
     let labels = cut_to(order, listed, set, answer);
-    clear(work, count);
+    clear(work, used);
     Answer::Listed(rounds, labels)
 }

@@ -32,12 +32,12 @@ exchangesIn ls = exchangesBefore ls (length ls)
 
 -- A label with the left side of a rule replaced by its right side.
 abbrev pub replacedBy : Exchange → ℕ → ℕ
-replacedBy r w = (w - r .left + r .right) % 2 ^ 64
+replacedBy r w = (w - r .left + r .right) % 2 ^ 124
 
--- Whether a rule can be applied to what is left of a label: it takes something, in one word, and that lies inside. So every
+-- Whether a rule can be applied to what is left of a label: it takes something, which two words hold, and that lies inside. So every
 -- application leaves less.
 abbrev pub applies : Exchange → ℕ → Bool
-applies r rest = not (eqb (r .left) 0) && (ltb (r .left) (2 ^ 64) && inside (bag (r .left)) (bag rest))
+applies r rest = not (eqb (r .left) 0) && (ltb (r .left) (2 ^ 124) && inside (bag (r .left)) (bag rest))
 
 -- Where a rule leads from a state: it must apply, and the label that is made must not be one of those that are followed by
 -- themselves.

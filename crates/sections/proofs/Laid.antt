@@ -134,8 +134,8 @@ drop-put-back n at m part area e l h =
 
 -- Lists of terms: one more.
 pub lists-more : (n : ℕ) (ts : List D.Term) (t : D.Term) (lists : List ℕ)
-    → listsOver n (ts ++ (t ∷ [])) lists ≡ laidAt (32 * (n + length ts)) (termWords t) (listsOver n ts lists)
+    → listsOver n (ts ++ (t ∷ [])) lists ≡ laidAt (64 * (n + length ts)) (termWords t) (listsOver n ts lists)
 unfolding listsOver
-lists-more n [] t lists = ap (λ k. laidAt (32 * k) (termWords t) lists) (sym (add-zero n))
-lists-more n (u ∷ ts) t lists = lists-more (suc n) ts t (laidAt (32 * n) (termWords u) lists)
-    ∙ ap (λ k. laidAt (32 * k) (termWords t) (listsOver (suc n) ts (laidAt (32 * n) (termWords u) lists))) (omega arith)
+lists-more n [] t lists = ap (λ k. laidAt (64 * k) (termWords t) lists) (sym (add-zero n))
+lists-more n (u ∷ ts) t lists = lists-more (suc n) ts t (laidAt (64 * n) (termWords u) lists)
+    ∙ ap (λ k. laidAt (64 * k) (termWords t) (listsOver (suc n) ts (laidAt (64 * n) (termWords u) lists))) (omega arith)

@@ -3,7 +3,7 @@
 pub mod Laid
 -- names-after-counts, names-after-terms, names-after-foot, equations-after-counts: what stands where once a section is laid over the table
 pub mod Places
--- operator-fits, list-fits: lists have at most 32 words
+-- operator-fits, list-fits: lists have at most 64 words
 pub mod ListLengths
 -- rest-within, rest-to, rest-bad, goes-on, stops-there: the rest of a text, and what follows a section of lines
 pub mod Lent

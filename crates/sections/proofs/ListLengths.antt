@@ -1,4 +1,4 @@
--- A term's line that has no fault has a list of at most 32 words.
+-- A term's line that has no fault has a list of at most 64 words.
 -- Assumes nothing.
 use mathlib.Core.Path.{_≡_, sym, subst}
 use mathlib.Core.List.{List, [], _∷_, map}
@@ -9,6 +9,7 @@ use Rattle.meaning.specs.Bytes.{Text}
 use Rattle.meaning.specs.Labels.{number}
 use Rattle.meaning.specs.Descriptions as D
 use Rattle.meaning.specs.Legal.{Each, LegalOperator}
+use Rattle.areas.proofs.Held.{length-inWords}
 use Rattle.table.specs.Encoded.{pairWord, operatorWords, termWords}
 use Rattle.table.proofs.PackedTerms.{rising-few, rising-pairs}
 use Rattle.table.proofs.TableTerms.{length-ruleWords}
@@ -21,16 +22,16 @@ use Rattle.grammar.proofs.Items.{item, items-say, weigh-alike}
 use Rattle.grammar.proofs.Atoms.{known-says}
 use Rattle.grammar.proofs.TermLines.{Sayable, writes-term}
 
--- A legal list has at most 32 words.
-pub operator-fits : (names : ℕ) → names ≤ 12 → (o : D.Operator) → LegalOperator names o → length (operatorWords o) ≤ 32
+-- A legal list has at most 64 words: those of 32 labels.
+pub operator-fits : (names : ℕ) → names ≤ 24 → (o : D.Operator) → LegalOperator names o → length (operatorWords o) ≤ 64
 operator-fits names few (D.block ns) l = omega (arith, rising-few names ns (l .2) (l .1))
 operator-fits names few (D.hide ns) l = omega (arith, rising-few names ns (l .2) (l .1))
 operator-fits names few (D.rename ps) l = omega (arith, rising-pairs names ps (l .1) (l .2), length-map ps pairWord)
 operator-fits names few (D.comm rs) l = omega (arith, length-ruleWords rs, l .1)
-operator-fits names few (D.allow ls) l = omega (arith, length-map ls number, l .0)
+operator-fits names few (D.allow ls) l = omega (arith, length-inWords (map number ls), length-map ls number, l .0)
 
 -- A line without names has a term that is said without any.
-sayable-few : (t : D.Term) → Sayable 0 t → length (termWords t) ≤ 32
+sayable-few : (t : D.Term) → Sayable 0 t → length (termWords t) ≤ 64
 sayable-few (D.act a) l = zero-le
 sayable-few D.tau l = zero-le
 sayable-few D.delta l = zero-le
@@ -62,13 +63,13 @@ module _ {X Y : Type 0} (says : X → Y) (own : X → Found) (from : X → ℕ) 
   ones-few : (limit : ℕ) (xs : List X) → IsFine (itemsFault limit (map (item says own from key (λ _. 1) limit) xs)) → length (map says xs) ≤ limit
   ones-few limit xs f = omega (arith, items-say says own from key (λ _. 1) limit xs .0 f .2, weigh-alike 1 (map says xs))
 
-module _ (words : List Text) (few : length words ≤ 12) where
-  names-few : (ws : List (Placed Text)) → IsFine (wordsFault words ws) → length (map (λ w. nameNumber words (w .it)) ws) ≤ 12
+module _ (words : List Text) (few : length words ≤ 24) where
+  names-few : (ws : List (Placed Text)) → IsFine (wordsFault words ws) → length (map (λ w. nameNumber words (w .it)) ws) ≤ 24
   unfolding wordsFault
   names-few ws f =
       omega (arith, keys-few (λ w. nameNumber words (w .it)) (nameFault words) (λ w. w .from) (λ n. n) (length words) (λ w. known-says words w .0) ws f)
 
-  list-few : (l : Listed) → IsFine (listFault words l) → length (operatorWords (operatorSaid words l)) ≤ 32
+  list-few : (l : Listed) → IsFine (listFault words l) → length (operatorWords (operatorSaid words l)) ≤ 64
   unfolding pairsFault rulesFault labelsFault
   list-few (block ws) f = omega (arith, names-few ws f)
   list-few (hide ws) f = omega (arith, names-few ws f)
@@ -81,9 +82,10 @@ module _ (words : List Text) (few : length words ≤ 12) where
       omega (arith, length-ruleWords (map (λ r. ruleSaid words (r .it)) rs))
   list-few (allow ls) f =
       let n = ones-few (λ l. labelSaid words (l .it)) (λ l. labelFault words (l .from) (l .it)) (λ l. l .from) number 32 ls f in
-      omega (arith, length-map (map (λ l. labelSaid words (l .it)) ls) number)
+      let labels = map (λ l. labelSaid words (l .it)) ls in
+      omega (arith, length-inWords (map number labels), length-map labels number)
 
-  line-few : (s r : Text) (l : Line) → termLine s ≡ past l r → IsFine (wordsOfFault words l) → length (termWords (termSaid words l)) ≤ 32
+  line-few : (s r : Text) (l : Line) → termLine s ≡ past l r → IsFine (wordsOfFault words l) → length (termWords (termSaid words l)) ≤ 64
   unfolding wordsOfFault
   line-few s r (plain t at) e f =
       let m = writes-term [] (tt, tt, tt) .sound s .holds (plain t at) r e tt in rw (m .builds) (sayable-few (m .source) (m .legal))
@@ -91,7 +93,7 @@ module _ (words : List Text) (few : length words ≤ 12) where
   line-few s r (wraps l t) e f = list-few l f
 
   pub list-fits : (equations n : ℕ) (s r : Text) (l : Line) → termLine s ≡ past l r → termFault words equations n l ≡ fine
-      → length (termWords (termSaid words l)) ≤ 32
+      → length (termWords (termSaid words l)) ≤ 64
   unfolding termFault
   list-fits equations n s r l q e =
       line-few s r l q (fine-worse (wordsOfFault words l) (rangeFault equations n (termSaid words l) (placesOf l)) .0 (subst IsFine (sym e) tt) .0)

@@ -11,20 +11,20 @@ use Rattle.lists.specs.Lists.{overlaid}
 unfoldable pub laidAt : ℕ → (words area : List ℕ) → List ℕ
 laidAt at words area = take at area ++ overlaid words (drop at area)
 
--- the lists of terms from the n-th on, each in the 32 words of its number
+-- the lists of terms from the n-th on, each in the 64 words of its number
 unfoldable pub listsOver : ℕ → List D.Term → List ℕ → List ℕ
 listsOver n [] lists = lists
-listsOver n (t ∷ ts) lists = listsOver (suc n) ts (laidAt (32 * n) (termWords t) lists)
+listsOver n (t ∷ ts) lists = listsOver (suc n) ts (laidAt (64 * n) (termWords t) lists)
 
 -- The table of a description, section after section, each over what was there.
 abbrev pub withCounts : (words : List (List ℕ)) (equations terms : ℕ) → List ℕ → List ℕ
 withCounts words equations terms table = laidAt 0 (length words ∷ equations ∷ terms ∷ []) (laidAt 4 (map wordOf words) table)
 
 abbrev pub withTerms : List D.Term → List ℕ → List ℕ
-withTerms terms table = laidAt 32 (map slotOf terms) table
+withTerms terms table = laidAt 44 (map slotOf terms) table
 
 abbrev pub withFoot : (bodies : List ℕ) (root : ℕ) → List ℕ → List ℕ
-withFoot bodies root table = laidAt 3 (root ∷ []) (laidAt 16 bodies table)
+withFoot bodies root table = laidAt 3 (root ∷ []) (laidAt 28 bodies table)
 
 abbrev pub tableAfter : D.Description → List ℕ → List ℕ
 tableAfter d table = withFoot (d .bodies) (d .root) (withTerms (d .terms) (withCounts (d .words) (length (d .bodies)) (length (d .terms)) table))

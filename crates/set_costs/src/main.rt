@@ -7,7 +7,7 @@ use images::imaging::add_image;
 use labels::bags::single;
 use libc::STDOUT_FILENO;
 use merging::joining::union_of;
-use parts::MOST_LABELS;
+use parts::MOST_WORDS;
 use parts::Part;
 use sets::Built;
 use sets::inserting::insert;
@@ -38,8 +38,8 @@ fn show(text: &[u8], n: usize) {
 
 // The dies, from one that starts, is done or is busy up to sixteen.
 fn show_dies() {
-    let mut dies = [0u64; MOST_LABELS];
-    let mut twice = [0u64; MOST_LABELS];
+    let mut dies = [0u64; MOST_WORDS];
+    let mut twice = [0u64; MOST_WORDS];
     insert(&mut dies, at_start(0), single(0));
     insert(&mut dies, at_start(1), single(1));
     insert(&mut dies, at_start(2), single(2));
@@ -55,9 +55,43 @@ fn show_dies() {
 fn main() {
     show_dies();
     // a:2>a a:2>b a:3>a a:3>b a:1.b:1>a a:1.b:1>b b:2>a b:2>b on a:31
-    let rules = [2u64, 1, 2, 32, 3, 1, 3, 32, 33, 1, 33, 32, 64, 1, 64, 32];
-    let operand = [31u64];
-    let mut set = [0u64; MOST_LABELS];
+    // the words of a label, lower and upper, stand together
+    let rules = [
+        2u64,
+        0,
+        1,
+        0,
+        2,
+        0,
+        32,
+        0,
+        3,
+        0,
+        1,
+        0,
+        3,
+        0,
+        32,
+        0,
+        33,
+        0,
+        1,
+        0,
+        33,
+        0,
+        32,
+        0,
+        64,
+        0,
+        1,
+        0,
+        64,
+        0,
+        32,
+        0,
+    ];
+    let operand = [31u64, 0];
+    let mut set = [0u64; MOST_WORDS];
     let made = add_image(Way::Comm, &rules, &operand, &operand, &mut set, 0);
     show(b"communicated=", count(made));
 }

@@ -24,5 +24,5 @@ pub mod Presence
 pub mod Refinement
 -- taken-outcome: the same of a label that is offered
 pub mod Outcomes
--- placed-unique, entered-unique, grown-unique: any two results are equal, and the words that they leave
+-- placed-unique, entered-unique, grown-unique: any two results are equal, and the labels that they leave
 pub mod Uniqueness

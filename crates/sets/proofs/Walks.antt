@@ -8,10 +8,11 @@ use native.Mathlib.Numerals.{add-one}
 use native.Mathlib.Omega.{arith}
 use lib.ListN.{length, getD, take, drop, length-take, drop-of-length-le}
 use lib.Seq.{take-take, take-all, slice-cons}
+use Rattle.labels.specs.Packing.{code, packed}
+use Rattle.labels.proofs.Codes.{code-of}
 use Rattle.sets.specs.declared.Built.{Built}
 use Rattle.sets.specs.declared.Built.the-variants.{TooLarge, Holds}
 use Rattle.labels.specs.declared.Label.{Label}
-use Rattle.labels.specs.Packing.{packed}
 use Rattle.parts.specs.declared.Part.{Part}
 use Rattle.parts.specs.declared.Target.{Target}
 use Rattle.parts.specs.Parts.{setAt, laid, partBefore, wordsOf, roomAt, reachOf}
@@ -66,31 +67,31 @@ module _ {step : ℕ → ℕ → List ℕ → Building} {at most : ℕ} {before 
 
   -- a label is read and goes through a step that a function takes
   module _ (steady : (room w : ℕ) → Steady room (step room w)) (l : i < end) {label : Label} (read : label ≡ packed (getD now i 0))
-      {after : List ℕ} {r : Built} (g : Grown (step (roomAt at most (length now)) (label .word)) at count now after r) where
+      {after : List ℕ} {r : Built} (g : Grown (step (roomAt at most (length now)) (code label)) at count now after r) where
     abbrev rest : List ℕ → Building
     rest = each stepHere (drop (i + 1) (take end before))
 
-    read-before : label .word ≡ getD before i 0
+    read-before : code label ≡ getD before i 0
     read-before =
         let b = x .within in
-        label .word
-        ≡⟨ ap (λ (a : Label). a .word) read ⟩ getD now i 0
+        code label
+        ≡⟨ code-of read ⟩ getD now i 0
         ≡⟨ ap (λ (ls : List ℕ). getD ls i 0) (x .going .held) ⟩ getD (laid at (x .going .set) before) i 0
         ≡⟨ getD-laid at (x .going .set) before i (omega arith) (omega arith) ⟩ getD before i 0 ∎
 
-    walk-going : Going at before now count (λ s. andThen (stepHere (label .word) s) rest) (each stepHere (drop from (take end before)) (setAt at start before))
+    walk-going : Going at before now count (λ s. andThen (stepHere (code label) s) rest) (each stepHere (drop from (take end before)) (setAt at start before))
     unfolding each
     walk-going = going-as _ (x .going) (λ s. rw (slice-cons i end before 0 l (x .within .1), ← read-before, add-one i))
 
     pub walk-holds : {n : ℕ} → r ≡ Holds n → Walk step at most before start end from after n (i + 1)
     walk-holds {n} f = record {
       within = x .within;
-      going = going-holds most (λ room. step room (label .word)) rest (λ room. steady room (label .word)) walk-going g n f;
+      going = going-holds most (λ room. step room (code label)) rest (λ room. steady room (code label)) walk-going g n f;
     }
 
     pub walk-large : r ≡ TooLarge → Walked after TooLarge
     walk-large f =
-        let q = going-large most (λ room. step room (label .word)) rest (λ room. steady room (label .word)) walk-going g f in
+        let q = going-large most (λ room. step room (code label)) rest (λ room. steady room (code label)) walk-going g f in
         record { answer = q .0; words = q .1 }
 
 -- The part that was to be walked over, as far as it lies before the set, and the set, as far as it lies in the list.

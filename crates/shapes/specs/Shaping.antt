@@ -11,7 +11,7 @@ use Rattle.shapes.specs.declared.Shape.the-variants.{Empty, Leaf, Body, 
 abbrev pub shapeFor : Term → Shape
 shapeFor Delta = Empty
 shapeFor Tau = Leaf (packed 0)
-shapeFor (Act a) = Leaf (packed (number (single 12 a)))
+shapeFor (Act a) = Leaf (packed (number (single 24 a)))
 shapeFor (Ref e) = Body e
 shapeFor (Sum t) = One t
 shapeFor (Cond t) = One t

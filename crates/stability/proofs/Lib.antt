@@ -8,7 +8,7 @@ pub mod Rounding
 pub mod Starting
 -- copying-start, copying-step, copying-end: the loop of `copy`
 pub mod Copies
--- copied-merged, ran-unready, ran-turned: the promise of `run`; ready-zeros: areas of zeros that are enough
+-- copied-merged, ran-unready, ran-turned: the promise of `run`; ready-zeros: areas that are enough, with rows of zeros; length-zeros
 pub mod Runs
 -- reached-short, reached-run: the promise of `until_stable`; reached-unique: it settles all
 pub mod Reaches

@@ -4,7 +4,7 @@
 use mathlib.Core.Path.{_≡_, refl, sym, ap, subst, _∙_}
 use mathlib.Core.Logic.{_⊎_, inl, inr}
 use mathlib.Core.List.{List, [], _∷_, _++_, map}
-use Prim.Native.Nat.{ℕ, zero, suc, _+_, _*_, _≤_, _<_, min}
+use Prim.Native.Nat.{ℕ, zero, suc, _+_, _*_, _/_, _≤_, _<_, min}
 use native.Mathlib.Omega.{arith}
 use lib.Dec.{T}
 use lib.ListN.{length, take, drop, replicate, length-map, length-replicate}
@@ -15,6 +15,8 @@ use Rattle.meaning.specs.Descriptions as D
 use Rattle.meaning.specs.Legal.{Legal}
 use Rattle.meaning.specs.Rounds.{roundSets}
 use Rattle.meaning.specs.Limits.{total}
+use Rattle.areas.specs.Rows.{held}
+use Rattle.areas.proofs.Held.{length-held}
 use Rattle.table.specs.Encoded.{slotOf}
 use Rattle.table.specs.Holding.{bodiesIn, slotsIn, Holds}
 use Rattle.table.proofs.Holdings.{bodies-held, slots-held}
@@ -33,28 +35,30 @@ use Rattle.stability.specs.Stages.{LastEnds, LastMade}
 use Rattle.stability.specs.Running.{Ready, RunEnds, Ran}
 use Rattle.stability.proofs.Starting.{midway-start}
 
--- Areas that were made for it, by their sizes.
+-- Rows that were made for it, by their sizes, and areas that are long enough.
 abbrev zeros : ℕ → List ℕ
 zeros n = replicate n 0
 
 clear-row : (n : ℕ) → zeros n ≡ zeros (length (zeros n))
 clear-row n = ap zeros (sym (length-replicate {A = ℕ} n 0))
 
-pub ready-zeros : (terms rows places most outs : ℕ) (slots work : List ℕ) → terms ≤ length slots → 2 * terms + 2 ≤ rows → 224 ≤ places → most ≤ 2048
-    → 2 * most ≤ length work → min 1024 most ≤ outs
-    → Ready terms slots (replicate rows 0) (replicate places 0) work (replicate most 0) (replicate outs 0)
-ready-zeros terms rows places most outs slots work a b c e f g =
-    let log-long = length-replicate {A = ℕ} most 0 in
+pub ready-zeros : (terms rows places : ℕ) (slots work log out : List ℕ) → terms ≤ length slots → 2 * terms + 2 ≤ rows → 224 ≤ places → length log ≤ 2048
+    → 2 * length log ≤ length work → min 1024 (length log) ≤ length out → Ready terms slots (replicate rows 0) (replicate places 0) work log out
+ready-zeros terms rows places slots work log out a b c e f g =
     record {
       slotted = a;
       clear = clear-row rows;
       rows = rw (length-replicate {A = ℕ} rows 0) b;
       newsClear = clear-row places;
       newsRows = rw (length-replicate {A = ℕ} places 0) c;
-      most = rw log-long e;
-      halves = rw log-long (omega arith);
-      room = rw (log-long, length-replicate {A = ℕ} outs 0) g;
+      most = e;
+      halves = omega arith;
+      room = g;
     }
+
+-- how many labels as many words of zeros hold
+pub length-zeros : (n : ℕ) → length (held (replicate n 0)) ≡ n / 2
+length-zeros n = length-held (replicate n 0) ∙ ap (λ (m : ℕ). m / 2) (length-replicate {A = ℕ} n 0)
 
 -- no set has more labels than all together
 one-of-all : (sets : List (List Label)) (t : ℕ) → length (at sets t) ≤ total sets

@@ -5,7 +5,7 @@ use mathlib.Core.Path.{_≡_}
 use mathlib.Core.List.{List, [], map}
 use Prim.Native.Nat.{ℕ, _≤_, _<_}
 use lib.ListN.{length}
-use Rattle.meaning.specs.Labels.{Label, number}
+use Rattle.meaning.specs.Labels.{Label, number, inWords}
 use Rattle.meaning.specs.Descriptions.{Description, Order, all}
 use Rattle.meaning.specs.Legal.{Legal}
 use Rattle.meaning.specs.Answers.{Outcome, tooLarge, listed, answer}
@@ -30,4 +30,4 @@ pub record Reached (table lists work work′ : List ℕ) (r : Found) : Type 0 wh
       → Legal d o
       → Holds d table lists
       → whole ≤ length work
-      → (r ≡ foundOf (answer d all)) × (work′ ≡ alone (map number (labelsOf (answer d all))) work)
+      → (r ≡ foundOf (answer d all)) × (work′ ≡ alone (inWords (map number (labelsOf (answer d all)))) work)

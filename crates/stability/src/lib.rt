@@ -6,13 +6,13 @@ mod stages;
 
 use crate::running::run;
 use crate::settling::conclude;
-use parts::MOST_LABELS;
+use parts::MOST_WORDS;
 use table::TERMS;
 use table::root_of;
 ghost use Rattle.stability.specs.Endings.{Reached};
 
 // The words that are used of the work area.
-pub const WORK_WORDS: usize = 4096;
+pub const WORK_WORDS: usize = 8192;
 
 // The numbers that say where the sets of 96 terms stand and where their half ends; and those that say where what is new in them and in
 // 16 equations does.
@@ -22,6 +22,9 @@ pub const NEWS_ROW: usize = 224;
 
 // How many labels all sets may have together.
 pub const TOTAL_LABELS: usize = 2048;
+
+// The words of as many labels.
+const TOTAL_WORDS: usize = 4096;
 
 // What the rounds come to: a limit is passed; or the number of the stable round.
 pub enum Last {
@@ -48,8 +51,8 @@ pub fn until_stable(table: &[u64], lists: &[u64], work: &mut [u64]) -> Found
     let mut slots = [0u64; TERMS];
     let mut sets = [0usize; SETS_ROW];
     let mut news = [0usize; NEWS_ROW];
-    let mut log = [0u64; TOTAL_LABELS];
-    let mut out = [0u64; MOST_LABELS];
+    let mut log = [0u64; TOTAL_WORDS];
+    let mut out = [0u64; MOST_WORDS];
     let last = run(
         table,
         lists,

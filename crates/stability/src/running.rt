@@ -2,6 +2,7 @@
 use crate::Last;
 use crate::TOTAL_LABELS;
 use crate::stages::turn_on;
+use areas::rows::labels_in;
 use syncs::merge_wholes;
 use table::bodies_of;
 use table::slots_of;
@@ -35,7 +36,7 @@ fn copy_merged(terms: &[u64], slots: &mut [u64])
     merge_wholes(&mut slots[..count]);
 }
 
-// The rounds of the description that a table and its lists hold. How many labels all sets may have together is the log's length. Where
+// The rounds of the description that a table and its lists hold. How many labels all sets may have together is how many the log holds. Where
 // the sets stand after the last round is left in `sets`, which is to be 0 before the first, as `news` is. That the areas are too short
 // is answered as if a limit were passed: a caller whose areas may be too short asks again with longer ones.
 pub fn run(
@@ -57,7 +58,7 @@ pub fn run(
     if slots.len() < count {
         return Last::TooLarge;
     }
-    if TOTAL_LABELS < log.len() {
+    if TOTAL_LABELS < labels_in(log) {
         return Last::TooLarge;
     }
     copy_merged(terms, slots);

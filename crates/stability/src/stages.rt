@@ -12,7 +12,7 @@ ghost use Rattle.stability.specs.Stages.{LastMade};
 const MOST_ROUNDS: usize = 2049;
 
 // Before the first round the rows of parts stand for empty sets, and nothing is logged. Where the sets stand after the last is left in
-// `sets`. How many labels all sets may have together is the log's length.
+// `sets`. How many labels all sets may have together is how many the log holds.
 pub fn turn_on(
     slots: &[u64],
     lists: &[u64],

@@ -13,7 +13,7 @@ use lib.ListN.{length, getD, set, length-set, replicate, getD-replicate, length-
 use lib.Seq.{getD-set-same, getD-set-other, set-out}
 use Rattle.meaning.specs.Sets.{_∈_, Rising}
 use Rattle.labels.specs.declared.Label.{Label}
-use Rattle.labels.specs.Packing.{packed}
+use Rattle.labels.specs.Packing.{code, packed}
 use Rattle.parts.specs.Parts.{setAt, mostLabels, roomAt, reachOf}
 use Rattle.parts.proofs.LaidSets.{length-setAt, setAt-reach, laid-self, setAt-laid}
 use Rattle.sets.specs.declared.Built.{Built}
@@ -137,27 +137,26 @@ now-kept {seen} {before} {after} {len} {n} slot w x g e =
     }
 
 -- A loop over a row whose labels each go through a step, with a table.
-pub record TableWalk (step : ℕ → ℕ → List ℕ → Building) (labels : List ℕ) (len : ℕ) (lent before : List ℕ) (end : ℕ) (seen now : List ℕ)
+pub record TableWalk (step : ℕ → ℕ → List ℕ → Building) (labels : List ℕ) (len : ℕ) (before : List ℕ) (end : ℕ) (seen now : List ℕ)
     (count i : ℕ) : Type 0 where
   pub walk : RowWalk step labels len before end now count i
-  pub long : length seen ≡ length lent
   pub kept : Kept seen (setAt 0 count now)
 
-pub table-start : {step : ℕ → ℕ → List ℕ → Building} {labels : List ℕ} {len : ℕ} {lent before : List ℕ} {end start : ℕ}
-    → Kept lent (setAt 0 len before) → start ≡ reachOf 0 len (length before) → end ≡ length labels
-    → TableWalk step labels len lent before end lent before start 0
-table-start {len = len} {before = before} x e f = record { walk = row-start e f; long = refl; kept = kept-reached len before e x }
+pub table-start : {step : ℕ → ℕ → List ℕ → Building} {labels : List ℕ} {len : ℕ} {seen before : List ℕ} {end start : ℕ}
+    → Kept seen (setAt 0 len before) → start ≡ reachOf 0 len (length before) → end ≡ length labels
+    → TableWalk step labels len before end seen before start 0
+table-start {len = len} {before = before} x e f = record { walk = row-start e f; kept = kept-reached len before e x }
 
-module _ {step : ℕ → ℕ → List ℕ → Building} {labels : List ℕ} {len : ℕ} {lent before : List ℕ} {end : ℕ} {seen now : List ℕ} {count i : ℕ}
-    (x : TableWalk step labels len lent before end seen now count i) where
+module _ {step : ℕ → ℕ → List ℕ → Building} {labels : List ℕ} {len : ℕ} {before : List ℕ} {end : ℕ} {seen now : List ℕ} {count i : ℕ}
+    (x : TableWalk step labels len before end seen now count i) where
   pub table-end : end ≤ i → GrownKept len (λ room. each (step room) labels) before now seen (Holds count)
   table-end h = record { grown = row-end (x .walk) h; table = λ n e. subst (λ (m : ℕ). Kept seen (setAt 0 m now)) (same-count e) (x .kept) }
 
   -- a label is read and goes through a step that a function takes
   module _ (steady : (room w : ℕ) → Steady room (step room w)) (l : i < end) {label : Label} (read : label ≡ packed (getD labels i 0))
-      {after more : List ℕ} {r : Built} (g : GrownKept count (λ room. step room (label .word)) now after more r) where
-    pub table-holds : length more ≡ length seen → {n : ℕ} → r ≡ Holds n → TableWalk step labels len lent before end more after n (i + 1)
-    table-holds long {n} e = record { walk = row-holds (x .walk) steady l read (g .grown) e; long = long ∙ x .long; kept = g .table n e }
+      {after more : List ℕ} {r : Built} (g : GrownKept count (λ room. step room (code label)) now after more r) where
+    pub table-holds : {n : ℕ} → r ≡ Holds n → TableWalk step labels len before end more after n (i + 1)
+    table-holds {n} e = record { walk = row-holds (x .walk) steady l read (g .grown) e; kept = g .table n e }
 
     pub table-large : r ≡ TooLarge → GrownKept len (λ room. each (step room) labels) before after more TooLarge
     table-large e = grown-stops (row-large (x .walk) steady l read (g .grown) e) refl

@@ -1,4 +1,4 @@
--- The sums of two rows, row by row, on words and on the numbers of labels.
+-- The sums of two rows, row by row, and what they make of the numbers of labels.
 -- Assumes nothing.
 use mathlib.Core.Path.{_≡_, refl, ap, subst}
 use mathlib.Core.Bool.{Bool, true, false}
@@ -36,12 +36,12 @@ plus-offers : {names : ℕ} (t : Bool) (c : Label) → ltb 31 (size c) ≡ t →
 plus-offers true c e w = over c (ltb-true 31 (size c) e)
 plus-offers false c e w = one c (record { wide = w; few = ltb-false 31 (size c) e })
 
-sum-offers : (names : ℕ) → names ≤ 12 → (a b : Label) → Packs names a → Packs names b
+sum-offers : (names : ℕ) → names ≤ 24 → (a b : Label) → Packs names a → Packs names b
     → Offered names (summed (sumOf (number a) (number b))) (plus a b ∷ [])
 sum-offers names few a b p q =
     rw (sum-number a b few p q) (plus-offers _ (plus a b) refl (length-plus names a b (p .wide) (q .wide)))
 
-row-outcome : (names room : ℕ) → names ≤ 12 → (a : Label) → Packs names a
+row-outcome : (names room : ℕ) → names ≤ 24 → (a : Label) → Packs names a
     → (l M : List Label) → AllPack names l → AllPack names M
     → Result names room (spread (λ b. plus a b ∷ []) l ++ M) (rowOf room (map number l) (number a) (map number (ascending M)))
 row-outcome names room few a x l M p q =
@@ -53,7 +53,7 @@ unfolding spread
 spread-turn f [] = refl
 spread-turn f (b ∷ t) = ap (λ (l : List Label). f b ∷ l) (spread-turn f t)
 
-pub sums-outcome : (names room : ℕ) → names ≤ 12 → (s t M : List Label) → AllPack names s → AllPack names t → AllPack names M
+pub sums-outcome : (names room : ℕ) → names ≤ 24 → (s t M : List Label) → AllPack names s → AllPack names t → AllPack names M
     → Result names room (product s t ++ M) (sumsOf room (map number s) (map number t) (map number (ascending M)))
 unfolding product
 sums-outcome names room few s t M p q r =

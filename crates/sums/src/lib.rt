@@ -1,6 +1,6 @@
 // Every sum of a label of one row and a label of another, put into a set that stands at the start of words of its own. Most sums of two
 // long rows come several times: those that the set is known to have are passed over.
-use crate::seen::SLOTS;
+use crate::seen::SLOTS_WORDS;
 use crate::seen::enter_once;
 use areas::rows::labels_in;
 use areas::rows::read_label;
@@ -84,7 +84,7 @@ fn add_many(a: &[u64], b: &[u64], out: &mut [u64], len: usize) -> Built
     ensures { λ r. ⌜ GrownAt (atStart len) (λ room. sumsOf room (held (now (a .entry))) (held (now (b .entry))))
         (held (now (out .entry))) (held (now (out .exit))) r ⌝ }
 {
-    let mut seen = [0u64; SLOTS];
+    let mut seen = [0u64; SLOTS_WORDS];
     add_each(a, b, &mut seen, out, len)
 }
 

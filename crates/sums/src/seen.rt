@@ -4,7 +4,6 @@ use areas::rows::label_is;
 use areas::rows::write_label;
 use extents::at_start;
 use labels::Label;
-use labels::packing::number_of;
 use labels::packing::same;
 use labels::packing::tau;
 use parts::placing::reach;
@@ -17,12 +16,16 @@ ghost use Rattle.parts.specs.Parts.{setAt};
 ghost use Rattle.sets.specs.Building.{enter};
 ghost use Rattle.sums.specs.Seen.{isKept, Kept, GrownKept};
 
-// How many slots a table has: a prime number by which nearly all labels over a few names have slots of their own.
-pub const SLOTS: usize = 3709;
+// How many slots a table has: a prime number by which nearly all labels over a few names have slots of their own. And its words.
+const SLOTS: usize = 3709;
 
-// The slot of a label. It decides on the time that is taken and on nothing else.
+pub const SLOTS_WORDS: usize = 7418;
+
+// The slot of a label: by its number while that takes one word, and else by a sum in which the upper word tells. It decides on the time
+// that is taken and on nothing else.
 fn slot(label: Label) -> usize {
-    number_of(label) as usize % SLOTS
+    let upper = std::num::wrapping_add_u64(label.upper, label.upper << 17);
+    std::num::wrapping_add_u64(label.lower, upper) as usize % SLOTS
 }
 
 // Whether a slot keeps a label; a slot past the end of the table keeps none.

@@ -164,4 +164,4 @@ pub merged-lists : (d : Description) (lists : List ℕ) → HoldsLists d lists �
 merged-lists d lists held n h =
     let same : termWords (termAt (withMerges d) n) ≡ termWords (termAt d n) = ap termWords (merged-at d n) ∙ line-words d (sync-or-other (termAt d n)) in
     let inside : n < termCount d = rw (merged-count d) at h in
-    subst (λ (ws : List ℕ). take (length ws) (drop (32 * n) lists) ≡ ws) (sym same) (held n inside)
+    subst (λ (ws : List ℕ). take (length ws) (drop (64 * n) lists) ≡ ws) (sym same) (held n inside)

@@ -20,14 +20,14 @@ entries-whole count from most n table e few =
     ap (λ (k : ℕ). take k (drop from table)) m
 
 module _ {d : D.Description} {table lists : List ℕ} (h : Holds d table lists) where
-  pub names-held : D.names d ≤ 12 → namesIn table ≡ map wordOf (d .words)
-  names-held few = entries-whole 0 4 12 (D.names d) table (h .named) few ∙ h .names
+  pub names-held : D.names d ≤ 24 → namesIn table ≡ map wordOf (d .words)
+  names-held few = entries-whole 0 4 24 (D.names d) table (h .named) few ∙ h .names
 
   pub bodies-held : D.equations d ≤ 16 → bodiesIn table ≡ d .bodies
-  bodies-held few = entries-whole 1 16 16 (D.equations d) table (h .equated) few ∙ h .bodies
+  bodies-held few = entries-whole 1 28 16 (D.equations d) table (h .equated) few ∙ h .bodies
 
   pub slots-held : D.termCount d ≤ 96 → slotsIn table ≡ map slotOf (d .terms)
-  slots-held few = entries-whole 2 32 96 (D.termCount d) table (h .counted) few ∙ h .terms
+  slots-held few = entries-whole 2 44 96 (D.termCount d) table (h .counted) few ∙ h .terms
 
 -- The word of a term and the term of the word, past the last term too; and the body of an equation.
 pub slot-of : (d : D.Description) (n : ℕ) → getD (map slotOf (d .terms)) n 0 ≡ slotOf (D.termAt d n)

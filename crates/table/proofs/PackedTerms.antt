@@ -29,7 +29,7 @@ pub rising-pairs : (m : ℕ) (ps : List D.Pair) → Each (LegalPair m) ps → Ri
 rising-pairs m ps low up = omega (arith, rising-few m (map (λ p. p .left) ps) up (lefts m ps low), length-map ps (λ (p : D.Pair). p .left))
 
 -- The terms of a legal description: every number of theirs is small. The list is that of the number asked for.
-module _ (d : D.Description) (narrow : D.names d ≤ 12) (few : D.equations d ≤ 16) (n : ℕ) (h : n < 96) (m : ℕ) where
+module _ (d : D.Description) (narrow : D.names d ≤ 24) (few : D.equations d ≤ 16) (n : ℕ) (h : n < 96) (m : ℕ) where
   listed-back : (k u entries : ℕ) → k < 32 → u < n → entries ≤ 32 → wordTerm m (packedTerm k 0 u entries) ≡ kindTerm m k 0 u entries
   listed-back k u entries s b e = wordTerm-small m k 0 u entries s (omega arith) (omega arith) (omega arith)
 

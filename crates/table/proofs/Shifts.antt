@@ -1,4 +1,4 @@
--- A number shifted up in a word by so many bits again and again: a name's bytes, the counts of a label.
+-- A number shifted up in a word by so many bits again and again: the bytes of a name.
 -- Assumes nothing.
 use mathlib.Core.Path.{_≡_, ap, _∙_}
 use Prim.Native.Nat.{ℕ, _*_, _%_, _^_, _<_}

@@ -12,7 +12,7 @@ use Rattle.table.specs.declared.Order.{Order}
 use Rattle.table.specs.declared.Order.the-variants.{All, Only}
 use Rattle.slots.specs.Packing.{termWord}
 use Rattle.meaning.specs.Bytes.{Text}
-use Rattle.meaning.specs.Labels.{number}
+use Rattle.meaning.specs.Labels.{number, lowerWord, upperWord, inWords}
 use Rattle.meaning.specs.Descriptions as D
 pub use Rattle.areas.specs.Pairs.{pairWord}
 
@@ -28,7 +28,7 @@ wordOf (b ∷ s) = b + 256 * wordOf s
 
 unfoldable pub ruleWords : List D.Rule → List ℕ
 ruleWords [] = []
-ruleWords (r ∷ rs) = number (r .left) ∷ r .right ∷ ruleWords rs
+ruleWords (r ∷ rs) = lowerWord (number (r .left)) ∷ upperWord (number (r .left)) ∷ r .right ∷ ruleWords rs
 
 -- The words of a term's list.
 abbrev pub operatorWords : D.Operator → List ℕ
@@ -36,7 +36,7 @@ operatorWords (D.block ns) = ns
 operatorWords (D.hide ns) = ns
 operatorWords (D.rename ps) = map pairWord ps
 operatorWords (D.comm rs) = ruleWords rs
-operatorWords (D.allow ls) = map number ls
+operatorWords (D.allow ls) = inWords (map number ls)
 
 abbrev pub termWords : D.Term → List ℕ
 termWords (D.act n) = []
@@ -55,7 +55,7 @@ termWords (D.wrap o t) = operatorWords o
 
 abbrev pub orderWords : D.Order → List ℕ
 orderWords D.all = []
-orderWords (D.only ls) = map number ls
+orderWords (D.only ls) = inWords (map number ls)
 
 -- A term as the code looks at it, by its number: its list is the one of that number.
 abbrev pub listPlace : {A : Type 0} → ℕ → List A → Place

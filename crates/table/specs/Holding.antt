@@ -14,20 +14,20 @@ abbrev pub entriesIn : (count from most : ℕ) → List ℕ → List ℕ
 entriesIn count from most table = take (min (getD table count 0) most) (drop from table)
 
 abbrev pub namesIn : List ℕ → List ℕ
-namesIn = entriesIn 0 4 12
+namesIn = entriesIn 0 4 24
 
 abbrev pub bodiesIn : List ℕ → List ℕ
-bodiesIn = entriesIn 1 16 16
+bodiesIn = entriesIn 1 28 16
 
 abbrev pub slotsIn : List ℕ → List ℕ
-slotsIn = entriesIn 2 32 96
+slotsIn = entriesIn 2 44 96
 
 abbrev pub rootIn : List ℕ → ℕ
 rootIn table = getD table 3 0
 
--- The list of each term, in the 32 words of its number.
+-- The list of each term, in the 64 words of its number.
 abbrev pub HoldsLists : D.Description → List ℕ → Type 0
-HoldsLists d lists = (n : ℕ) → n < D.termCount d → take (length (termWords (D.termAt d n))) (drop (32 * n) lists) ≡ termWords (D.termAt d n)
+HoldsLists d lists = (n : ℕ) → n < D.termCount d → take (length (termWords (D.termAt d n))) (drop (64 * n) lists) ≡ termWords (D.termAt d n)
 
 pub record Holds (d : D.Description) (table lists : List ℕ) : Type 0 where
   pub named : getD table 0 0 ≡ D.names d
@@ -35,8 +35,8 @@ pub record Holds (d : D.Description) (table lists : List ℕ) : Type 0 where
   pub counted : getD table 2 0 ≡ D.termCount d
   pub rooted : rootIn table ≡ d .root
   pub names : take (D.names d) (drop 4 table) ≡ map wordOf (d .words)
-  pub bodies : take (D.equations d) (drop 16 table) ≡ d .bodies
-  pub terms : take (D.termCount d) (drop 32 table) ≡ map slotOf (d .terms)
+  pub bodies : take (D.equations d) (drop 28 table) ≡ d .bodies
+  pub terms : take (D.termCount d) (drop 44 table) ≡ map slotOf (d .terms)
   pub listed : HoldsLists d lists
 
 -- An order, whose labels are the first of words of its own.

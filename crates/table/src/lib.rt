@@ -13,7 +13,7 @@ ghost use Prim.Native.Nat.{min};
 ghost use Rattle.table.specs.Encoded.{filled};
 ghost use Rattle.table.specs.Holding.{entriesIn, namesIn, bodiesIn, slotsIn, rootIn};
 
-pub const NAMES: usize = 12;
+pub const NAMES: usize = 24;
 
 pub const EQUATIONS: usize = 16;
 
@@ -31,16 +31,19 @@ pub const ROOT_AT: usize = 3;
 // The first words of the names, the bodies and the terms.
 pub const NAMES_AT: usize = 4;
 
-pub const BODIES_AT: usize = 16;
+pub const BODIES_AT: usize = 28;
 
-pub const TERMS_AT: usize = 32;
+pub const TERMS_AT: usize = 44;
 
 // The words of a table, those of the list of a term or an order, and those of the lists of as many terms as a table has room for.
-pub const TABLE_WORDS: usize = 128;
+pub const TABLE_WORDS: usize = 140;
 
-pub const LIST_WORDS: usize = 32;
+pub const LIST_WORDS: usize = 64;
 
-pub const LISTS_WORDS: usize = 3072;
+pub const LISTS_WORDS: usize = 6144;
+
+// The words of a rule: those of the label on its left, and the number of the name on its right.
+pub const RULE_WORDS: usize = 3;
 
 // What is asked for: all labels, or only those of a list.
 pub enum Order {
@@ -92,7 +95,7 @@ pub fn root_of(table: &[u64]) -> usize
 
 // The names with 0 behind them, as an answer is printed with them.
 pub fn names_by_value(table: &[u64]) -> [u64; NAMES]
-    ensures { λ r. ⌜ r ≡ filled 12 0 (namesIn (now (table .entry))) ⌝ }
+    ensures { λ r. ⌜ r ≡ filled 24 0 (namesIn (now (table .entry))) ⌝ }
 {
     let given = names_of(table);
     let mut names = [0u64; NAMES];

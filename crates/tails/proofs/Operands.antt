@@ -3,7 +3,7 @@
 use mathlib.Core.Path.{_≡_, refl, sym, ap, subst, _∙_}
 use mathlib.Core.List.{List, [], _∷_}
 use mathlib.Core.Bool.{Bool, true, false}
-use Prim.Native.Nat.{ℕ, suc, _+_, _-_, _≤_, _<_}
+use Prim.Native.Nat.{ℕ, suc, _+_, _-_, _%_, _^_, _≤_, _<_}
 use native.Mathlib.Omega.{arith}
 use lib.Dec.{eqb}
 use lib.ListN.{length, drop, length-drop}
@@ -18,7 +18,8 @@ use Rattle.table.specs.Encoded.{termWords, termFor}
 use Rattle.slots.specs.Packing.{plainOf}
 use Rattle.grammar.specs.Text.{Past, past, stuck, onward, Placed, placed, lf, ended, byte, starts, literal, number, word}
 use Rattle.grammar.specs.Forms.{Places, Line, plain, acts, space, alone, ofName, operand, ofLast, ofOne, ofTwo}
-use Rattle.grammar.specs.Faults.{nameFault, wordsOfFault, termFault}
+use Rattle.grammar.specs.Faults.{nameNumber, nameFault, wordsOfFault, termFault}
+use Rattle.labels.specs.Packing.{code}
 use Rattle.faults.proofs.Ranks.{worse-fine}
 use Rattle.words.specs.Steps.{Stands}
 use Rattle.words.proofs.Rests.{sign-within, literal-other, literal-more}
@@ -27,6 +28,7 @@ use Rattle.lists.specs.Entries.{saidOf, seen, nameEntry}
 use Rattle.lists.specs.Tallies.{Said}
 use Rattle.lists.specs.declared.Said as C
 use Rattle.lists.specs.Lists.{overlaid}
+use Rattle.lists.proofs.Parts.{name-low}
 use Rattle.tails.specs.Lines.{LineTerm, LineRead, Storeless}
 use Rattle.tails.specs.Plains.{PlainRead, madeOf, plainTail}
 use Rattle.ranges.specs.declared.Bounds.{Bounds}
@@ -222,15 +224,18 @@ module _ (words : List Text) (line : Text) where
       pub act-no-end : starts lf (drop next line) ≡ false → Stands line next (stuck (drop next line)) (ofName line)
       act-no-end k = record { says = ends (ended-not line next k); within = s .within }
 
-      pub act-line : (bounds : Bounds) (store : List ℕ) → starts lf (drop next line) ≡ true
-          → LineTerm words bounds line (ofName line) store store (Act (e .first)) (e .fault) (next + 1)
+      -- (a name's number is at most that of the names)
+      pub act-line : (bounds : Bounds) (store : List ℕ) {n : ℕ} → length words < 2 ^ 64 → n ≡ code (e .first) % 2 ^ 64 → starts lf (drop next line) ≡ true
+          → LineTerm words bounds line (ofName line) store store (Act n) (e .fault) (next + 1)
       unfolding wordsOfFault termFault
-      act-line bounds store k =
+      act-line bounds store {n} wide h k =
+          let low = name-low words (name .0 .it) in
+          let number : n ≡ nameNumber words (name .0 .it) = omega (arith, ap (λ d. d .first) (name .2)) in
           record {
             line = acts (name .0);
             says = ends (ended-here line next k);
             within = omega (arith, sign-within lf line next k);
-            term = ap (λ d. Act (d .first)) (name .2);
+            term = ap Act number;
             faults = ap (λ d. d .found) (name .2) ∙ sym (worse-fine (nameFault words (name .0)));
             stored = λ _. over-nothing store;
           }

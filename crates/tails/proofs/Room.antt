@@ -16,15 +16,15 @@ use Rattle.tails.specs.Wraps.{wrapOf, contents, wrapListed}
 use Rattle.tails.specs.Tails.{tailOf}
 
 module _ (names : List ℕ) where
-  pub many-names : (due : Past Line) (s : Text) → 12 < length names → Stands s 0 (stuck s) (withFew names due s)
-  many-names due s h = rw (lt-leb (length names) 12 h) (record { says = refl; within = omega arith })
+  pub many-names : (due : Past Line) (s : Text) → 24 < length names → Stands s 0 (stuck s) (withFew names due s)
+  many-names due s h = rw (lt-leb (length names) 24 h) (record { says = refl; within = omega arith })
 
-  module _ (few : length names ≤ 12) where
+  module _ (few : length names ≤ 24) where
     pub room : (due : Past Line) (s : Text) → due ≡ withFew names due s
-    room due s = rw (le-leb (length names) 12 few)
+    room due s = rw (le-leb (length names) 24 few)
 
     pub plain-room : (k : ℕ) (s : Text) → k < 12 → plainTail k s ≡ withFew names (tailOf k s) s
-    plain-room k s h = rw (le-leb (length names) 12 few, lt-ltb k 12 h)
+    plain-room k s h = rw (le-leb (length names) 24 few, lt-ltb k 12 h)
 
     pub wrap-room : (k : ℕ) (s : Text) → 12 ≤ k → ofList (contents (wrapOf k)) (wrapListed (wrapOf k)) s ≡ withFew names (tailOf k s) s
-    wrap-room k s h = rw (le-leb (length names) 12 few, le-ltb k 12 h)
+    wrap-room k s h = rw (le-leb (length names) 24 few, le-ltb k 12 h)

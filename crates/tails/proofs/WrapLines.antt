@@ -3,10 +3,10 @@
 use mathlib.Core.Path.{_≡_, refl, sym, ap, _∙_}
 use mathlib.Core.Bool.{Bool, true, false}
 use mathlib.Core.List.{List, [], _∷_, map}
-use Prim.Native.Nat.{ℕ, suc, _+_, _-_, _≤_}
+use Prim.Native.Nat.{ℕ, suc, _+_, _-_, _%_, _^_, _≤_, _<_}
 use native.Mathlib.Omega.{arith}
 use lib.Dec.{eqb}
-use lib.ListN.{length, drop, length-map}
+use lib.ListN.{length, drop, length-map, length-drop}
 use borrow.Author.Tests.{ne-eqb}
 use Rattle.meaning.specs.Bytes.{Text}
 use Rattle.slots.specs.declared.Place.{Place}
@@ -20,6 +20,8 @@ use Rattle.grammar.specs.Text.{Past, past, stuck, onward, Placed, placed, lf, e
 use Rattle.grammar.specs.Forms.{Line, wraps, comma, space, pair, rule, ofList}
 use Rattle.grammar.specs.Faults.{fine, worse, wordsOfFault, termFault, listFault, numberFault}
 use Rattle.grammar.specs.Faults.{operatorSaid, nameNumber, pairSaid, ruleSaid, labelSaid}
+use Rattle.grammar.proofs.Onwards.{When, when-weaken}
+use Rattle.labels.specs.Packing.{code}
 use Rattle.lists.specs.Tallies.{Said}
 use Rattle.words.specs.Steps.{Stands}
 use Rattle.faults.specs.CodedFaults.{foundOf}
@@ -34,6 +36,7 @@ use Rattle.lists.specs.declared.SaidStep.{SaidStep}
 use Rattle.lists.specs.declared.SaidStep.the-variants as S
 use Rattle.lists.specs.declared.ListKind.{ListKind}
 use Rattle.words.proofs.Rests.{sign-within, literal-other, literal-more}
+use Rattle.words.proofs.Several.{several-few, labels-several}
 use Rattle.words.proofs.Steps.{shifted, stops, back-stuck, back-past}
 use Rattle.lists.proofs.Seen.{carried, said-went, said-stays, said-within}
 use Rattle.lists.proofs.Gathered.{all-too}
@@ -75,6 +78,14 @@ listed-entries Hide words s = all-too (nameEntry words) comma (placed word) (suc
 listed-entries Rename words s = all-too (pairEntry words) comma (placed pair) (suc (length s)) s
 listed-entries Comm words s = all-too (ruleEntry words) comma (placed rule) (suc (length s)) s
 listed-entries Allow words s = labels-too words s
+
+-- no more than one for each byte, and one
+listed-few : (w : WrapKind) (words : List Text) (s : Text) → When (contents w s) (λ c r. length (entries w words c) ≤ suc (length s))
+listed-few Block words s = when-weaken (several-few comma (placed word) (suc (length s)) s) (λ c r h. rw length-map h)
+listed-few Hide words s = when-weaken (several-few comma (placed word) (suc (length s)) s) (λ c r h. rw length-map h)
+listed-few Rename words s = when-weaken (several-few comma (placed pair) (suc (length s)) s) (λ c r h. rw length-map h)
+listed-few Comm words s = when-weaken (several-few comma (placed rule) (suc (length s)) s) (λ c r h. rw length-map h)
+listed-few Allow words s = when-weaken (labels-several s) (λ c r h. rw length-map h)
 
 listed-faults : (w : WrapKind) (words : List Text) (c : ContentsOf w) → listFaults (listKind w) (entries w words c) ≡ listFault words (wrapListed w c)
 listed-faults Block words c = sym (names-faults words c)
@@ -184,13 +195,16 @@ module _ (w : WrapKind) (words : List Text) (line : Text) where
             beyond (ap (λ d. onward d (end (c .0))) (ended-not line (at + 1 + m) k) ∙ ap (λ d. onward d (after-list w t)) (c .1))
             (inside (sym (ap saidPlace g)))
 
-        pub wrap-line : (bounds : Bounds) {o : Operator} {fault : G.Found} → starts lf (drop (at + 1 + m) line) ≡ true
-            → o ≡ wrappedOf w (record { at = bounds .term; entries = said .first })
+        pub wrap-line : (bounds : Bounds) {o : Operator} {fault : G.Found} → length line < 2 ^ 64 → starts lf (drop (at + 1 + m) line) ≡ true
+            → o ≡ wrappedOf w (record { at = bounds .term; entries = code (said .first) % 2 ^ 64 })
             → foundOf fault ≡ worse (foundOf (said .fault)) (numberFault (bounds .term) n (length line - 1))
             → LineTerm words bounds line Due before after (Wrap o n) fault (at + 1 + m + 1)
         unfolding wordsOfFault termFault
-        wrap-line bounds k o e =
+        wrap-line bounds wide k o e =
             let c = wrap-went w words line (at + 1) i list g in
+            let few = listed-few w words (drop (at + 1) line) .holds (c .0) _ (sym (c .1)) in
+            let all : code (said .first) % 2 ^ 64 ≡ length (entries w words (c .0)) =
+            omega (arith, ap (λ d. d .first) (c .2), length-drop (at + 1) line) in
             let ending = ap (λ d. onward d (end (c .0))) (ended-here line (at + 1 + m) k) ∙ ap (λ d. onward d (after-list w t)) (c .1) in
             let operandFault = numberFault (bounds .term) n (length line - 1) in
             let faults = ap (λ d. d .found) (c .2) ∙ listed-faults w words (c .0) in
@@ -200,7 +214,7 @@ module _ (w : WrapKind) (words : List Text) (line : Text) where
               within = omega (arith, sign-within lf line (at + 1 + m) k);
               term =
                   ap (λ p. Wrap p n)
-                  (o ∙ ap (λ i. wrappedOf w (record { at = bounds .term; entries = i })) (ap (λ d. d .first) (c .2))
+                  (o ∙ ap (λ i. wrappedOf w (record { at = bounds .term; entries = i })) all
                   ∙ listed-operator w words (bounds .term) (c .0));
               faults = e ∙ ap (λ f. worse f operandFault) faults;
               stored = λ z.

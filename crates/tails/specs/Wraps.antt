@@ -1,7 +1,7 @@
 -- The kinds with a list.
 -- Assumes nothing.
 use mathlib.Core.List.{List}
-use Prim.Native.Nat.{ℕ}
+use Prim.Native.Nat.{ℕ, _%_, _^_}
 use lib.Dec.{eqb}
 use Rattle.meaning.specs.Bytes.{Text}
 use Rattle.meaning.specs.Rounds.{pick}
@@ -10,6 +10,7 @@ use Rattle.slots.specs.declared.Term.the-variants.{Wrap}
 use Rattle.grammar.specs.Text.{Past, Placed}
 use Rattle.grammar.specs.Forms as F
 use Rattle.grammar.specs.Forms.{Listed, Parts, WordPair, WordRule, wordList, pairList, ruleList, labelList}
+use Rattle.labels.specs.Packing.{code}
 use Rattle.faults.specs.declared.Found.{Found}
 use Rattle.lists.specs.declared.Said.{Said}
 use Rattle.lists.specs.declared.ListKind.{ListKind}
@@ -54,4 +55,4 @@ wrapListed Allow ls = F.allow ls
 
 -- the term of a kind with a list, at its number, with the fault of its line
 abbrev pub wrapStep : ℕ → ℕ → ℕ → Said → Found → ℕ → TermStep
-wrapStep k t n said fault took = T.To (Wrap (operatorAt k (record { at = n; entries = said .first })) t) fault took
+wrapStep k t n said fault took = T.To (Wrap (operatorAt k (record { at = n; entries = code (said .first) % 2 ^ 64 })) t) fault took

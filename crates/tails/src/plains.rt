@@ -11,6 +11,7 @@ ghost use Rattle.tails.specs.Lines.{Storeless, Unbounded};
 ghost use Rattle.ranges.specs.Ranges.{placesFor};
 ghost use Rattle.tails.specs.Plains.{PlainRead, madeOf, plainTail};
 use crate::TermStep;
+use labels::packing::number_of;
 use lists::SaidStep;
 use lists::read_name;
 use lists::said_stuck_at;
@@ -100,7 +101,8 @@ fn read_act(rest: &[u8], names: &[u64]) -> TermStep
         return TermStep::Stuck(next);
     }
     let fault = said.fault;
-    TermStep::To(Term::Act(said.first as usize), fault, next + 1)
+    let number = said.first;
+    TermStep::To(Term::Act(number_of(number) as usize), fault, next + 1)
 }
 
 // What follows the word of the kind at a place before those with a list.

@@ -12,6 +12,7 @@ ghost use Rattle.tails.specs.Wraps.{wrapOf, listKind, contents, wrapList
 use crate::TermStep;
 use faults::Found;
 use faults::worse_of;
+use labels::packing::number_of;
 use lists::ListKind;
 use lists::Said;
 use lists::SaidStep;
@@ -53,9 +54,10 @@ fn joined(said: Said, t: usize, n: usize, from: usize) -> Found
 fn wrapped(k: usize, t: usize, n: usize, said: Said, fault: Found, took: usize) -> TermStep
     ensures { λ r. ⌜ r ≡ wrapStep k t n said fault took ⌝ }
 {
+    let entries = said.first;
     let place = Place {
         at: n,
-        entries: said.first as usize,
+        entries: number_of(entries) as usize,
     };
     let with_list = operator(k, place);
     TermStep::To(Term::Wrap(with_list, t), fault, took)
@@ -69,7 +71,7 @@ pub fn read_wrap(
     bounds: Bounds,
     store: &mut [u64],
 ) -> TermStep
-    requires { ⌜ length (now names) ≤ 12 ⌝ }
+    requires { ⌜ length (now names) ≤ 24 ⌝ }
     ensures { λ r. ⌜ LineRead (map (nameOf 8) (now (names .entry))) bounds (now (rest .entry))
         (ofList (contents (wrapOf k)) (wrapListed (wrapOf k)) (now (rest .entry))) (now (store .entry)) (now (store .exit)) r ⌝ }
 {

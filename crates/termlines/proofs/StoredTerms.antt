@@ -29,31 +29,31 @@ use Rattle.sections.proofs.LaidLines.{within-same, within-both, SoFar, so-far-s
 
 -- The words of a term's list, as they are lent, and the lists with those put back.
 abbrev size : ℕ → ℕ
-size n = 32 * n + 32 - 32 * n
+size n = 64 * n + 64 - 64 * n
 
 abbrev pub own : ℕ → List ℕ → List ℕ
-own n lists = take (size n) (drop (32 * n) lists)
+own n lists = take (size n) (drop (64 * n) lists)
 
 abbrev pub withOwn : (n : ℕ) → (part lists : List ℕ) → List ℕ
-withOwn n part lists = take (32 * n) lists ++ (part ++ drop (size n) (drop (32 * n) lists))
+withOwn n part lists = take (64 * n) lists ++ (part ++ drop (size n) (drop (64 * n) lists))
 
 abbrev wordsOf : List ℕ → List Text
 wordsOf table = map (nameOf 8) (namesIn table)
 
 pub record TermsSoFar (text : Text) (line equations count : ℕ) (before store table lists : List ℕ) (from n : ℕ) : Type 0 where
   pub read : List D.Term
-  pub lines : SoFar (map slotOf) (takeTerm (wordsOf before) equations) 32 text line count before table from n read
+  pub lines : SoFar (map slotOf) (takeTerm (wordsOf before) equations) 44 text line count before table from n read
   pub listed : lists ≡ listsOver 0 read store
-  pub listing : Within 3072 store lists
+  pub listing : Within 6144 store lists
 
 pub terms-start : (text : Text) (line equations count : ℕ) (table lists : List ℕ) → TermsSoFar text line equations count table lists table lists 0 0
 unfolding listsOver
 terms-start text line equations count table lists =
     record {
       read = [];
-      lines = so-far-start (map slotOf) (takeTerm (wordsOf table) equations) 32 text line count table refl;
+      lines = so-far-start (map slotOf) (takeTerm (wordsOf table) equations) 44 text line count table refl;
       listed = refl;
-      listing = within-same 3072 lists;
+      listing = within-same 6144 lists;
     }
 
 even : (ts : List D.Term) → length (map slotOf ts) ≡ length ts
@@ -68,27 +68,27 @@ module _ {text : Text} {line equations count : ℕ} {before store table lists : 
   same-names : namesIn table ≡ namesIn before
   same-names = ap namesIn (s .lines .laid) ∙ names-after-terms (s .read) before
 
-  module _ (few : count ≤ 96) (wide : 32 * count ≤ length store) where
-    tabled : Within 128 before table
-    tabled = so-far-within (s .lines) even 128 (omega arith)
+  module _ (few : count ≤ 96) (wide : 64 * count ≤ length store) where
+    tabled : Within 140 before table
+    tabled = so-far-within (s .lines) even 140 (omega arith)
 
     module _ (more : n < count) {after : List ℕ} {r : Progress}
         (t : TermRead (restAt text from) (line + n) (namesIn table) equations n (own n lists) after r) where
-      put-back : Within 3072 lists (withOwn n after lists)
+      put-back : Within 6144 lists (withOwn n after lists)
       put-back =
-          let m : size n ≡ 32 = omega arith in
+          let m : size n ≡ 64 = omega arith in
           let long = s .listing .long in
-          let d = length-drop (32 * n) lists in
-          let part : length after ≡ size n = t .long ∙ length-take-le (size n) (drop (32 * n) lists) (omega arith) in
-          let front = length-take-le (32 * n) lists (omega arith) in
-          let back = length-drop (size n) (drop (32 * n) lists) in
+          let d = length-drop (64 * n) lists in
+          let part : length after ≡ size n = t .long ∙ length-take-le (size n) (drop (64 * n) lists) (omega arith) in
+          let front = length-take-le (64 * n) lists (omega arith) in
+          let back = length-drop (size n) (drop (64 * n) lists) in
           record {
-            long = length-append (take (32 * n) lists) (after ++ drop (size n) (drop (32 * n) lists))
-                ∙ ap (λ k. length (take (32 * n) lists) + k) (length-append after (drop (size n) (drop (32 * n) lists))) ∙ omega arith;
-            behind = drop-put-back 3072 (32 * n) (size n) after lists part (omega arith) (omega arith);
+            long = length-append (take (64 * n) lists) (after ++ drop (size n) (drop (64 * n) lists))
+                ∙ ap (λ k. length (take (64 * n) lists) + k) (length-append after (drop (size n) (drop (64 * n) lists))) ∙ omega arith;
+            behind = drop-put-back 6144 (64 * n) (size n) after lists part (omega arith) (omega arith);
           }
 
-      pub terms-stored : Within 3072 store (withOwn n after lists)
+      pub terms-stored : Within 6144 store (withOwn n after lists)
       terms-stored = within-both (s .listing) put-back
 
       said : Comes (restAt text from) (oneLine (takeTerm (wordsOf before) equations (s .read)) (line + n) (restAt text from)) (λ all. suc (line + n))
@@ -108,20 +108,20 @@ module _ {text : Text} {line equations count : ℕ} {before store table lists : 
         pub terms-within : from + took ≤ length text
         terms-within = rest-within text from (s .lines .onto .within) (one .within)
 
-        pub terms-step : TermsSoFar text line equations count before store (set table (32 + n) w) (withOwn n after lists) (from + took) (n + 1)
+        pub terms-step : TermsSoFar text line equations count before store (set table (44 + n) w) (withOwn n after lists) (from + took) (n + 1)
         terms-step =
             let x = one .left .term in
             let word : map slotOf (s .read ++ (x ∷ [])) ≡ map slotOf (s .read) ++ (w ∷ []) =
             map-append slotOf (s .read) (x ∷ []) ∙ ap (λ v. map slotOf (s .read) ++ (v ∷ [])) (sym (one .left .kept)) in
-            let m : size n ≡ 32 = omega arith in
-            let at : 32 * (0 + length (s .read)) ≡ 32 * n = omega (arith, s .lines .counted) in
+            let m : size n ≡ 64 = omega arith in
+            let at : 64 * (0 + length (s .read)) ≡ 64 * n = omega (arith, s .lines .counted) in
             let q = rw (one .left .more) at (one .says) in
             record {
               read = s .read ++ (x ∷ []);
               lines = so-far-step (s .lines) even x w word more q (one .within);
               listed = ap (λ l. withOwn n l lists) (one .left .stored)
-                  ∙ part-put-back (32 * n) (size n) (termWords x) lists (omega (arith, one .left .fits))
-                  ∙ ap (laidAt (32 * n) (termWords x)) (s .listed)
+                  ∙ part-put-back (64 * n) (size n) (termWords x) lists (omega (arith, one .left .fits))
+                  ∙ ap (laidAt (64 * n) (termWords x)) (s .listed)
                   ∙ ap (λ k. laidAt k (termWords x) (listsOver 0 (s .read) store)) (sym at) ∙ sym (lists-more 0 (s .read) x store);
               listing = terms-stored;
             }

@@ -76,7 +76,7 @@ module _ (words : List Text) (equations : ℕ) (terms : List D.Term) (text : Tex
     term-faulty e = taken-faulty (k .faults) (terms ++ (termSaid words (k .line) ∷ [])) (drop took text) term-line e
 
 -- The line by what its reader came to.
-module _ (text : Text) (line : ℕ) (names : List ℕ) (equations n : ℕ) (before after : List ℕ) (s : TermStep) (few : length names ≤ 12)
+module _ (text : Text) (line : ℕ) (names : List ℕ) (equations n : ℕ) (before after : List ℕ) (s : TermStep) (few : length names ≤ 24)
     (r : TermAnswer names equations n text before after s) where
   abbrev words : List Text
   words = map (nameOf 8) names

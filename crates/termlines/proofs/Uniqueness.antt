@@ -18,7 +18,7 @@ use Rattle.termlines.specs.Terms.{TermsRoom, TermsGiven}
 room-decided : (line count : ℕ) (table lists : List ℕ) → Dec (TermsRoom line count table lists)
 room-decided line count table lists =
     map-dec (λ x. (x .0, x .1 .0, x .1 .1 .0, x .1 .1 .1)) (λ x. (x .0, (x .1, (x .2, x .3))))
-    (Dec·and (decLe line 16) (Dec·and (decLe count 96) (Dec·and (decLe 128 (length table)) (decLe (32 * count) (length lists)))))
+    (Dec·and (decLe line 28) (Dec·and (decLe count 96) (Dec·and (decLe 140 (length table)) (decLe (64 * count) (length lists)))))
 
 pub terms-once : {text : Text} {line equations count : ℕ} {table lists table₁ lists₁ table₂ lists₂ : List ℕ} (r s : Progress)
     → TermsGiven text line equations count table lists table₁ lists₁ r → TermsGiven text line equations count table lists table₂ lists₂ s

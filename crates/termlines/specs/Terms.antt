@@ -22,7 +22,7 @@ pub record TermLeft (terms : List D.Term) (list list′ : List ℕ) (w : ℕ) (a
   pub term : D.Term
   pub more : all ≡ terms ++ (term ∷ [])
   pub kept : w ≡ slotOf term
-  pub fits : length (termWords term) ≤ 32
+  pub fits : length (termWords term) ≤ 64
   pub stored : list′ ≡ overlaid (termWords term) list
 
 -- after any terms before it, of which the line asks no more than their number
@@ -39,14 +39,14 @@ pub record TermsLeft (count : ℕ) (table lists table′ lists′ : List ℕ) (v
   pub listed : lists′ ≡ listsOver 0 terms lists
 
 pub record TermsRead (text : Text) (line equations count : ℕ) (table lists table′ lists′ : List ℕ) (r : Progress) : Type 0 where
-  pub tabled : Within 128 table table′
-  pub listing : Within 3072 lists lists′
+  pub tabled : Within 140 table table′
+  pub listing : Within 6144 lists lists′
   pub came : (words : List Text) → map (nameOf 8) (namesIn table) ≡ words
       → Comes text (lines (takeTerm words equations) count [] line text) (λ terms. line + count) (TermsLeft count table lists table′ lists′) r
 
--- The room that they need: the first line comes after at most twelve names and three counts, and each term has its word and its list's words.
+-- The room that they need: the first line comes after at most twenty-four names and three counts, and each term has its word and its list's words.
 abbrev pub TermsRoom : (line count : ℕ) → (table lists : List ℕ) → Type 0
-TermsRoom line count table lists = (line ≤ 16) × (count ≤ 96) × (128 ≤ length table) × (32 * count ≤ length lists)
+TermsRoom line count table lists = (line ≤ 28) × (count ≤ 96) × (140 ≤ length table) × (64 * count ≤ length lists)
 
 -- Else all is refused as if the first line were bad, and the areas stay as they were.
 pub record TermsRefused (line : ℕ) (table lists table′ lists′ : List ℕ) (r : Progress) : Type 0 where

@@ -18,8 +18,8 @@ use table::TERMS_AT;
 use table::names_of;
 use tails::TermStep;
 
-// The largest number that the first of the lines can have, behind twelve names and three counts.
-const FIRST_LINE: usize = 16;
+// The largest number that the first of the lines can have, behind twenty-four names and three counts.
+const FIRST_LINE: usize = 28;
 
 // One line, by the term's number and the line's; its packed term is returned.
 fn take_term(
@@ -30,7 +30,7 @@ fn take_term(
     n: usize,
     list: &mut [u64],
 ) -> Progress
-    requires { ⌜ length (now names) ≤ 12 ⌝ }
+    requires { ⌜ length (now names) ≤ 24 ⌝ }
     ensures { λ r. ⌜ TermRead (now (text .entry)) line (now (names .entry)) equations n (now (list .entry)) (now (list .exit)) r ⌝ }
 {
     let step = read_term(text, names, equations, n, list);

@@ -2,7 +2,7 @@
 // moves, draws and reads. docs/COSTS.md tells what they say.
 use areas::rows::read_label;
 use areas::rows::write_label;
-use labels::Label;
+use labels::packing::label_of;
 use libc::STDOUT_FILENO;
 use merging::joining::union_of;
 use merging::walking::Drawn;
@@ -17,20 +17,24 @@ use sets::inserting::insert;
 use sets::inserting::place;
 ghost use Prim.Native.Nat.{_≤_};
 
-// How many labels a set has, and how many words there are for both and for their union by insertions.
+// How many labels a set has, both have, and there is room for beside their union by insertions; and the words of both and of all.
 const SIZE: usize = 512;
 
 const BOTH: usize = 1024;
 
-const WORDS: usize = 2048;
+const ALL: usize = 2048;
+
+const BOTH_WORDS: usize = 2048;
+
+const ALL_WORDS: usize = 4096;
 
 // The first numbers that are even, and behind them the first that are odd.
 fn interleaved(words: &mut [u64]) {
     let mut i: u64 = 0;
     while i < 512 {
         let at = i as usize;
-        write_label(words, at, Label { word: 2 * i });
-        write_label(words, SIZE + at, Label { word: 2 * i + 1 });
+        write_label(words, at, label_of(2 * i));
+        write_label(words, SIZE + at, label_of(2 * i + 1));
         i += 1;
     }
 }
@@ -80,7 +84,7 @@ fn walked(words: &[u64], part: Part, other: Part, at: usize) -> Cost {
     let mut right = rest_of(words, other, at);
     let mut drawn = 0;
     let mut read = 2;
-    while drawn < WORDS {
+    while drawn < ALL {
         let next = draw(words, left, right);
         let Drawn::Lowest(_, more, other_more) = next else {
             return Cost { drawn, read };
@@ -101,7 +105,7 @@ fn show(text: &[u8], n: usize) {
 }
 
 fn main() {
-    let mut area = [0u64; WORDS];
+    let mut area = [0u64; ALL_WORDS];
     let evens = Part { from: 0, to: SIZE };
     let odds = Part {
         from: SIZE,
@@ -112,7 +116,7 @@ fn main() {
     let cost = walked(&area, evens, odds, BOTH);
     show(b"drawn=", cost.drawn);
     show(b"read=", cost.read);
-    let mut both = [0u64; BOTH];
+    let mut both = [0u64; BOTH_WORDS];
     let joined = union_of(&area, evens, odds, &mut both);
     if let Built::Holds(labels) = joined {
         show(b"union=", labels);

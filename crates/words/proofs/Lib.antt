@@ -7,5 +7,7 @@ pub mod WordReading
 pub mod Steps
 -- word-name, number-here, number-later, rest-literal, packed-split: names looked up by their words
 pub mod Looked
+-- several-few, labels-several: how many entries a list can have
+pub mod Several
 -- count-unique, name-unique, passes-unique: any two results that meet a promise are equal
 pub mod Uniqueness

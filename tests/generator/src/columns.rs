@@ -16,6 +16,10 @@ const FURTHER: &[&str] = &["A", ":", ".", ">", ":1", ">a", " ", "0000", "abcdefg
 
 pub fn record(random: &mut Random) -> Vec<u8> {
     let count = random.within(4..=12);
+    with_names(random, count)
+}
+
+pub fn with_names(random: &mut Random, count: usize) -> Vec<u8> {
     let mut draft = Draft::new(names::any(random, count));
     let (first, second) = (draft.act(0), draft.act(1));
     let mut operand = draft.two("merge", first, second);

@@ -90,14 +90,22 @@ impl Lists<'_> {
 
     /// LIST.
     pub fn plain_names(&self, random: &mut Random) -> String {
-        let count = random.within(1..=self.names.len().min(3));
+        self.plain_names_up_to(random, 3)
+    }
+
+    pub fn plain_names_up_to(&self, random: &mut Random, most: usize) -> String {
+        let count = random.within(1..=self.names.len().min(most));
         let chosen = random.several_below(self.names.len(), count);
         joined(chosen.iter().map(|name| self.names[*name].clone()))
     }
 
     /// PAIRS; some of them swap names or turn them round.
     pub fn pairs(&self, random: &mut Random) -> String {
-        let count = random.within(1..=self.names.len().min(4));
+        self.pairs_up_to(random, 4)
+    }
+
+    pub fn pairs_up_to(&self, random: &mut Random, most: usize) -> String {
+        let count = random.within(1..=self.names.len().min(most));
         let from = random.several_below(self.names.len(), count);
         let turn = random.chance(40).then(|| random.below(count));
         let pairs = (0..count).map(|place| {

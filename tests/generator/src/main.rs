@@ -4,6 +4,7 @@
 //! `--seed N` gives others, `--size PERCENT` more or fewer. `--classes FILE`
 //! writes the class of each record, in the same order, into a file.
 
+mod across_12;
 mod columns;
 mod communication;
 mod cut_lines;
@@ -12,6 +13,7 @@ mod exact_kinds;
 mod fault_pairs;
 mod guesses;
 mod lists;
+mod many_names;
 mod names;
 mod random;
 mod reading_limits;
@@ -19,6 +21,7 @@ mod recursion;
 mod set_limits;
 mod slips;
 mod soups;
+mod spread_names;
 mod sync_operands;
 mod token_strings;
 mod well_formed;
@@ -57,6 +60,14 @@ const CLASSES: &[Class] = &[
     ("columns", columns::record, 8_000),
     ("slips", slips::record, 60_000),
     ("soups", soups::record, 15_000),
+    ("spread-names", spread_names::record, 7_000),
+    ("across-12", across_12::record, 5_000),
+    ("many-names", many_names::record, 2_500),
+    ("long-lists", reading_limits::long_lists, 2_500),
+    ("counts-of-names", reading_limits::counts_of_names, 1_200),
+    ("slips-with-more-names", slips::with_more_names, 3_000),
+    ("limits-with-more-names", spread_names::at_limits, 400),
+    ("longest-texts", set_limits::longest_texts, 10),
 ];
 
 const WHOLE_CLASSES: &[WholeClass] = &[

@@ -23,6 +23,16 @@ pub fn long(count: usize) -> Vec<String> {
     letters(count).iter().map(|letter| letter.repeat(8)).collect()
 }
 
+/// How many names there are where there may be more than twelve: any number, those
+/// around twelve and the last ones more often.
+pub fn count(random: &mut Random) -> usize {
+    match random.below(20) {
+        0..=4 => random.within(1..=24),
+        5..=12 => random.within(11..=14),
+        _ => random.within(23..=24),
+    }
+}
+
 /// So many different names, none of them out of form.
 pub fn any(random: &mut Random, count: usize) -> Vec<String> {
     if random.chance(50) {
@@ -30,7 +40,7 @@ pub fn any(random: &mut Random, count: usize) -> Vec<String> {
     }
     let family = random.pick(FAMILIES);
     let mut names: Vec<String> = family.iter().map(|name| String::from(*name)).collect();
-    names.extend((0..12).map(|number| format!("x{}", number)));
+    names.extend((0..24).map(|number| format!("x{}", number)));
     random.shuffle(&mut names[..family.len()]);
     names.truncate(count);
     names

@@ -1,5 +1,6 @@
 //! Both sides of each limit of the reading.
 
+use crate::columns;
 use crate::draft::{ended, Draft};
 use crate::lists::{self, Lists};
 use crate::random::Random;
@@ -77,7 +78,7 @@ fn even_share(missing: usize) -> usize {
     missing / lines
 }
 
-/// 11 to 13 names, 15 to 17 equations, 95 to 97 terms, and none of them.
+/// 11, 12 or 25 names, 15 to 17 equations, 95 to 97 terms, and none of them.
 pub fn counts(random: &mut Random) -> Vec<u8> {
     let mut near = |most: usize, usual: usize| match random.below(8) {
         0 => 0,
@@ -85,6 +86,7 @@ pub fn counts(random: &mut Random) -> Vec<u8> {
         _ => random.within(most - 1..=most + 1),
     };
     let (names, equations, terms) = (near(12, 3), near(16, 2), near(96, 5));
+    let names = if names > 12 { 25 } else { names };
     let mut draft = Draft::with_letters(names);
     for _ in 0..terms {
         match random.below(3) {
@@ -97,10 +99,86 @@ pub fn counts(random: &mut Random) -> Vec<u8> {
     draft.bytes()
 }
 
+/// None to 26 names, 99 that are not there, one more or less than is said, and a
+/// name that is given twice or may not be given; and a first line with a slip.
+pub fn counts_of_names(random: &mut Random) -> Vec<u8> {
+    let count = match random.below(10) {
+        0..=3 => random.within(0..=26),
+        4..=5 => random.within(11..=14),
+        _ => random.within(23..=26),
+    };
+    let mut lines = some_acts(random, count).lines();
+    let (one, other) = (random.within(1..=count.max(1)), random.within(1..=count.max(1)));
+    match random.below(16) {
+        0 => lines[0] = b"names=99".to_vec(),
+        1 => lines[0] = format!("names={}", count + 1).into_bytes(),
+        2 => lines[0] = format!("names={}", count.saturating_sub(1)).into_bytes(),
+        3..=6 => lines[one] = lines[other].clone(),
+        7 => lines[one] = random.pick(&["name=tau", "name=none", "name=all"]).into(),
+        8 => lines[0] = slips::in_entry(random, &format!("names={}", count)).into_bytes(),
+        _ => (),
+    }
+    ended(&lines)
+}
+
+/// So many names, and acts of a few of them, mostly of the last.
+fn some_acts(random: &mut Random, names: usize) -> Draft {
+    let mut draft = Draft::with_letters(names);
+    let mut top = draft.add(String::from("tau"));
+    for back in random.several_below(names, 3) {
+        let act = draft.act(names - 1 - back / 2);
+        top = draft.side_by_side(random, top, act);
+    }
+    draft
+}
+
 /// Lists around their maximum, with or without a fault in one entry, which
 /// may stand behind the maximum.
 pub fn list_lengths(random: &mut Random) -> Vec<u8> {
-    let mut draft = some_sets(random);
+    let draft = some_sets(random.within(3..=12));
+    with_list_around_maximum(random, draft)
+}
+
+/// The same with more names, or with faults that a column tells, or with a long
+/// label, or with something that has changed places.
+pub fn long_lists(random: &mut Random) -> Vec<u8> {
+    let names = random.within(13..=24);
+    match random.below(20) {
+        0..=5 => with_list_around_maximum(random, some_sets(names)),
+        6..=11 => columns::with_names(random, names),
+        12..=14 => with_long_label(random, some_sets(names)),
+        _ => with_two_exchanged(random, some_sets(names)),
+    }
+}
+
+/// A list of which two entries next to each other have changed places, those of
+/// names 11 and 12 where each name has one; or of which one label has its parts from
+/// name 12 on before the others.
+fn with_two_exchanged(random: &mut Random, mut draft: Draft) -> Vec<u8> {
+    let top = draft.root;
+    let kind = random.pick(&["allow", "order", "comm", "block", "hide", "rename"]);
+    let mut entries = lists::entries(random, kind, &draft.names, 12, 8);
+    let has_labels = ["allow", "order", "comm"].contains(&kind);
+    let place = if has_labels { random.below(entries.len() - 1) } else { 11 };
+    if has_labels && random.chance(40) {
+        entries[place] = with_upper_parts_first(&draft.names, &entries[place]);
+    } else {
+        entries.swap(place, place + 1);
+    }
+    draft.place_list(kind, top, &entries.join(","));
+    draft.bytes()
+}
+
+fn with_upper_parts_first(names: &[String], entry: &str) -> String {
+    let (label, rest) = entry.split_at(entry.find('>').unwrap_or(entry.len()));
+    let is_upper =
+        |part: &&str| names[12..].iter().any(|name| part.split(':').any(|of| of == name));
+    let (mut upper, lower): (Vec<&str>, Vec<&str>) = label.split('.').partition(is_upper);
+    upper.extend(lower);
+    upper.join(".") + rest
+}
+
+fn with_list_around_maximum(random: &mut Random, mut draft: Draft) -> Vec<u8> {
     let top = draft.root;
     let kind = random.pick(&["allow", "order", "comm", "block", "hide", "rename"]);
     let names = draft.names.clone();
@@ -125,7 +203,11 @@ pub fn list_lengths(random: &mut Random) -> Vec<u8> {
 /// Labels of 30 to 33 actions, and such whose counts add up to more than a
 /// byte holds, in each place where a label is read.
 pub fn long_labels(random: &mut Random) -> Vec<u8> {
-    let mut draft = some_sets(random);
+    let draft = some_sets(random.within(3..=12));
+    with_long_label(random, draft)
+}
+
+fn with_long_label(random: &mut Random, mut draft: Draft) -> Vec<u8> {
     let top = draft.root;
     let names = draft.names.len();
     let actions = match random.below(4) {
@@ -157,9 +239,9 @@ fn repeat_up_to(entries: &mut Vec<String>, bytes: usize) {
     }
 }
 
-/// A few names and a term with some labels of them.
-fn some_sets(random: &mut Random) -> Draft {
-    let mut draft = Draft::with_letters(random.within(3..=12));
+/// So many names and a term with some labels of the first.
+fn some_sets(names: usize) -> Draft {
+    let mut draft = Draft::with_letters(names);
     let first = draft.act(0);
     let second = draft.act(1);
     let both = draft.two("merge", first, second);

@@ -172,10 +172,32 @@ impl Writer {
     }
 
     pub fn add_with_list(&mut self, random: &mut Random, kind: &str, operand: usize) {
+        let list = list_for(random, kind, &self.draft.names, &self.guesses[operand]);
+        self.add_list(random, kind, operand, &list);
+    }
+
+    /// Adds a term with this list.
+    pub fn add_list(&mut self, random: &mut Random, kind: &str, operand: usize, list: &str) {
         let of = &self.guesses[operand];
-        let list = list_for(random, kind, &self.draft.names, of);
-        let guess = guesses::with_list(random, kind, &list, &self.draft.names, of);
+        let guess = guesses::with_list(random, kind, list, &self.draft.names, of);
         self.note(&format!("{} {} {}", kind, operand, list), guess);
+    }
+
+    /// Lists by the labels that a term probably has.
+    pub fn lists_over(&self, term: usize) -> Lists<'_> {
+        Lists::new(&self.draft.names, &self.guesses[term])
+    }
+
+    /// Adds the actions of a label at once. What some of them are is not guessed.
+    pub fn add_multi_action(&mut self, label: &Label) {
+        let term = self.draft.multi_action(label);
+        self.guesses.resize(term, Guess::new());
+        self.guesses.push(vec![label.clone()]);
+    }
+
+    /// Adds a reference to an equation that has what some term has.
+    pub fn add_ref_to(&mut self, equation: usize, like: usize) {
+        self.note(&format!("ref {}", equation), self.guesses[like].clone());
     }
 
     fn note(&mut self, term: &str, guess: Guess) {
@@ -217,6 +239,10 @@ impl Writer {
         self.draft.root = root;
         self.draft.order = order(random, &self.draft.names, &self.guesses[root]);
         self.draft
+    }
+
+    pub fn names(&self) -> &[String] {
+        &self.draft.names
     }
 
     /// The number of the term that was added last.

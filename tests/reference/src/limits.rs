@@ -1,10 +1,10 @@
-//! Every limit of document 01, in one place.
+//! Every limit of document 01, and of request 2026-07 for names, in one place.
 
 use std::ops::RangeInclusive;
 
 pub const MOST_BYTES: usize = 8_192;
 
-pub const NAMES: RangeInclusive<usize> = 1..=12;
+pub const NAMES: RangeInclusive<usize> = 1..=24;
 pub const EQUATIONS: RangeInclusive<usize> = 0..=16;
 pub const TERMS: RangeInclusive<usize> = 1..=96;
 

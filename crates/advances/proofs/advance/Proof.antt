@@ -1,4 +1,5 @@
 -- `advances::advance` meets its contract. Assumes nothing.
+use Rattle.advances.proofs.Appending.{held-long}
 use Rattle.advances.proofs.Advancing.{advanced-quiet, advanced-large, advanced-kept}
 use borrow.Author.Needs.{needs}
 use Rattle.advances.proofs.advance.Statement.{statement}
@@ -54,7 +55,7 @@ returns-2 : tie.Need-returns-2
 returns-2 c =
     let arrived = c .before .before .before .before in
     let shaped = arrived .before .before .before .before .before .before .before .before .before .before in
-    advanced-large (arrived .arrive .kept .1 .1 .1 .1 .1 .1 .0)
+    advanced-large (held-long _ _ (arrived .arrive .kept .1 .1 .1 .1 .1 .1 .0))
     (rw (shaped .shape-in .ensures, c .enum-told .given .1) at (arrived .arrive .ensures))
 
 labels-of-requires : tie.Need-labels-of-requires
@@ -85,7 +86,7 @@ returns-3 c =
     let held = shown .before .before .before in
     let arrived = held .before .before .before .before in
     let shaped = arrived .before .before .before .before .before .before .before .before .before .before in
-    advanced-kept (arrived .arrive .kept .1 .1 .1 .1 .1 .1 .0)
+    advanced-kept (held-long _ _ (arrived .arrive .kept .1 .1 .1 .1 .1 .1 .0))
     (rw (shaped .shape-in .ensures, held .given .given .1) at (arrived .arrive .ensures)) (shown .labels-of .ensures) (kept .keep-new .ensures)
 
 pub advance-spec : {M : Type 1} → statement M

@@ -2,10 +2,11 @@
 -- Assumes nothing.
 use mathlib.Core.Path.{refl}
 use mathlib.Core.Logic.{inl, inr}
-use Prim.Native.Nat.{_-_}
+use Prim.Native.Nat.{_*_, _-_}
 use lib.ListN.{length}
 use native.Mathlib.Omega.{arith}
 use borrow.Author.Needs.{needs}
+use Rattle.areas.proofs.Held.{length-held}
 use Rattle.keeping.proofs.Bringing.{Within, settled-outside, settled-none, settled-set}
 use Rattle.keeping.proofs.settle.Statement.{statement}
 use Rattle.keeping.proofs.settle.Tie as tie
@@ -32,7 +33,10 @@ sub-count : tie.Need-sub-count
 sub-count c = search needs
 
 bring-requires : tie.Need-bring-requires
-bring-requires c κs = search needs
+bring-requires c κs = omega (arith, length-held (c .before .before .before .before .before .args .work .now))
+
+mul-end : tie.Need-mul-end
+mul-end c = search needs
 
 mul-clear : tie.Need-mul-clear
 mul-clear c = search needs
@@ -61,11 +65,11 @@ returns-4 c =
     let brought = c .before .before .before .before .before .before .bring in
     let cleared = c .before .before .clear2 .ensures in
     let u : Within (a .set) (a .work .now) = (record { room = omega arith; end = omega arith }) in
-    let left = length (brought .last .0) - (a .set .to - a .set .from) in
+    let left = length (brought .last .0) - 2 * (a .set .to - a .set .from) in
     settled-set u refl (omega arith) (brought .ensures) left cleared refl (omega (arith, brought .kept .0))
 
 pub settle-spec : {M : Type 1} → statement M
 settle-spec =
     tie.close
-    (tie.spec returns returns-2 clear-requires same-length returns-3 sub-count bring-requires mul-clear sub-clear
+    (tie.spec returns returns-2 clear-requires same-length returns-3 sub-count bring-requires mul-end mul-clear sub-clear
     part-clear-start part-clear-end sub-clear-2 clear-requires-2 same-length-2 returns-4)

@@ -6,6 +6,7 @@ use native.Mathlib.Omega.{arith}
 use borrow.Author.Tests.{le-leb}
 use lib.Dec.{leb}
 use lib.ListN.{length}
+use Rattle.labels.specs.Packing.{code}
 use Rattle.grammar.specs.Printed.{printedLabel}
 use Rattle.label_texts.specs.Packed.{nameTexts, countsOf}
 use Rattle.label_texts.proofs.Tau.{length-label}
@@ -15,7 +16,8 @@ use Rattle.label_texts.proofs.label_fits.Tie as tie
 returns : tie.Need-returns
 returns c =
     let a = c .before .args in
-    sym (le-leb (length (printedLabel (nameTexts (a .names)) (countsOf (a .label)))) (a .room) (omega (arith, length-label (a .names) (a .label))))
+    sym (le-leb (length (printedLabel (nameTexts (a .names)) (countsOf (code (a .label))))) (a .room)
+    (omega (arith, length-label (a .names) (code (a .label)))))
 
 label-length-requires : tie.Need-label-length-requires
 label-length-requires c κs = tt

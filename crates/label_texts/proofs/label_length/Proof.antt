@@ -1,6 +1,7 @@
 -- `label_texts::label_length` meets its contract: a label fits in the scratch area.
 -- Assumes nothing.
 use mathlib.Core.Path.{refl}
+use Rattle.labels.specs.Packing.{code}
 use Rattle.label_texts.proofs.Tau.{length-label}
 use Rattle.label_texts.proofs.label_length.Statement.{statement}
 use Rattle.label_texts.proofs.label_length.Tie as tie
@@ -9,7 +10,7 @@ slice-aggregate-write-fitting-label : tie.Need-slice-aggregate-write-fitting-lab
 slice-aggregate-write-fitting-label c = refl
 
 write-fitting-label-requires : tie.Need-write-fitting-label-requires
-write-fitting-label-requires c κs = length-label (c .before .args .names) (c .before .args .label)
+write-fitting-label-requires c κs = length-label (c .before .args .names) (code (c .before .args .label))
 
 returns : tie.Need-returns
 returns c = c .before .write-fitting-label .ensures .size

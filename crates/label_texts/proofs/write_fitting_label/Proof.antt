@@ -2,6 +2,7 @@
 -- Assumes nothing.
 use mathlib.Core.Path.{refl}
 use native.Mathlib.Omega.{arith}
+use Rattle.labels.specs.Packing.{code}
 use Rattle.meaning.specs.Bytes.{Text}
 use Rattle.grammar.specs.Marks.{labelText}
 use Rattle.grammar.specs.Printed.{printedLabel}
@@ -13,7 +14,7 @@ use Rattle.label_texts.proofs.write_fitting_label.Statement.{statement}
 use Rattle.label_texts.proofs.write_fitting_label.Tie as tie
 
 abbrev parts : tie.Start → Text
-parts s = labelText (nameTexts (s .args .names)) (countsOf (s .args .label))
+parts s = labelText (nameTexts (s .args .names)) (countsOf (code (s .args .label)))
 
 write-parts-requires : tie.Need-write-parts-requires
 unfolding printedLabel

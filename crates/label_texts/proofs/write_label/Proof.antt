@@ -2,6 +2,7 @@
 -- Assumes nothing.
 use borrow.Author.Needs.{needs}
 use lib.ListN.{length}
+use Rattle.labels.specs.Packing.{code}
 use Rattle.grammar.specs.Printed.{printedLabel}
 use Rattle.grammar.proofs.Areas.{test-fits, fitting→printed, unfitting→printed}
 use Rattle.label_texts.specs.Packed.{nameTexts, countsOf}
@@ -17,7 +18,8 @@ write-fitting-label-requires : tie.Need-write-fitting-label-requires
 write-fitting-label-requires c κs =
     let tested = c .before .before in
     let a = tested .before .before .args in
-    test-fits (length (printedLabel (nameTexts (a .names)) (countsOf (a .label)))) (length (a .text .now)) (tested .label-fits .ensures) (c .before .if1 .taken)
+    test-fits (length (printedLabel (nameTexts (a .names)) (countsOf (code (a .label))))) (length (a .text .now)) (tested .label-fits .ensures)
+    (c .before .if1 .taken)
 
 same-length : tie.Need-same-length
 same-length c = search needs

@@ -4,6 +4,7 @@ use mathlib.Core.Logic.{⊎-elim}
 use Prim.Native.Nat.{_+_, _-_, _≤_}
 use native.Mathlib.Omega.{arith}
 use borrow.Author.Tests.{ltb-true, ltb-false}
+use Rattle.areas.proofs.Held.{length-held}
 use Rattle.layout.proofs.Growths.{unwoven, woven-set}
 use Rattle.layout.proofs.weave_into.Statement.{statement}
 use Rattle.layout.proofs.weave_into.Tie as tie
@@ -63,7 +64,8 @@ add-t21 : tie.Need-add-t21
 add-t21 c =
     let at = c .before .before .before .before .before .before in
     let read = at .before .before .before .before .before .before .before in
-    omega (arith, fits at .1, read .labels-in .ensures, read .before .before .before .before .before .before .before .good .0 .0)
+    let first = read .before .before .before .before .before .before .before in
+    omega (arith, fits at .1, read .labels-in .ensures, first .good .0 .0, length-held (first .args .work .now))
 
 set-part-requires : tie.Need-set-part-requires
 set-part-requires c κs = tt
@@ -75,7 +77,7 @@ returns-2 c =
     woven-set (at .before .before .before .part-at .ensures) (first .put-between .ensures) (at .labels-in2 .ensures) (c .before .before .set-part .ensures)
 
 same-length-3 : tie.Need-same-length-3
-same-length-3 c = returns-2 c .longWork
+same-length-3 c = c .before .before .before .before .before .before .before .put-between .kept .0
 
 same-length-4 : tie.Need-same-length-4
 same-length-4 c = returns-2 c .longRow

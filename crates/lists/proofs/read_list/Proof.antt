@@ -4,10 +4,12 @@ use borrow.Author.Needs.{needs}
 use mathlib.Core.Logic.{⊎-elim}
 use mathlib.Core.Path.{_≡_, refl, sym, ap, subst, _∙_}
 use mathlib.Core.List.{List, [], _∷_, _++_, map}
-use Prim.Native.Nat.{_+_, _-_, _≤_, _<_, _^_}
+use Prim.Native.Nat.{_+_, _*_, _-_, _≤_, _<_, _^_}
 use native.Mathlib.Omega.{arith}
 use borrow.Author.Tests.{not-true, not-false}
 use lib.ListN.{length, drop, length-drop, length-map}
+use Rattle.labels.specs.Packing.{code}
+use Rattle.labels.proofs.Codes.{code-of}
 use Rattle.table.specs.Decoded.{nameOf}
 use Rattle.grammar.specs.Text.{past}
 use Rattle.grammar.specs.Forms.{comma}
@@ -17,13 +19,13 @@ use Rattle.words.proofs.Steps.{otherwise}
 use Rattle.lists.specs.Tallies.{Said}
 use Rattle.lists.specs.Entries.{saidOf, entryOf}
 use Rattle.lists.specs.Starts.{Starting}
-use Rattle.lists.specs.Lists.{weightFor, limitFor, wordCount, entryWord, entryStored, listEntry, listWords, overlaid}
+use Rattle.lists.specs.Lists.{weightFor, limitFor, wordCount, Short, listEntry, listWords, overlaid}
 use Rattle.lists.proofs.Seen.{said-stuck-there, said-went-on, said-stays-on, said-same}
 use Rattle.lists.proofs.Tallied.{Tallied, counted-as, tallied-none, tallied-more}
 use Rattle.lists.proofs.Gathered.{Progress, begun, list-stuck, list-ends, list-goes-on, ended-with, stuck-with}
 use Rattle.lists.proofs.Starts.{starts-alike}
 use Rattle.lists.proofs.Listed.{Filled, filled-none, filled-more, length-over, not-read, as-read}
-use Rattle.lists.proofs.Listed.{entry-small, entry-within, count-most, weight-most, limit-most}
+use Rattle.lists.proofs.Listed.{entry-small, entry-within, entry-longer, count-most, weight-most, limit-most}
 use Rattle.lists.proofs.read_list.Statement.{statement}
 use Rattle.lists.proofs.read_list.Tie as tie
 
@@ -32,7 +34,7 @@ abbrev Inv-loop : tie.InvT-loop
 Inv-loop kind rest names store₀ shape tally₀ entries₀ index₀ from₀ starts₀ store tally entries index from starts =
     (es : List Said) × Progress comma (entryOf (map (nameOf 8) names) kind) rest from es
     × Tallied (λ e. weightFor kind) (λ e. e .from) (limitFor kind) es tally
-    × Filled kind store₀ es entries index store × (entries ≤ from) × (shape .size ≡ wordCount kind) × (shape .weight ≡ weightFor kind)
+    × Filled kind store₀ es entries index store × (2 * entries ≤ from) × (shape .size ≡ wordCount kind) × (shape .weight ≡ weightFor kind)
     × (shape .limit ≡ limitFor kind) × Starting names starts
 
 abbrev μ-loop : tie.MeasureT-loop
@@ -123,13 +125,10 @@ sub-counted c = omega (arith, went c .within)
 entered : (c : tie.After-known-told Inv-loop μ-loop)
     → let e = c .before .entry .given .0 .0 in
     let a = entry (turn c) .args in
-    (e .first < 2 ^ 63) × (entryWord (a .kind) (e .first) (e .second) < 2 ^ 64)
+    (code (e .first) < 2 ^ 120) × Short (a .kind) (code (e .first)) (e .second)
 entered c =
     let start = entry (turn c) in
     entry-small _ (rw length-map (start .pre)) (start .args .kind) _ (went c .says)
-
-entry-word-requires : tie.Need-entry-word-requires Inv-loop μ-loop
-entry-word-requires c κs = entered (c .before) .1
 
 tallied : (c : tie.After-counted Inv-loop μ-loop)
     → let l = turn (c .before) in
@@ -145,10 +144,10 @@ tallied c =
     (record { keys = entered (c .before) .0; totals = omega (arith, i .2 .totals); weights = omega arith; limits = omega arith })
     (counted-as (i .6) (i .7) (sym (length-drop (l .loop .from) (entry l .args .rest .now))) (c .counted .ensures))
 
--- There are fewer entries before this one than bytes, so that twice as many words can be counted.
+-- There are half as many entries before this one as bytes at most, so that three times as many words can be counted.
 counts : (c : tie.After-known-told Inv-loop μ-loop)
     → let l = turn c .loop in
-    (l .index + 4 ≤ 2 ^ 64) × (l .entries + 1 < 2 ^ 64)
+    (l .index + 6 ≤ 2 ^ 64) × (l .entries + 1 < 2 ^ 64)
 counts c =
     let l = turn c in
     let start = entry l in
@@ -158,21 +157,17 @@ counts c =
     (omega (arith, i .3 .index-most, i .4), omega (arith, i .4))
 
 put-entry-requires : tie.Need-put-entry-requires Inv-loop μ-loop
-put-entry-requires c κs = let n = counts (c .before .before .before) in omega arith
+put-entry-requires c κs = let n = counts (c .before .before .before) in (omega arith, entered (c .before .before .before) .1)
 
 filled : (c : tie.After-put-entry Inv-loop μ-loop)
     → let l = turn (c .before .before .before .before) in
     let a = entry l .args in
     Filled (a .kind) (a .store .now) (l .loop .inv .0 ++ (told (c .before .before .before .before) ∷ [])) (l .loop .entries + 1)
-    (l .loop .index + l .before .before .shape-of .result .size) (c .put-entry .last .0)
+    (l .loop .index + l .before .before .shape-of .result .size) (c .put-entry .last .1 .0)
 filled c =
     let l = turn (c .before .before .before .before) in
     let a = entry l .args in
-    let e = c .before .before .before .before .before .entry .given .0 .0 in
-    let size = l .before .before .shape-of .result .size in
-    filled-more (a .kind) (a .store .now) (told (c .before .before .before .before)) (l .loop .inv .3) (l .loop .inv .5)
-    (c .put-entry .ensures
-    ∙ ap (λ w. entryStored size (l .loop .store) (l .loop .index) w (e .second)) (c .before .before .entry-word .ensures))
+    filled-more (a .kind) (a .store .now) (told (c .before .before .before .before)) (l .loop .inv .3) (l .loop .inv .5) (c .put-entry .ensures)
 
 add-index : tie.Need-add-index Inv-loop μ-loop
 add-index c =
@@ -186,22 +181,22 @@ add-entries : tie.Need-add-entries Inv-loop μ-loop
 add-entries c = let n = counts (c .before .before .before .before .before .before .before) in omega arith
 
 same-length-2 : tie.Need-same-length-2 Inv-loop μ-loop
-same-length-2 c = ap length (filled (c .before .before .before .before .before) .store-is) ∙ length-over _ _
+same-length-2 c = ap length (filled (c .before .before .before .before .before .before) .store-is) ∙ length-over _ _
 
 returns-2 : tie.Need-returns-2 Inv-loop μ-loop
 returns-2 c =
-    let put = c .before .before .before .before .before in
+    let put = c .before .before .before .before .before .before in
     let known = put .before .before .before .before in
     let l = turn known in
     let a = entry l .args in
-    let s = list-ends (l .loop .inv .1) (went known) (sym (c .before .sign-at .ensures) ∙ not-true _ (c .if2 .taken)) in
+    let s = list-ends (l .loop .inv .1) (went known) (sym (c .before .before .sign-at .ensures) ∙ not-true _ (c .before .if2 .taken)) in
     let f = filled put in
     record {
       read =
           record {
             stands =
                 otherwise (ended-with (listEntry (length (a .rest .now)) (a .kind)) s)
-                (said-same (tallied (put .before .before .before) .faults) (f .entries-are) refl);
+                (said-same (tallied (put .before .before .before) .faults) (code-of (c .label-of .ensures) ∙ f .entries-are) refl);
           };
       stored = λ es p h. f .store-is ∙ ap (λ l. overlaid (listWords (a .kind) l) (a .store .now)) (as-read (s .says) h);
     }
@@ -211,8 +206,13 @@ loop-again : tie.Need-loop-again Inv-loop μ-loop
 loop-again c =
     let put = c .before .before .before .before .before in
     let known = put .before .before .before .before in
-    let i = turn known .loop .inv in
-    let p = list-goes-on (i .1) (went known) (omega arith) (sym (c .before .sign-at .ensures) ∙ not-false _ (c .if2 .left)) in (
+    let l = turn known .loop in
+    let i = l .inv in
+    let sign = sym (c .before .sign-at .ensures) ∙ not-false _ (c .if2 .left) in
+    let a = entry (turn known) .args in
+    let next = l .from + known .before .entry .given .0 .1 .0 in
+    let longer = entry-longer (map (nameOf 8) (a .names .now)) (a .kind) (a .rest .now) (l .from) next (went known .says) (omega arith) sign in
+    let p = list-goes-on (i .1) (went known) (omega arith) sign in (
       i .0 ++ (told known ∷ []),
       p,
       tallied (put .before .before .before),
@@ -238,5 +238,5 @@ pub read-list-spec : {M : Type 1} → statement M
 read-list-spec =
     tie.close
     (tie.spec Inv-loop μ-loop asks-nothing asks-nothing loop-holds starts-of-requires sub-read-entry part-read-entry-start part-read-entry-end
-    read-entry-requires enum-known-entry enum-told asks-nothing add-t27 same-length returns add-next sub-counted asks-nothing entry-word-requires
-    put-entry-requires add-index add-entries asks-nothing same-length-2 returns-2 add-from loop-less loop-again)
+    read-entry-requires enum-known-entry enum-told asks-nothing add-t27 same-length returns add-next sub-counted asks-nothing
+    put-entry-requires add-index add-entries asks-nothing asks-nothing same-length-2 returns-2 add-from loop-less loop-again)

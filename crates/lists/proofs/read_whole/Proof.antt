@@ -13,14 +13,14 @@ use Rattle.lists.proofs.read_whole.Tie as tie
 returns : tie.Need-returns
 returns c =
     let a = c .before .before .before .before .args in
-    rw (lt-leb (length (a .names .now)) 12 (c .if1 .taken)) (many-read (a .kind) (a .rest .now) (a .store .now) (a .store .now))
+    rw (lt-leb (length (a .names .now)) 24 (c .if1 .taken)) (many-read (a .kind) (a .rest .now) (a .store .now) (a .store .now))
 
 returns-2 : tie.Need-returns-2
 returns-2 c =
-    let tested = c .before .before in
+    let tested = c .before .before .before in
     let a = tested .before .before .before .before .args in
-    let none = sym (c .before .is-none .ensures) ∙ c .if2 .taken in
-    rw (le-leb (length (a .names .now)) 12 (tested .if1 .left), none) (none-read (a .kind) (a .rest .now) (a .store .now) none)
+    let none = sym (c .before .before .is-none .ensures) ∙ c .before .if2 .taken in
+    rw (le-leb (length (a .names .now)) 24 (tested .if1 .left), none) (none-read (a .kind) (a .rest .now) (a .store .now) (c .tau .ensures) none)
 
 read-list-requires : tie.Need-read-list-requires
 read-list-requires c κs = omega arith
@@ -34,7 +34,7 @@ returns-3 c =
     let none = read .before .before in
     let tested = none .before .before in
     let a = tested .before .before .before .before .args in
-    rw (le-leb (length (a .names .now)) 12 (tested .if1 .left), sym (none .before .is-none .ensures) ∙ none .if2 .left) (read .read-list .ensures)
+    rw (le-leb (length (a .names .now)) 24 (tested .if1 .left), sym (none .before .is-none .ensures) ∙ none .if2 .left) (read .read-list .ensures)
 
 pub read-whole-spec : {M : Type 1} → statement M
-read-whole-spec = tie.close (tie.spec returns asks-nothing returns-2 read-list-requires same-length returns-3)
+read-whole-spec = tie.close (tie.spec returns asks-nothing asks-nothing returns-2 read-list-requires same-length returns-3)

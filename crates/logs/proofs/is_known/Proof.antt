@@ -2,6 +2,7 @@
 use mathlib.Core.Path.{ap, _∙_}
 use mathlib.Core.List.{List}
 use Prim.Native.Nat.{ℕ}
+use Rattle.areas.specs.Rows.{held}
 use Rattle.labels.specs.Packing.{code}
 use Rattle.sets.specs.Inserting.{present}
 use Rattle.logs.proofs.LogSteps.{words-all}
@@ -20,7 +21,7 @@ returns c =
     let a = c .before .before .before .args in
     let count = c .before .labels-in in
     c .contains .ensures
-    ∙ ap (λ (l : List ℕ). present l (code (a .label))) (words-all (a .known .now) (count .result) (count .ensures))
+    ∙ ap (λ (l : List ℕ). present l (code (a .label))) (words-all (held (a .known .now)) (count .result) (count .ensures))
 
 pub is-known-spec : {M : Type 1} → statement M
 is-known-spec = tie.close (tie.spec labels-in-requires contains-requires returns)

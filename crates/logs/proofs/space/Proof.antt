@@ -2,6 +2,7 @@
 use mathlib.Core.Path.{ap, _∙_}
 use Prim.Native.Nat.{ℕ, _-_}
 use lib.ListN.{length}
+use Rattle.areas.specs.Rows.{held}
 use Rattle.parts.specs.Parts.{mostLabels, roomAt}
 use borrow.Author.Needs.{needs}
 use Rattle.logs.proofs.space.Statement.{statement}
@@ -20,7 +21,7 @@ returns : tie.Need-returns
 returns c =
     let counted = c .before .before in
     let a = counted .before .before .before .args in
-    c .room .ensures ∙ ap (λ (n : ℕ). roomAt (a .at) (mostLabels - n) (length (a .log .now))) (counted .labels-in .ensures)
+    c .room .ensures ∙ ap (λ (n : ℕ). roomAt (a .at) (mostLabels - n) (length (held (a .log .now)))) (counted .labels-in .ensures)
 
 returns-2 : tie.Need-returns-2
 returns-2 c = search needs

@@ -5,6 +5,9 @@ use Prim.Native.Nat.{_+_, _-_, _*_}
 use native.Mathlib.Omega.{arith}
 use borrow.Author.Needs.{needs}
 use lib.Dec.{eqb}
+use Rattle.labels.specs.Packing.{code}
+use Rattle.labels.proofs.Codes.{code-of}
+use Rattle.areas.specs.Rows.{held}
 use Rattle.memory.specs.Memory.{holdsFrom, knownIn, ways}
 use Rattle.memory.proofs.Holding.{none-known, by-slot, holds-here, holds-later, holds-nowhere}
 use Rattle.memory.proofs.known.Statement.{statement}
@@ -12,8 +15,8 @@ use Rattle.memory.proofs.known.Tie as tie
 
 abbrev Inv-loop : tie.InvT-loop
 Inv-loop memory rules before state first way₀ way =
-    knownIn memory rules before (state .rest .word) (state .sum .word)
-    ≡ holdsFrom (ways - way) memory rules (first + way) before (state .rest .word) (state .sum .word)
+    knownIn (held memory) (held rules) before (code (state .rest)) (code (state .sum))
+    ≡ holdsFrom (ways - way) (held memory) (held rules) (first + way) before (code (state .rest)) (code (state .sum))
 
 abbrev μ-loop : tie.MeasureT-loop
 μ-loop memory rules before state first way₀ way = ways - way
@@ -24,13 +27,14 @@ tau-requires c κs = search needs
 same-requires : tie.Need-same-requires Inv-loop μ-loop
 same-requires c κs = search needs
 
-empty : (c : tie.After-same Inv-loop μ-loop) → c .same .result ≡ eqb (c .before .before .before .before .args .state .sum .word) 0
-empty c = c .same .ensures ∙ ap (λ x. eqb (c .before .before .before .before .args .state .sum .word) (x .word)) (c .before .tau .ensures)
+empty : (c : tie.After-same Inv-loop μ-loop) → c .same .result ≡ eqb (code (c .before .before .before .before .args .state .sum)) 0
+empty c = c .same .ensures ∙ ap (eqb (code (c .before .before .before .before .args .state .sum))) (code-of (c .before .tau .ensures))
 
 returns : tie.Need-returns Inv-loop μ-loop
 returns c =
     let a = c .before .before .before .before .before .args in
-    none-known (a .memory .now) (a .rules .now) (a .before) (a .state .rest .word) (a .state .sum .word) (sym (c .if1 .taken) ∙ empty (c .before))
+    none-known (held (a .memory .now)) (held (a .rules .now)) (a .before) (code (a .state .rest)) (code (a .state .sum))
+    (sym (c .if1 .taken) ∙ empty (c .before))
 
 slot-requires : tie.Need-slot-requires Inv-loop μ-loop
 slot-requires c κs = search needs
@@ -41,7 +45,7 @@ mul-first c = omega (arith, c .slot .ensures .1)
 loop-holds : tie.Need-loop-holds Inv-loop μ-loop
 loop-holds c =
     let a = c .before .before .before .before .before .before .args in
-    by-slot (a .memory .now) (a .rules .now) (c .slot .result) (a .before) (a .state .rest .word) (a .state .sum .word)
+    by-slot (held (a .memory .now)) (held (a .rules .now)) (c .slot .result) (a .before) (code (a .state .rest)) (code (a .state .sum))
     (sym (c .before .if1 .left) ∙ empty (c .before .before)) (c .slot .ensures .0)
 
 add-holds-at : tie.Need-add-holds-at Inv-loop μ-loop
@@ -54,8 +58,9 @@ returns-2 : tie.Need-returns-2 Inv-loop μ-loop
 returns-2 c =
     let looped = c .before .before .before in
     let a = looped .before .before .before .before .before .before .before .args in
-    holds-here (a .memory .now) (a .rules .now) (ways * looped .before .slot .result) (a .before) (a .state .rest .word) (a .state .sum .word)
-    (looped .loop .way) (c .before .before .loop-test .taken) (sym (c .if2 .taken) ∙ c .before .holds-at .ensures) ∙ sym (looped .loop .inv)
+    holds-here (held (a .memory .now)) (held (a .rules .now)) (ways * looped .before .slot .result) (a .before) (code (a .state .rest))
+    (code (a .state .sum)) (looped .loop .way) (c .before .before .loop-test .taken) (sym (c .if2 .taken) ∙ c .before .holds-at .ensures)
+    ∙ sym (looped .loop .inv)
 
 add-way : tie.Need-add-way Inv-loop μ-loop
 add-way c = omega arith
@@ -68,15 +73,15 @@ loop-again c =
     let looped = c .before .before .before in
     let a = looped .before .before .before .before .before .before .before .args in
     looped .loop .inv
-    ∙ holds-later (a .memory .now) (a .rules .now) (ways * looped .before .slot .result) (a .before) (a .state .rest .word) (a .state .sum .word)
-    (looped .loop .way) (c .before .before .loop-test .taken) (sym (c .if2 .left) ∙ c .before .holds-at .ensures)
+    ∙ holds-later (held (a .memory .now)) (held (a .rules .now)) (ways * looped .before .slot .result) (a .before) (code (a .state .rest))
+    (code (a .state .sum)) (looped .loop .way) (c .before .before .loop-test .taken) (sym (c .if2 .left) ∙ c .before .holds-at .ensures)
 
 returns-3 : tie.Need-returns-3 Inv-loop μ-loop
 returns-3 c =
     let looped = c .before in
     let a = looped .before .before .before .before .before .before .before .args in
-    holds-nowhere (a .memory .now) (a .rules .now) (ways * looped .before .slot .result) (a .before) (a .state .rest .word) (a .state .sum .word)
-    (looped .loop .way) (c .loop-test .left) ∙ sym (looped .loop .inv)
+    holds-nowhere (held (a .memory .now)) (held (a .rules .now)) (ways * looped .before .slot .result) (a .before) (code (a .state .rest))
+    (code (a .state .sum)) (looped .loop .way) (c .loop-test .left) ∙ sym (looped .loop .inv)
 
 pub known-spec : {M : Type 1} → statement M
 known-spec =

@@ -1,7 +1,9 @@
 -- `memory::remember` meets its contract: the three labels of an entry are written one after the other.
 -- Assumes nothing.
-use mathlib.Core.Path.{ap}
 use borrow.Author.Needs.{needs}
+use Rattle.labels.specs.Packing.{code}
+use Rattle.labels.proofs.Codes.{code-of}
+use Rattle.areas.specs.Rows.{held}
 use Rattle.memory.proofs.Holding.{written}
 use Rattle.memory.proofs.remember.Statement.{statement}
 use Rattle.memory.proofs.remember.Tie as tie
@@ -49,10 +51,10 @@ returns c =
     let first = second .before .before .before .before in
     let slotted = first .before .before in
     let a = slotted .before .before .before .args in
-    written (a .memory .now) (first .write-label .last .0) (second .write-label2 .last .0) (third .write-label3 .last .0)
-    (slotted .before .slot .result) (slotted .slot2 .result) (third .before .label-of .result .word) (a .before) (a .state .rest .word)
-    (a .state .sum .word) (slotted .before .slot .ensures .0) (slotted .slot2 .ensures .0)
-    (ap (λ x. x .word) (third .before .label-of .ensures)) (first .write-label .ensures) (second .write-label2 .ensures)
+    written (held (a .memory .now)) (held (first .write-label .last .0)) (held (second .write-label2 .last .0)) (held (third .write-label3 .last .0))
+    (slotted .before .slot .result) (slotted .slot2 .result) (code (third .before .label-of .result)) (a .before) (code (a .state .rest))
+    (code (a .state .sum)) (slotted .before .slot .ensures .0) (slotted .slot2 .ensures .0)
+    (code-of (third .before .label-of .ensures)) (first .write-label .ensures) (second .write-label2 .ensures)
     (third .write-label3 .ensures)
 
 pub remember-spec : {M : Type 1} → statement M

@@ -6,13 +6,14 @@ use native.Mathlib.Omega.{arith}
 use borrow.Author.Needs.{needs}
 use lib.ListN.{length, drop}
 use Rattle.meaning.specs.Labels.{clear}
+use Rattle.labels.specs.Packing.{code}
 use Rattle.labels.specs.Bags.{bag}
 use Rattle.names.proofs.Lists.{clear-fail, clear-step, clear-end}
 use Rattle.names.proofs.clear.Statement.{statement}
 use Rattle.names.proofs.clear.Tie as tie
 
 abbrev Inv-loop : tie.InvT-loop
-Inv-loop a names i₀ i = clear (drop i names) (bag (a .word)) ≡ clear names (bag (a .word))
+Inv-loop a names i₀ i = clear (drop i names) (bag (code a)) ≡ clear names (bag (code a))
 
 abbrev μ-loop : tie.MeasureT-loop
 μ-loop a names i₀ i = length names - i
@@ -31,7 +32,7 @@ returns c =
     let read = c .before .before in
     let l = read .before .before .loop in
     let a = read .before .before .before .before .args in
-    let some = clear-fail (a .names .now) (bag (a .a .word)) (l .i) (read .before .loop-test .taken) (read .word-at .ensures) in
+    let some = clear-fail (a .names .now) (bag (code (a .a))) (l .i) (read .before .loop-test .taken) (read .word-at .ensures) in
     sym (some (λ z. c .if1 .taken (c .before .count .ensures .exact ∙ z))) ∙ l .inv
 
 add-i : tie.Need-add-i Inv-loop μ-loop
@@ -46,13 +47,13 @@ loop-again c =
     let l = read .before .before .loop in
     let a = read .before .before .before .before .args in
     let none = sym (c .before .count .ensures .exact) ∙ c .if1 .left in
-    clear-step (a .names .now) (bag (a .a .word)) (l .i) (read .before .loop-test .taken) (read .word-at .ensures) none ∙ l .inv
+    clear-step (a .names .now) (bag (code (a .a))) (l .i) (read .before .loop-test .taken) (read .word-at .ensures) none ∙ l .inv
 
 returns-2 : tie.Need-returns-2 Inv-loop μ-loop
 returns-2 c =
     let l = c .before .loop in
     let a = c .before .before .before .args in
-    sym (clear-end (a .names .now) (bag (a .a .word)) (l .i) (c .loop-test .left)) ∙ l .inv
+    sym (clear-end (a .names .now) (bag (code (a .a))) (l .i) (c .loop-test .left)) ∙ l .inv
 
 pub clear-spec : {M : Type 1} → statement M
 clear-spec =

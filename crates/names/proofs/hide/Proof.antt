@@ -1,21 +1,24 @@
 -- `names::hide` meets its contract. The loop's invariant: the word stands for the bag without the names from the i-th
 -- on; the measure is i. Assumes nothing.
-use mathlib.Core.Path.{ap}
+use Prim.Native.Nat.{_%_, _^_}
+use native.Mathlib.Nat.{mod-mod}
 use native.Mathlib.Omega.{arith}
 use borrow.Author.Needs.{needs}
-use Rattle.labels.specs.Packing.{packed}
+use Rattle.labels.specs.Packing.{code}
 use Rattle.names.proofs.Lists.{Hidden, hidden-start, hidden-step, hidden-end}
 use Rattle.names.proofs.hide.Statement.{statement}
 use Rattle.names.proofs.hide.Tie as tie
 
 abbrev Inv-loop : tie.InvT-loop
-Inv-loop names left₀ i₀ left i = Hidden names (left₀ .word) i (left .word)
+Inv-loop names left₀ i₀ left i = Hidden names (code left₀) i left
 
 abbrev μ-loop : tie.MeasureT-loop
 μ-loop names left₀ i₀ left i = i
 
 loop-holds : tie.Need-loop-holds Inv-loop μ-loop
-loop-holds c = hidden-start (c .before .args .names .now) (c .before .args .a .word) (omega arith)
+loop-holds c =
+    let a = c .before .before .args in
+    hidden-start (a .names .now) (record { lower = a .a .lower % 2 ^ 60; upper = a .a .upper }) (omega arith) (omega arith)
 
 sub-i : tie.Need-sub-i Inv-loop μ-loop
 sub-i c = search needs
@@ -32,10 +35,14 @@ loop-less c = omega arith
 loop-again : tie.Need-loop-again Inv-loop μ-loop
 loop-again c =
     let so-far = c .before .before .before .loop .inv in
-    hidden-step so-far (c .before .before .loop-test .taken) (c .before .word-at .ensures) (ap (λ x. x .word) (c .hide-one .ensures))
+    hidden-step so-far (c .before .before .loop-test .taken) (c .before .word-at .ensures) (c .hide-one .ensures)
 
+-- what stands above the names' bits is no name's
 returns : tie.Need-returns Inv-loop μ-loop
-returns c = ap packed (hidden-end (c .before .loop .inv) (c .loop-test .left))
+unfolding code
+returns c =
+    let a = c .before .before .before .before .args in
+    rw (mod-mod (a .a .lower) (2 ^ 60)) at (hidden-end (c .before .loop .inv) (c .loop-test .left))
 
 pub hide-spec : {M : Type 1} → statement M
 hide-spec =

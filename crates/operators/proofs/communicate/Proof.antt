@@ -1,9 +1,10 @@
 -- `operators::communicate` meets its contract: the rules are taken over and put in order, and no more words than they have are lent.
 -- Assumes nothing.
-use Prim.Native.Nat.{_≤_}
+use Prim.Native.Nat.{_*_, _/_, _≤_}
 use native.Mathlib.Omega.{arith}
 use borrow.Author.Needs.{needs}
 use lib.ListN.{length, length-take}
+use Rattle.areas.specs.Rows.{held}
 use Rattle.operators.proofs.Exchanged.{first-few, lent-rules}
 use Rattle.operators.proofs.communicate.Statement.{statement}
 use Rattle.operators.proofs.communicate.Tie as tie
@@ -11,14 +12,20 @@ use Rattle.operators.proofs.communicate.Tie as tie
 first-rules-requires : tie.Need-first-rules-requires
 first-rules-requires c κs = tt
 
-few : (c : tie.After-first-rules) → length (c .first-rules .result .now) ≤ 16
+few : (c : tie.After-first-rules) → length (c .first-rules .result .now) ≤ 24
 few c = first-few (c .before .before .before .before .before .args .rules .now) (c .first-rules .result .now) (c .first-rules .ensures)
+
+mul-end : tie.Need-mul-end
+mul-end c = omega (arith, few c)
 
 exchanges-requires : tie.Need-exchanges-requires
 exchanges-requires c κs = few c
 
 rules-for-requires : tie.Need-rules-for-requires
-rules-for-requires c κs = few (c .before)
+rules-for-requires c κs = omega (arith, few (c .before))
+
+mul-list : tie.Need-mul-list
+mul-list c = omega (arith, few (c .before .before))
 
 array-share-prefix-list : tie.Need-array-share-prefix-list
 array-share-prefix-list c = omega (arith, few (c .before .before))
@@ -27,7 +34,7 @@ slice-aggregate-close-each : tie.Need-slice-aggregate-close-each
 slice-aggregate-close-each c =
     let chosen = c .before in
     let first = chosen .before .before in
-    omega (arith, few first, length-take (length (first .first-rules .result .now)) (chosen .rules-for .result))
+    omega (arith, few first, length-take (2 * (length (first .first-rules .result .now) / 3 * 2)) (chosen .rules-for .result))
 
 close-each-requires : tie.Need-close-each-requires
 close-each-requires c κs = tt
@@ -42,11 +49,12 @@ returns c =
     let exchanged = chosen .before in
     let first = exchanged .before in
     let a = first .before .before .before .before .before .args in
-    rw (lent-rules (a .labels .now) (a .rules .now) (first .first-rules .ensures) (exchanged .exchanges .ensures) (chosen .rules-for .ensures))
+    rw (lent-rules (held (a .labels .now)) (a .rules .now) (exchanged .exchanges .result) (chosen .rules-for .result) (first .first-rules .ensures)
+    (exchanged .exchanges .ensures) (chosen .rules-for .ensures))
     at (added .close-each .ensures)
 
 pub communicate-spec : {M : Type 1} → statement M
 communicate-spec =
     tie.close
-    (tie.spec first-rules-requires exchanges-requires rules-for-requires array-share-prefix-list slice-aggregate-close-each close-each-requires
-    same-length returns)
+    (tie.spec first-rules-requires mul-end exchanges-requires rules-for-requires mul-list array-share-prefix-list slice-aggregate-close-each
+    close-each-requires same-length returns)

@@ -48,8 +48,8 @@ enum-told c = c .match .keys2
 same-length : tie.Need-same-length
 same-length c = search needs
 
-add-t19 : tie.Need-add-t19
-add-t19 c =
+add-t20 : tie.Need-add-t20
+add-t20 c =
     let read = c .before .before .before .before .before in
     let start = read .before .before .before .before .before .before in
     let s = said-within (start .args .text .now) (start .args .at) (start .pre .0) (listed read .read) (c .said-stuck-at .ensures) in
@@ -83,27 +83,30 @@ returns-2 c =
     labels-on (map (nameOf 8) (a .names .now)) (a .text .now) (a .at) (start .pre .0) (listed read) (known .list .given .1)
     (sym (c .before .sign-at .ensures) ∙ not-true _ (c .if1 .taken))
 
-add-t13 : tie.Need-add-t13
-add-t13 c =
-    let known = c .before .before .before in
-    let a = known .before .before .before .before .before .before .before .before .before .before .args in
-    let w = sign-within lf (a .text .now) (a .at + known .list .given .0 .1 .0) (sym (c .before .sign-at .ensures) ∙ not-false _ (c .if1 .left)) in
-    omega arith
+add-t14 : tie.Need-add-t14
+add-t14 c =
+    let left = c .before .before in
+    let known = left .before .before .before in
+    let start = known .before .before .before .before .before .before .before .before .before .before in
+    let a = start .args in
+    let w = sign-within lf (a .text .now) (a .at + known .list .given .0 .1 .0) (sym (left .before .sign-at .ensures) ∙ not-false _ (left .if1 .left)) in
+    omega (arith, start .good .0)
 
 same-length-3 : tie.Need-same-length-3
 same-length-3 c = search needs
 
 returns-3 : tie.Need-returns-3
 returns-3 c =
-    let known = c .before .before .before in
+    let left = c .before .before in
+    let known = left .before .before .before in
     let read = known .before .before .before .before in
     let start = read .before .before .before .before .before .before in
     let a = start .args in
     labels-taken (map (nameOf 8) (a .names .now)) (a .text .now) (a .at) (start .pre .0) (listed read) (known .list .given .1)
-    (sym (c .before .sign-at .ensures) ∙ not-false _ (c .if1 .left))
+    (omega (arith, start .good .0)) (c .number-of .ensures) (sym (left .before .sign-at .ensures) ∙ not-false _ (left .if1 .left))
 
 pub read-labels-spec : {M : Type 1} → statement M
 read-labels-spec =
     tie.close
-    (tie.spec sub-read-whole part-read-whole-start part-read-whole-end asks-nothing enum-known-list enum-told asks-nothing add-t19 same-length returns add-next
-    asks-nothing same-length-2 returns-2 add-t13 same-length-3 returns-3)
+    (tie.spec sub-read-whole part-read-whole-start part-read-whole-end asks-nothing enum-known-list enum-told asks-nothing add-t20 same-length returns add-next
+    asks-nothing same-length-2 returns-2 asks-nothing add-t14 same-length-3 returns-3)

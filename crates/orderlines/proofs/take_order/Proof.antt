@@ -13,11 +13,11 @@ slice-relend-prefix-take-end c = omega arith
 
 slice-aggregate-take-end : tie.Need-slice-aggregate-take-end
 slice-aggregate-take-end c =
-    sym (length-take-le 32 (c .before .before .before .before .before .args .listed .now) (omega (arith, c .before .if1 .taken)))
+    sym (length-take-le 64 (c .before .before .before .before .before .args .listed .now) (omega (arith, c .before .if1 .taken)))
 
 take-end-requires : tie.Need-take-end-requires
 take-end-requires c κs =
-    let l = length-take-le 32 (c .before .before .before .before .before .args .listed .now) (omega (arith, c .before .if1 .taken)) in
+    let l = length-take-le 64 (c .before .before .before .before .before .args .listed .now) (omega (arith, c .before .if1 .taken)) in
     omega arith
 
 same-length : tie.Need-same-length

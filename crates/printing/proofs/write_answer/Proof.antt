@@ -3,7 +3,9 @@
 use Prim.Native.Nat.{_+_, _≤_}
 use native.Mathlib.Nat.{le-refl}
 use native.Mathlib.Omega.{arith}
+use borrow.Author.Needs.{needs}
 use lib.ListN.{length}
+use Rattle.areas.specs.Rows.{held}
 use Rattle.meaning.specs.Bytes.{Text}
 use Rattle.grammar.specs.Areas.{Written}
 use Rattle.grammar.proofs.Areas.{test-fits, written→printed, unfitting→printed}
@@ -19,13 +21,13 @@ answer-fits-requires c κs = tt
 
 -- the whole text, its head and its lines
 abbrev text : tie.Start → Text
-text s = packedAnswer (s .args .names) (s .args .rounds) (s .args .labels .now)
+text s = packedAnswer (s .args .names) (s .args .rounds) (held (s .args .labels .now))
 
 abbrev head : tie.Start → Text
-head s = answerHead (s .args .rounds) (length (s .args .labels .now))
+head s = answerHead (s .args .rounds) (length (held (s .args .labels .now)))
 
 abbrev lines : tie.Start → Text
-lines s = linesFrom (s .args .names) (s .args .labels .now) 0
+lines s = linesFrom (s .args .names) (held (s .args .labels .now)) 0
 
 -- where the text fits
 abbrev entry : tie.Then1 → tie.Start
@@ -34,14 +36,17 @@ entry c = c .before .before .before .before
 fits : (c : tie.Then1) → length (text (entry c)) ≤ length (entry c .args .text .now)
 fits c = test-fits (length (text (entry c))) (length (entry c .args .text .now)) (c .before .answer-fits .ensures) (c .if1 .taken)
 
+labels-in-requires : tie.Need-labels-in-requires
+labels-in-requires c κs = search needs
+
 write-answer-head-requires : tie.Need-write-answer-head-requires
 write-answer-head-requires c κs =
-    let a = entry (c .before) .args in
-    omega (arith, fits (c .before), length-joined (a .names) (a .rounds) (a .labels .now))
+    let s = entry (c .before .before) in
+    rw (c .labels-in .ensures) (omega (arith, fits (c .before .before), length-joined (s .args .names) (s .args .rounds) (held (s .args .labels .now))))
 
 -- the head is written, and the lines are to come
 abbrev tested : tie.After-slice-known2 → tie.Then1
-tested c = c .before .before .before .before
+tested c = c .before .before .before .before .before
 
 head-written : (c : tie.After-slice-known2) →
     let s = entry (tested c) in
@@ -49,8 +54,9 @@ head-written : (c : tie.After-slice-known2) →
     Underway (text s) (lines s) (s .args .text .now) (w .last .0) (w .result)
 head-written c =
     let a = entry (tested c) .args in
-    let joined = answer-joined (a .names) (a .rounds) (a .labels .now) in
-    underway-first {s = head (entry (tested c))} joined (fits (tested c)) (c .before .before .write-answer-head .ensures)
+    let joined = answer-joined (a .names) (a .rounds) (held (a .labels .now)) in
+    underway-first {s = head (entry (tested c))} joined (fits (tested c))
+    (rw (c .before .before .before .labels-in .ensures) at (c .before .before .write-answer-head .ensures))
 
 sub-write-label-lines : tie.Need-sub-write-label-lines
 sub-write-label-lines c = omega (arith, underway-room (head-written c))
@@ -88,5 +94,5 @@ returns-2 c = unfitting→printed (c .before .answer-fits .ensures) (c .if1 .lef
 pub write-answer-spec : {M : Type 1} → statement M
 write-answer-spec =
     tie.close
-    (tie.spec answer-fits-requires write-answer-head-requires sub-write-label-lines part-write-label-lines-start part-write-label-lines-end
+    (tie.spec answer-fits-requires labels-in-requires write-answer-head-requires sub-write-label-lines part-write-label-lines-start part-write-label-lines-end
     write-label-lines-requires add-result same-length returns returns-2)

@@ -3,10 +3,12 @@
 use borrow.Author.Needs.{needs}
 use mathlib.Core.Path.{sym}
 use native.Mathlib.Nat.{min-eq-left}
+use native.Mathlib.Omega.{arith}
 use lib.ListN.{length-take}
+use Rattle.areas.proofs.Held.{held-take}
 use Rattle.faults.proofs.Calls.{asks-nothing}
 use Rattle.rimecutter.specs.declared.Answer.the-variants.{Listed, TooLong, Bad, TooLarge}
-use Rattle.rimecutter.proofs.Texts.{unwritten, written}
+use Rattle.rimecutter.proofs.Texts.{words-there, unwritten, written}
 use Rattle.rimecutter.proofs.write_response.Statement.{statement}
 use Rattle.rimecutter.proofs.write_response.Tie as tie
 
@@ -14,10 +16,15 @@ enum-known-said : tie.Need-enum-known-said
 enum-known-said c = search needs
 
 returns : tie.Need-returns
-returns c = unwritten _ (c .before .before .said .given .1) (c .if1 .taken)
+returns c = unwritten _ (c .before .before .before .said .given .1) (c .before .labels-in .ensures) (c .if1 .taken)
+
+mul-write-answer : tie.Need-mul-write-answer
+mul-write-answer c = omega (arith, words-there _ (c .before .before .labels-in .ensures) (c .before .if1 .left))
 
 slice-aggregate-write-answer : tie.Need-slice-aggregate-write-answer
-slice-aggregate-write-answer c = sym (rw length-take (min-eq-left (c .before .before .if1 .left)))
+slice-aggregate-write-answer c =
+    let count = c .before .before .before .labels-in .ensures in
+    sym (rw length-take (min-eq-left (words-there _ count (c .before .before .if1 .left))))
 
 enum-told : tie.Need-enum-told
 enum-told c = search needs
@@ -32,7 +39,9 @@ same-length : tie.Need-same-length
 same-length c = search needs
 
 returns-2 : tie.Need-returns-2
-returns-2 c = written (Listed _ _) (c .before .before .before .before .before .before .before .said .given .1) (c .before .before .write-answer .ensures)
+returns-2 c =
+    let said = c .before .before .before .before .before .before .before .before .said in
+    written (Listed _ _) (said .given .1) (rw held-take at (c .before .before .write-answer .ensures))
 
 same-length-2 : tie.Need-same-length-2
 same-length-2 c = search needs
@@ -57,5 +66,5 @@ returns-5 c = written TooLarge (c .before .before .before .before .enum-told2 .g
 pub write-response-spec : {M : Type 1} → statement M
 write-response-spec =
     tie.close
-    (tie.spec enum-known-said returns slice-aggregate-write-answer asks-nothing enum-told asks-nothing enum-known-said-2 asks-nothing asks-nothing
-    enum-told-2 asks-nothing same-length returns-2 same-length-2 returns-3 same-length-3 returns-4 same-length-4 returns-5)
+    (tie.spec enum-known-said asks-nothing returns mul-write-answer slice-aggregate-write-answer asks-nothing enum-told asks-nothing enum-known-said-2
+    asks-nothing asks-nothing enum-told-2 asks-nothing same-length returns-2 same-length-2 returns-3 same-length-3 returns-4 same-length-4 returns-5)

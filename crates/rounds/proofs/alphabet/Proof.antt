@@ -1,6 +1,8 @@
 -- `rounds::alphabet` meets its contract: the rounds, the listing, and the work area set to 0.
 -- Assumes nothing.
+use native.Mathlib.Omega.{arith}
 use borrow.Author.Needs.{needs}
+use Rattle.areas.proofs.Held.{length-held}
 use Rattle.rounds.proofs.Listings.{answered-short, answered-large, answered-listed}
 use Rattle.rounds.proofs.alphabet.Statement.{statement}
 use Rattle.rounds.proofs.alphabet.Tie as tie
@@ -28,6 +30,14 @@ returns-2 c =
 labels-of-requires : tie.Need-labels-of-requires
 labels-of-requires c κs = tt
 
+labels-in-requires : tie.Need-labels-in-requires
+labels-in-requires c κs = tt
+
+mul-used : tie.Need-mul-used
+mul-used c =
+    let set = c .before .labels-of in
+    omega (arith, c .labels-in .ensures, length-held (set .result .now), set .ok .0)
+
 cut-to-requires : tie.Need-cut-to-requires
 cut-to-requires c κs = tt
 
@@ -44,14 +54,15 @@ returns-3 : tie.Need-returns-3
 returns-3 c =
     let cleared = c .before .before in
     let cut = cleared .before .before .before .before in
-    let shown = cut .before .before in
+    let counted = cut .before .before in
+    let shown = counted .before in
     let found = shown .before .before .before in
     let run = found .before .before .before .before in
     answered-listed (run .before .before .if1 .left) (rw (found .found .given .1) at (run .until-stable .ensures)) (shown .labels-of .ensures)
-    (cut .cut-to .ensures) (cleared .clear .ensures)
+    (counted .labels-in .ensures) (cut .cut-to .ensures) (cleared .clear .ensures)
 
 pub alphabet-spec : {M : Type 1} → statement M
 alphabet-spec =
     tie.close
-    (tie.spec returns until-stable-requires enum-known-found enum-told same-length returns-2 labels-of-requires cut-to-requires clear-requires
-    same-length-2 same-length-3 returns-3)
+    (tie.spec returns until-stable-requires enum-known-found enum-told same-length returns-2 labels-of-requires labels-in-requires mul-used
+    cut-to-requires clear-requires same-length-2 same-length-3 returns-3)

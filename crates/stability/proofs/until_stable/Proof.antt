@@ -26,7 +26,7 @@ slice-relend-prefix-run c = c .before .before .before .if1 .left
 slice-aggregate-run-4 : tie.Need-slice-aggregate-run-4
 slice-aggregate-run-4 c =
     let tested = c .before .before .before .before in
-    sym (length-take 4096 (tested .before .before .before .before .args .work .now) ∙ min-eq-left (tested .if1 .left))
+    sym (length-take 8192 (tested .before .before .before .before .args .work .now) ∙ min-eq-left (tested .if1 .left))
 
 slice-aggregate-run-5 : tie.Need-slice-aggregate-run-5
 slice-aggregate-run-5 c = refl
@@ -55,7 +55,8 @@ returns-2 c =
     let rooted = left .before .before in
     let run = rooted .before .before .before .before .before .before .before .before .before in
     let tested = run .before .before .before .before .before .before .before in
-    reached-run (tested .if1 .left) (run .run .ensures) (rooted .root-of .ensures) (left .conclude .ensures)
+    reached-run (run .run .last .1 .1 .1 .1 .1 .0) (tested .if1 .left) (run .run .ensures) (run .run .kept .1 .1 .1 .1 .1 .0)
+    (rooted .root-of .ensures) (left .conclude .ensures)
 
 pub until-stable-spec : {M : Type 1} → statement M
 until-stable-spec =

@@ -1,10 +1,12 @@
 -- `sums::add_each` meets its contract. The loop's invariant: the sums with the labels from the i-th on are to come, and the set has those in
 -- the table; the measure is how many are to come. Assumes nothing.
-use mathlib.Core.Path.{_∙_}
+use mathlib.Core.Path.{_≡_, refl, _∙_}
 use Prim.Native.Nat.{_-_}
 use native.Mathlib.Omega.{arith}
 use borrow.Author.Needs.{needs}
-use Rattle.extents.proofs.RowWalks.{row-length, row-large, row-end}
+use lib.ListN.{length}
+use Rattle.areas.specs.Rows.{held}
+use Rattle.extents.proofs.RowWalks.{row-large, row-end}
 use Rattle.sums.specs.Sums.{rowOf}
 use Rattle.sums.proofs.SumLaws.{steady-rowOf}
 use Rattle.sums.proofs.SeenLaws.{TableWalk, table-start, table-holds}
@@ -13,7 +15,8 @@ use Rattle.sums.proofs.add_each.Tie as tie
 
 abbrev Inv-loop : tie.InvT-loop
 Inv-loop a b seen₀ out₀ len count₀ end i₀ seen out count i =
-    TableWalk (λ room. rowOf room b) a len seen₀ out₀ end seen out count i
+    TableWalk (λ room. rowOf room (held b)) (held a) len (held out₀) end (held seen) (held out) count i
+    × (length seen ≡ length seen₀) × (length out ≡ length out₀)
 
 abbrev μ-loop : tie.MeasureT-loop
 μ-loop a b seen₀ out₀ len count₀ end i₀ seen out count i = end - i
@@ -26,13 +29,13 @@ labels-in-requires c κs = search needs
 
 loop-holds : tie.Need-loop-holds Inv-loop μ-loop
 loop-holds c =
-    table-start (c .before .before .before .before .before .before .before .pre) (c .before .reach .ensures) (c .labels-in .ensures)
+    (table-start (c .before .before .before .before .before .before .before .pre) (c .before .reach .ensures) (c .labels-in .ensures), refl, refl)
 
 read-label-requires : tie.Need-read-label-requires Inv-loop μ-loop
 read-label-requires c κs = search needs
 
 add-row-requires : tie.Need-add-row-requires Inv-loop μ-loop
-add-row-requires c κs = c .before .before .before .before .loop .inv .kept
+add-row-requires c κs = c .before .before .before .before .loop .inv .0 .kept
 
 enum-known-step : tie.Need-enum-known-step Inv-loop μ-loop
 enum-known-step c = search needs
@@ -44,13 +47,13 @@ same-length : tie.Need-same-length Inv-loop μ-loop
 same-length c =
     let rowed = c .before .before .before .before .before .before in
     let looped = rowed .before .before .before .before .before in
-    rowed .add-row .kept .1 .1 .0 ∙ looped .loop .inv .long
+    rowed .add-row .kept .1 .1 .0 ∙ looped .loop .inv .1
 
 same-length-2 : tie.Need-same-length-2 Inv-loop μ-loop
 same-length-2 c =
     let rowed = c .before .before .before .before .before .before in
     let looped = rowed .before .before .before .before .before in
-    rowed .add-row .kept .1 .1 .1 .0 ∙ row-length (looped .loop .inv .walk) .0
+    rowed .add-row .kept .1 .1 .1 .0 ∙ looped .loop .inv .2
 
 returns : tie.Need-returns Inv-loop μ-loop
 returns c =
@@ -58,7 +61,7 @@ returns c =
     let read = rowed .before .before .before in
     let looped = read .before .before in
     let by = looped .before .before .before .before .before .before .before .before .args .b .now in
-    row-large (looped .loop .inv .walk) (λ room. steady-rowOf room by) (read .before .loop-test .taken) (read .read-label .ensures)
+    row-large (looped .loop .inv .0 .walk) (λ room. steady-rowOf room (held by)) (read .before .loop-test .taken) (read .read-label .ensures)
     (rowed .add-row .ensures .grown) (c .enum-told .given .1)
 
 add-i : tie.Need-add-i Inv-loop μ-loop
@@ -73,17 +76,21 @@ loop-again c =
     let read = rowed .before .before .before in
     let looped = read .before .before in
     let by = looped .before .before .before .before .before .before .before .before .args .b .now in
-    table-holds (looped .loop .inv) (λ room. steady-rowOf room by) (read .before .loop-test .taken) (read .read-label .ensures)
-    (rowed .add-row .ensures) (rowed .add-row .kept .1 .1 .0) (c .before .step .given .1)
+    let kept = rowed .add-row .kept in (
+      table-holds (looped .loop .inv .0) (λ room. steady-rowOf room (held by)) (read .before .loop-test .taken) (read .read-label .ensures)
+          (rowed .add-row .ensures) (c .before .step .given .1),
+      kept .1 .1 .0 ∙ looped .loop .inv .1,
+      kept .1 .1 .1 .0 ∙ looped .loop .inv .2,
+    )
 
 same-length-3 : tie.Need-same-length-3 Inv-loop μ-loop
-same-length-3 c = c .before .loop .inv .long
+same-length-3 c = c .before .loop .inv .1
 
 same-length-4 : tie.Need-same-length-4 Inv-loop μ-loop
-same-length-4 c = row-length (c .before .loop .inv .walk) .0
+same-length-4 c = c .before .loop .inv .2
 
 returns-2 : tie.Need-returns-2 Inv-loop μ-loop
-returns-2 c = row-end (c .before .loop .inv .walk) (c .loop-test .left)
+returns-2 c = row-end (c .before .loop .inv .0 .walk) (c .loop-test .left)
 
 pub add-each-spec : {M : Type 1} → statement M
 add-each-spec =

@@ -1,10 +1,12 @@
 -- `sums::add_row` meets its contract. The loop's invariant: the sums with the labels from the i-th on are to come, and the set has those in
 -- the table; the measure is how many are to come. Assumes nothing.
-use mathlib.Core.Path.{_∙_}
+use mathlib.Core.Path.{_≡_, refl, _∙_}
 use Prim.Native.Nat.{_-_}
 use native.Mathlib.Omega.{arith}
 use borrow.Author.Needs.{needs}
-use Rattle.extents.proofs.RowWalks.{row-length}
+use lib.ListN.{length}
+use Rattle.labels.specs.Packing.{code}
+use Rattle.areas.specs.Rows.{held}
 use Rattle.sums.specs.Sums.{sumIn}
 use Rattle.sums.proofs.SumLaws.{steady-sumIn}
 use Rattle.sums.proofs.SeenLaws.{TableWalk, table-start, table-holds, table-large, table-end}
@@ -13,7 +15,8 @@ use Rattle.sums.proofs.add_row.Tie as tie
 
 abbrev Inv-loop : tie.InvT-loop
 Inv-loop label by seen₀ out₀ len count₀ end i₀ seen out count i =
-    TableWalk (λ room. sumIn room (label .word)) by len seen₀ out₀ end seen out count i
+    TableWalk (λ room. sumIn room (code label)) (held by) len (held out₀) end (held seen) (held out) count i
+    × (length seen ≡ length seen₀) × (length out ≡ length out₀)
 
 abbrev μ-loop : tie.MeasureT-loop
 μ-loop label by seen₀ out₀ len count₀ end i₀ seen out count i = end - i
@@ -26,7 +29,7 @@ labels-in-requires c κs = search needs
 
 loop-holds : tie.Need-loop-holds Inv-loop μ-loop
 loop-holds c =
-    table-start (c .before .before .before .before .before .before .pre) (c .before .reach .ensures) (c .labels-in .ensures)
+    (table-start (c .before .before .before .before .before .before .pre) (c .before .reach .ensures) (c .labels-in .ensures), refl, refl)
 
 read-label-requires : tie.Need-read-label-requires Inv-loop μ-loop
 read-label-requires c κs = search needs
@@ -35,7 +38,7 @@ sum-requires : tie.Need-sum-requires Inv-loop μ-loop
 sum-requires c κs = search needs
 
 take-sum-requires : tie.Need-take-sum-requires Inv-loop μ-loop
-take-sum-requires c κs = c .before .before .before .before .before .loop .inv .kept
+take-sum-requires c κs = c .before .before .before .before .before .loop .inv .0 .kept
 
 enum-known-step : tie.Need-enum-known-step Inv-loop μ-loop
 enum-known-step c = search needs
@@ -47,13 +50,13 @@ same-length : tie.Need-same-length Inv-loop μ-loop
 same-length c =
     let took = c .before .before .before .before .before .before in
     let looped = took .before .before .before .before .before .before in
-    took .take-sum .kept .0 ∙ looped .loop .inv .long
+    took .take-sum .kept .0 ∙ looped .loop .inv .1
 
 same-length-2 : tie.Need-same-length-2 Inv-loop μ-loop
 same-length-2 c =
     let took = c .before .before .before .before .before .before in
     let looped = took .before .before .before .before .before .before in
-    took .take-sum .kept .1 .0 ∙ row-length (looped .loop .inv .walk) .0
+    took .take-sum .kept .1 .0 ∙ looped .loop .inv .2
 
 returns : tie.Need-returns Inv-loop μ-loop
 returns c =
@@ -61,8 +64,8 @@ returns c =
     let summed = took .before .before .before in
     let read = summed .before in
     let looped = read .before .before in
-    let label = looped .before .before .before .before .before .before .before .args .label .word in
-    table-large (looped .loop .inv) (λ room. steady-sumIn room label) (read .before .loop-test .taken) (read .read-label .ensures)
+    let label = looped .before .before .before .before .before .before .before .args .label in
+    table-large (looped .loop .inv .0) (λ room. steady-sumIn room (code label)) (read .before .loop-test .taken) (read .read-label .ensures)
     (rw (summed .sum .ensures) at (took .take-sum .ensures)) (c .enum-told .given .1)
 
 add-i : tie.Need-add-i Inv-loop μ-loop
@@ -77,18 +80,22 @@ loop-again c =
     let summed = took .before .before .before in
     let read = summed .before in
     let looped = read .before .before in
-    let label = looped .before .before .before .before .before .before .before .args .label .word in
-    table-holds (looped .loop .inv) (λ room. steady-sumIn room label) (read .before .loop-test .taken) (read .read-label .ensures)
-    (rw (summed .sum .ensures) at (took .take-sum .ensures)) (took .take-sum .kept .0) (c .before .step .given .1)
+    let label = looped .before .before .before .before .before .before .before .args .label in
+    let kept = took .take-sum .kept in (
+      table-holds (looped .loop .inv .0) (λ room. steady-sumIn room (code label)) (read .before .loop-test .taken) (read .read-label .ensures)
+          (rw (summed .sum .ensures) at (took .take-sum .ensures)) (c .before .step .given .1),
+      kept .0 ∙ looped .loop .inv .1,
+      kept .1 .0 ∙ looped .loop .inv .2,
+    )
 
 same-length-3 : tie.Need-same-length-3 Inv-loop μ-loop
-same-length-3 c = c .before .loop .inv .long
+same-length-3 c = c .before .loop .inv .1
 
 same-length-4 : tie.Need-same-length-4 Inv-loop μ-loop
-same-length-4 c = row-length (c .before .loop .inv .walk) .0
+same-length-4 c = c .before .loop .inv .2
 
 returns-2 : tie.Need-returns-2 Inv-loop μ-loop
-returns-2 c = table-end (c .before .loop .inv) (c .loop-test .left)
+returns-2 c = table-end (c .before .loop .inv .0) (c .loop-test .left)
 
 pub add-row-spec : {M : Type 1} → statement M
 add-row-spec =

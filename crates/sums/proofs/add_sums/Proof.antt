@@ -3,6 +3,8 @@
 use mathlib.Core.Path.{sym, _∙_}
 use native.Mathlib.Omega.{arith}
 use borrow.Author.Needs.{needs}
+use Rattle.areas.specs.Rows.{held}
+use Rattle.areas.proofs.Held.{held-none}
 use Rattle.parts.specs.Parts.{setAt}
 use Rattle.sets.proofs.Presence.{rises→}
 use Rattle.sums.proofs.SeenLaws.{kept-nowhere}
@@ -30,7 +32,7 @@ slice-aggregate-add-each c = search needs
 add-each-requires : tie.Need-add-each-requires
 add-each-requires c κs =
     let a = c .before .before .before .before .before .before .before .args in
-    kept-nowhere _ (setAt 0 (a .len) (a .out .now)) (omega arith)
+    kept-nowhere _ (setAt 0 (a .len) (held (a .out .now))) (rw held-none (omega arith))
 
 same-length-2 : tie.Need-same-length-2
 same-length-2 c = search needs

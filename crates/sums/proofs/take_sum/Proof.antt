@@ -1,6 +1,7 @@
 -- `sums::take_sum` meets its contract. Assumes nothing.
 use mathlib.Core.Path.{refl, sym}
 use borrow.Author.Needs.{needs}
+use Rattle.areas.specs.Rows.{held}
 use Rattle.parts.proofs.LaidSets.{laid-self}
 use Rattle.sums.proofs.SeenLaws.{grown-stops}
 use Rattle.sums.proofs.take_sum.Statement.{statement}
@@ -18,7 +19,7 @@ enter-once-requires c κs = search needs
 returns : tie.Need-returns
 returns c =
     let a = c .before .before .before .before .args in
-    grown-stops (rw (c .enum-told .given .1) (record { answer = refl; words = sym (laid-self 0 (a .len) (a .out .now)) })) refl
+    grown-stops (rw (c .enum-told .given .1) (record { answer = refl; words = sym (laid-self 0 (a .len) (held (a .out .now))) })) refl
 
 same-length : tie.Need-same-length
 same-length c = search needs

@@ -13,16 +13,16 @@ use Rattle.table.proofs.names_by_value.Statement.{statement}
 use Rattle.table.proofs.names_by_value.Tie as tie
 
 abbrev Inv-loop : tie.InvT-loop
-Inv-loop table given names₀ i₀ names i = (names ≡ filled 12 0 (take i given)) × (i ≤ 12)
+Inv-loop table given names₀ i₀ names i = (names ≡ filled 24 0 (take i given)) × (i ≤ 24)
 
 abbrev μ-loop : tie.MeasureT-loop
-μ-loop table given names₀ i₀ names i = 12 - i
+μ-loop table given names₀ i₀ names i = 24 - i
 
 names-of-requires : tie.Need-names-of-requires Inv-loop μ-loop
 names-of-requires c κs = search needs
 
 loop-holds : tie.Need-loop-holds Inv-loop μ-loop
-loop-holds c = (filled-replicate 0 12, omega arith)
+loop-holds c = (filled-replicate 0 24, omega arith)
 
 word-at-requires : tie.Need-word-at-requires Inv-loop μ-loop
 word-at-requires c κs = search needs
@@ -44,8 +44,8 @@ loop-again c =
     let l = c .before .before .loop in
     let given = c .before .before .before .names-of .result .now in
     let more : suc (l .i) ≡ l .i + 1 = omega arith in (
-      ap₂ (λ (ns : List ℕ) (w : ℕ). set ns (l .i) w) (l .inv .0) (c .word-at .ensures) ∙ filled-next 0 12 (l .i) given
-          ∙ ap (λ (k : ℕ). filled 12 0 (take k given)) more,
+      ap₂ (λ (ns : List ℕ) (w : ℕ). set ns (l .i) w) (l .inv .0) (c .word-at .ensures) ∙ filled-next 0 24 (l .i) given
+          ∙ ap (λ (k : ℕ). filled 24 0 (take k given)) more,
       omega arith,
     )
 
@@ -53,8 +53,8 @@ returns : tie.Need-returns Inv-loop μ-loop
 returns c =
     let l = c .before .loop in
     let given = c .before .before .names-of .result .now in
-    let whole : l .i ≡ 12 = omega arith in
-    l .inv .0 ∙ ap (λ (k : ℕ). filled 12 0 (take k given)) whole ∙ filled-take 0 12 given ∙ ap (filled 12 0) (c .before .before .names-of .ensures)
+    let whole : l .i ≡ 24 = omega arith in
+    l .inv .0 ∙ ap (λ (k : ℕ). filled 24 0 (take k given)) whole ∙ filled-take 0 24 given ∙ ap (filled 24 0) (c .before .before .names-of .ensures)
 
 pub names-by-value-spec : {M : Type 1} → statement M
 names-by-value-spec =

@@ -16,8 +16,11 @@ abbrev μ-loop : tie.MeasureT-loop
 loop-holds : tie.Need-loop-holds Inv-loop μ-loop
 loop-holds c = (refl, omega arith)
 
-mul-t8 : tie.Need-mul-t8 Inv-loop μ-loop
-mul-t8 c = omega arith
+mul-label-of : tie.Need-mul-label-of Inv-loop μ-loop
+mul-label-of c = omega arith
+
+label-of-requires : tie.Need-label-of-requires Inv-loop μ-loop
+label-of-requires c κs = search needs
 
 write-label-requires : tie.Need-write-label-requires Inv-loop μ-loop
 write-label-requires c κs = search needs
@@ -25,11 +28,14 @@ write-label-requires c κs = search needs
 add-write-label : tie.Need-add-write-label Inv-loop μ-loop
 add-write-label c = omega arith
 
-mul-t8-2 : tie.Need-mul-t8-2 Inv-loop μ-loop
-mul-t8-2 c = omega arith
+mul-label-of-2 : tie.Need-mul-label-of-2 Inv-loop μ-loop
+mul-label-of-2 c = omega arith
 
-add-t13 : tie.Need-add-t13 Inv-loop μ-loop
-add-t13 c = omega arith
+add-label-of : tie.Need-add-label-of Inv-loop μ-loop
+add-label-of c = omega arith
+
+label-of-requires-2 : tie.Need-label-of-requires-2 Inv-loop μ-loop
+label-of-requires-2 c κs = search needs
 
 write-label-requires-2 : tie.Need-write-label-requires-2 Inv-loop μ-loop
 write-label-requires-2 c κs = search needs
@@ -43,8 +49,8 @@ loop-less c = omega arith
 loop-again : tie.Need-loop-again Inv-loop μ-loop
 loop-again c =
     let second = c .before .before in
-    let first = second .before .before .before .before in
-    let looped = first .before .before .before in
+    let first = second .before .before .before .before .before in
+    let looped = first .before .before .before .before in
     (second .write-label2 .kept .0 ∙ first .write-label .kept .0 ∙ looped .loop .inv .0, omega arith)
 
 same-length : tie.Need-same-length Inv-loop μ-loop
@@ -56,5 +62,5 @@ returns c = search needs
 pub interleaved-spec : {M : Type 1} → statement M
 interleaved-spec =
     tie.close
-    (tie.spec Inv-loop μ-loop loop-holds mul-t8 write-label-requires add-write-label mul-t8-2 add-t13 write-label-requires-2 add-i
-    loop-less loop-again same-length returns)
+    (tie.spec Inv-loop μ-loop loop-holds mul-label-of label-of-requires write-label-requires add-write-label mul-label-of-2 add-label-of
+    label-of-requires-2 write-label-requires-2 add-i loop-less loop-again same-length returns)

@@ -4,6 +4,7 @@ use Prim.Native.Nat.{_≤_, _-_, _*_}
 use native.Mathlib.Omega.{arith}
 use borrow.Author.Needs.{needs}
 use lib.ListN.{length}
+use Rattle.areas.specs.Rows.{held}
 use Rattle.parts.proofs.LaidSets.{length-setAt}
 use Rattle.union_costs.proofs.moved_by_insertions.Statement.{statement}
 use Rattle.union_costs.proofs.moved_by_insertions.Tie as tie
@@ -27,7 +28,7 @@ sub-moved : tie.Need-sub-moved Inv-loop μ-loop
 sub-moved c =
     let looped = c .before .before .before .before .before in
     let a = looped .before .before .args in
-    omega (arith, c .place .ensures .within, length-setAt (a .at) (looped .loop .len) (looped .loop .words))
+    omega (arith, c .place .ensures .within, length-setAt (a .at) (looped .loop .len) (held (looped .loop .words)))
 
 add-moved : tie.Need-add-moved Inv-loop μ-loop
 add-moved c = omega arith

@@ -4,6 +4,7 @@ mod sized;
 
 use crate::draft::{doubled, Draft, GROWING};
 use crate::lists::{self, Lists};
+use crate::names;
 use crate::random::Random;
 use crate::well_formed::order;
 use sized::Sized;
@@ -151,5 +152,24 @@ pub fn dies(random: &mut Random) -> Vec<u8> {
         _ => (),
     }
     draft.order = mostly_short(random, &draft.names);
+    draft.bytes()
+}
+
+/// Some 970 labels, most of them with all of 24 names, and these of the greatest
+/// length: texts that are nearly as long as any.
+pub fn longest_texts(random: &mut Random) -> Vec<u8> {
+    let mut draft = Draft::new(names::long(24));
+    let acts: Vec<usize> = (0..24).map(|name| draft.act(name)).collect();
+    let all = acts[1..].iter().fold(acts[0], |all, act| draft.two("sync", all, *act));
+    // With one more of some names, and with up to three more of the first six.
+    let mut long = all;
+    for act in &acts[..random.within(11..=15)] {
+        let one_more = draft.two("sync", all, *act);
+        long = draft.two("choice", long, one_more);
+    }
+    let one = acts[1..6].iter().fold(acts[0], |any, act| draft.two("choice", any, *act));
+    let two = draft.side_by_side(random, one, one);
+    let three = draft.side_by_side(random, two, one);
+    draft.side_by_side(random, long, three);
     draft.bytes()
 }

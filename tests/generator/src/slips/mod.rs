@@ -5,15 +5,33 @@ mod of_lines;
 mod of_lists;
 mod of_tokens;
 
+use crate::across_12;
 use crate::draft::ended;
+use crate::many_names;
 use crate::random::Random;
+use crate::spread_names;
 use crate::well_formed;
 
 type Lines = Vec<Vec<u8>>;
 
 /// A well-formed description with one to three slips.
 pub fn record(random: &mut Random) -> Vec<u8> {
-    let mut lines = well_formed::draft(random).lines();
+    let lines = well_formed::draft(random).lines();
+    with_slips(random, lines)
+}
+
+/// The same with up to 24 names.
+pub fn with_more_names(random: &mut Random) -> Vec<u8> {
+    let record = match random.below(10) {
+        0..=4 => spread_names::record(random),
+        5..=6 => across_12::record(random),
+        _ => many_names::record(random),
+    };
+    let whole = record.strip_suffix(b"\n").unwrap_or(&record);
+    with_slips(random, whole.split(|byte| *byte == b'\n').map(<[u8]>::to_vec).collect())
+}
+
+fn with_slips(random: &mut Random, mut lines: Lines) -> Vec<u8> {
     for _ in 0..random.weighted(&[(1, 60), (2, 25), (3, 15)]) {
         make(random, &mut lines);
     }

@@ -4,6 +4,7 @@ mod additions;
 mod batches;
 mod columns;
 mod document_examples;
+mod many_names;
 mod reading_limits;
 mod refusals;
 mod runs;

@@ -17,10 +17,15 @@ fn text(names: usize, terms: usize, equations: usize, last: &str, order: &str) -
 #[test]
 fn counts_of_lines() {
     let is_read = |text: String| text.starts_with("answer=ok\n");
-    assert!(is_read(text(12, 96, 16, "act n11", "all")));
-    assert_eq!(text(13, 96, 16, "act n11", "all"), refused(2, 1, 7));
-    assert_eq!(text(12, 96, 17, "act n11", "all"), refused(2, 14, 11));
-    assert_eq!(text(12, 97, 16, "act n11", "all"), refused(2, 15, 7));
+    for names in 1..=24 {
+        let last = format!("act n{}", names - 1);
+        assert!(is_read(text(names, 96, 16, &last, "all")), "{} names", names);
+    }
+    for names in [0, 25, 26, 99] {
+        assert_eq!(text(names, 96, 16, "act n0", "all"), refused(2, 1, 7), "{} names", names);
+    }
+    assert_eq!(text(24, 96, 17, "act n23", "all"), refused(2, 26, 11));
+    assert_eq!(text(24, 97, 16, "act n23", "all"), refused(2, 27, 7));
 }
 
 /// Lists of 32 and 33 labels, in an allow and in the order. The further
@@ -48,14 +53,16 @@ fn labels_of_a_list() {
 }
 
 /// Counts of several names that add up to more than a byte holds (14, eleven
-/// times 22, so 256; 14 and eleven times 99, so 1,103) are over 31 as well.
+/// times 22, so 256; 14 and 22 times 11, the same; 14 and 23 times 99, so 2,291)
+/// are over 31 as well.
 #[test]
 fn actions_of_a_long_label() {
-    let cases = [(0, 0, true), (1, 17, true), (1, 18, false), (11, 22, false), (11, 99, false)];
-    for (others, count, is_legal) in cases {
-        let others = (1..=others).map(|name| format!(".n{}:{}", name, count));
-        let label = format!("n0:14{}", others.collect::<String>());
-        let expected = if is_legal { answered(1, "") } else { refused(5, 19, 7) };
-        assert_eq!(text(12, 2, 0, "tau", &label), expected, "{}", label);
+    let cases = [(0, 0), (1, 17), (17, 1), (1, 18), (18, 1), (11, 22), (22, 11), (23, 1), (23, 99)];
+    for (others, count) in cases {
+        let parts = (1..=others).map(|name| format!(".n{}:{}", name, count));
+        let label = format!("n0:14{}", parts.collect::<String>());
+        let is_legal = 14 + others * count <= 31;
+        let expected = if is_legal { answered(1, "") } else { refused(5, 31, 7) };
+        assert_eq!(text(24, 2, 0, "tau", &label), expected, "{}", label);
     }
 }

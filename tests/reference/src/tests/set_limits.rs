@@ -5,16 +5,16 @@ use super::{answered, as_strs, merge_dies, refused, Case};
 const NAMES: &[&str] = &["a", "b", "c", "d", "e", "f", "g", "h", "i", "j"];
 
 /// Terms that are added one by one; each call gives the new term's number.
-struct Terms {
-    lines: Vec<String>,
+pub struct Terms {
+    pub lines: Vec<String>,
 }
 
 impl Terms {
-    fn new() -> Terms {
+    pub fn new() -> Terms {
         Terms { lines: vec![String::from("tau")] }
     }
 
-    fn add(&mut self, line: String) -> usize {
+    pub fn add(&mut self, line: String) -> usize {
         self.lines.push(line);
         self.lines.len() - 1
     }
@@ -31,7 +31,7 @@ impl Terms {
     }
 
     /// So many of a name at once.
-    fn at_once(&mut self, name: &str, count: usize) -> usize {
+    pub fn at_once(&mut self, name: &str, count: usize) -> usize {
         let act = self.add(format!("act {}", name));
         (1..count).fold(act, |all, _| self.add(format!("sync {} {}", all, act)))
     }

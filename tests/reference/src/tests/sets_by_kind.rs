@@ -6,9 +6,12 @@ use super::{answered, Case};
 pub type Row = (&'static [&'static str], &'static [usize], usize, &'static str);
 
 pub fn check(rows: &[Row]) {
+    check_with(&["a", "b", "c", "d"], rows);
+}
+
+pub fn check_with(names: &[&str], rows: &[Row]) {
     for (terms, bodies, rounds, labels) in rows {
         let root = terms.len() - 1;
-        let names = &["a", "b", "c", "d"];
         let case = Case { names, terms, bodies, root, order: "all" };
         assert_eq!(case.text(), answered(*rounds, labels), "{:?} {:?}", terms, bodies);
     }

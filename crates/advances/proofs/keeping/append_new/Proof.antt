@@ -1,7 +1,9 @@
 -- `advances::keeping::append_new` meets its contract. Assumes nothing.
 use native.Mathlib.Omega.{arith}
 use borrow.Author.Needs.{needs}
-use Rattle.advances.proofs.Appending.{logged-fits, appended-all, appended-large}
+use Rattle.areas.specs.Rows.{held}
+use Rattle.areas.proofs.Held.{length-held}
+use Rattle.advances.proofs.Appending.{held-long, logged-fits, appended-all, appended-large}
 use Rattle.advances.proofs.keeping.append_new.Statement.{statement}
 use Rattle.advances.proofs.keeping.append_new.Tie as tie
 
@@ -30,7 +32,7 @@ returns-2 : tie.Need-returns-2
 returns-2 c =
     let logged = c .before .before .before .before in
     let a = logged .before .before .before .before .before .before .before .before .args in
-    appended-large (a .known .now) (a .made .now) (a .end) (a .log .now) (logged .log-new .kept .1 .1 .0)
+    appended-large (held (a .known .now)) (held (a .made .now)) (a .end) (held (a .log .now)) (held-long _ _ (logged .log-new .kept .1 .1 .0))
     (rw (c .enum-told .given .1) at (logged .log-new .ensures))
 
 add-t7 : tie.Need-add-t7
@@ -38,11 +40,12 @@ add-t7 c =
     let logged = c .before .before .before .before .before in
     let start = logged .before .before .before .before .before .before .before .before in
     let a = start .args in
-    let fits = logged-fits (a .known .now) (a .made .now) (a .end) (a .log .now) (rw (c .before .logged .given .1) at (logged .log-new .ensures)) in
+    let fits = logged-fits (held (a .known .now)) (held (a .made .now)) (a .end) (held (a .log .now))
+    (rw (c .before .logged .given .1) at (logged .log-new .ensures)) in
     let g = start .good .1 .1 .0 .0 in
     let low = logged .before .before .if1 .left in
     let all = logged .before .before .before .labels-in .ensures in
-    omega arith
+    omega (arith, length-held (a .log .now))
 
 same-length-3 : tie.Need-same-length-3
 same-length-3 c = search needs
@@ -51,7 +54,7 @@ returns-3 : tie.Need-returns-3
 returns-3 c =
     let logged = c .before .before .before .before .before in
     let a = logged .before .before .before .before .before .before .before .before .args in
-    appended-all (a .known .now) (a .made .now) (a .end) (a .log .now) (logged .log-new .kept .1 .1 .0)
+    appended-all (held (a .known .now)) (held (a .made .now)) (a .end) (held (a .log .now)) (held-long _ _ (logged .log-new .kept .1 .1 .0))
     (rw (c .before .logged .given .1) at (logged .log-new .ensures))
 
 pub append-new-spec : {M : Type 1} → statement M

@@ -1,5 +1,6 @@
 -- `advances::keeping::keep_new` meets its contract. Assumes nothing.
 use mathlib.Core.Path.{ap, _∙_}
+use Rattle.areas.specs.Rows.{held}
 use Rattle.parts.specs.declared.Part.{Part}
 use Rattle.extents.specs.Extents.{wordsIn}
 use Rattle.advances.proofs.Keepings.{new-large, new-kept}
@@ -36,7 +37,7 @@ returns c =
     let logged = c .before .before .before .before in
     let shown = logged .before .before in
     let a = shown .before .before .before .before .before .before .before .before .before .args in
-    new-large (shown .labels-of .ensures ∙ ap (λ (p : Part). wordsIn p (a .work .now)) (shown .before .part-at .ensures))
+    new-large (shown .labels-of .ensures ∙ ap (λ (p : Part). wordsIn p (held (a .work .now))) (shown .before .part-at .ensures))
     (rw (c .enum-told .given .1) at (logged .append-new .ensures))
 
 take-in-requires : tie.Need-take-in-requires
@@ -57,12 +58,12 @@ same-length-7 c = search needs
 returns-2 : tie.Need-returns-2
 returns-2 c =
     let taken = c .before .before .before .before .before .before in
-    let held = taken .before .before .before .before .before .before in
-    let logged = held .before .before .before .before in
+    let holds = taken .before .before .before .before .before .before in
+    let logged = holds .before .before .before .before in
     let shown = logged .before .before in
     let a = shown .before .before .before .before .before .before .before .before .before .args in
-    new-kept (shown .labels-of .ensures ∙ ap (λ (p : Part). wordsIn p (a .work .now)) (shown .before .part-at .ensures))
-    (rw (held .logged .given .1) at (logged .append-new .ensures)) (taken .take-in .ensures)
+    new-kept (shown .labels-of .ensures ∙ ap (λ (p : Part). wordsIn p (held (a .work .now))) (shown .before .part-at .ensures))
+    (rw (holds .logged .given .1) at (logged .append-new .ensures)) (taken .take-in .ensures)
 
 pub keep-new-spec : {M : Type 1} → statement M
 keep-new-spec =

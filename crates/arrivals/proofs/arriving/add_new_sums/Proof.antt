@@ -3,6 +3,7 @@
 use mathlib.Core.Path.{sym, _∙_}
 use mathlib.Core.List.{List}
 use Prim.Native.Nat.{ℕ}
+use Rattle.areas.specs.Rows.{held}
 use Rattle.arrivals.specs.Arriving.{labelsOf}
 use Rattle.arrivals.proofs.NewSums.{sums-all, sums-large, sums-last}
 use borrow.Author.Needs.{needs}
@@ -48,9 +49,9 @@ returns c =
     let new = all .before .before in
     let lengths = sym (counted .before .labels-in .ensures) ∙ c .if1 .taken ∙ counted .labels-in2 .ensures in
     let a = new .before .before .before .before .before .before .before .args in
-    let news : ℕ → List ℕ = labelsOf (a .news .now) (a .log .now) in
-    let sets : ℕ → List ℕ = labelsOf (a .sets .now) (a .work .now) in
-    sums-all (news (a .t)) (sets (a .t)) (news (a .u)) (sets (a .u)) (a .len) (a .out .now) _
+    let news : ℕ → List ℕ = labelsOf (a .news .now) (held (a .log .now)) in
+    let sets : ℕ → List ℕ = labelsOf (a .sets .now) (held (a .work .now)) in
+    sums-all (news (a .t)) (sets (a .t)) (news (a .u)) (sets (a .u)) (a .len) (held (a .out .now)) _
     (rw (new .labels-of .ensures, new .before .part-at .ensures, all .labels-of2 .ensures, all .before .part-at2 .ensures) at lengths)
     (rw (new .labels-of .ensures, new .before .part-at .ensures, by .labels-of3 .ensures, by .before .part-at3 .ensures) at (added .add-sums .ensures))
 
@@ -71,9 +72,9 @@ returns-2 c =
     let first = rw (c .enum-told .given .1, new .labels-of .ensures, new .before .part-at .ensures, by .labels-of3 .ensures, by .before .part-at3 .ensures) at
     (added .add-sums .ensures) in
     let a = new .before .before .before .before .before .before .before .args in
-    let news : ℕ → List ℕ = labelsOf (a .news .now) (a .log .now) in
-    let sets : ℕ → List ℕ = labelsOf (a .sets .now) (a .work .now) in
-    sums-large (news (a .t)) (sets (a .t)) (news (a .u)) (sets (a .u)) (a .len) (a .out .now) _ first
+    let news : ℕ → List ℕ = labelsOf (a .news .now) (held (a .log .now)) in
+    let sets : ℕ → List ℕ = labelsOf (a .sets .now) (held (a .work .now)) in
+    sums-large (news (a .t)) (sets (a .t)) (news (a .u)) (sets (a .u)) (a .len) (held (a .out .now)) _ first
 
 part-at-requires-4 : tie.Need-part-at-requires-4
 part-at-requires-4 c κs = search needs
@@ -90,8 +91,8 @@ same-length-3 c = search needs
 returns-3 : tie.Need-returns-3
 returns-3 c =
     let other = c .before .before .before .before in
-    let held = other .before .before .before in
-    let counted = held .before .before .before in
+    let holds = other .before .before .before in
+    let counted = holds .before .before .before in
     let added = counted .before .before .before .before in
     let by = added .before .before in
     let all = by .before .before in
@@ -103,12 +104,12 @@ returns-3 c =
       new .before .part-at .ensures,
       all .labels-of2 .ensures,
       all .before .part-at2 .ensures,
-    ) at (held .before .before .if1 .left) in
+    ) at (holds .before .before .if1 .left) in
     let a = new .before .before .before .before .before .before .before .args in
-    let news : ℕ → List ℕ = labelsOf (a .news .now) (a .log .now) in
-    let sets : ℕ → List ℕ = labelsOf (a .sets .now) (a .work .now) in
-    sums-last (news (a .t)) (sets (a .t)) (news (a .u)) (sets (a .u)) (a .len) (a .out .now) _ lengths
-    (rw (held .first .given .1, new .labels-of .ensures, new .before .part-at .ensures, by .labels-of3 .ensures, by .before .part-at3 .ensures) at
+    let news : ℕ → List ℕ = labelsOf (a .news .now) (held (a .log .now)) in
+    let sets : ℕ → List ℕ = labelsOf (a .sets .now) (held (a .work .now)) in
+    sums-last (news (a .t)) (sets (a .t)) (news (a .u)) (sets (a .u)) (a .len) (held (a .out .now)) _ lengths
+    (rw (holds .first .given .1, new .labels-of .ensures, new .before .part-at .ensures, by .labels-of3 .ensures, by .before .part-at3 .ensures) at
     (added .add-sums .ensures))
     (rw (other .labels-of4 .ensures, other .before .part-at4 .ensures, all .labels-of2 .ensures, all .before .part-at2 .ensures) at
     (c .before .before .add-sums2 .ensures))

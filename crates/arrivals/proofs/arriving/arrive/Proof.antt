@@ -1,5 +1,6 @@
 -- `arrivals::arriving::arrive` meets its contract: one case for each shape. Assumes nothing.
 use native.Mathlib.Omega.{arith}
+use Rattle.areas.specs.Rows.{held}
 use Rattle.images.proofs.Images.{taken-nothing}
 use borrow.Author.Needs.{needs}
 use Rattle.arrivals.proofs.arriving.arrive.Statement.{statement}
@@ -71,7 +72,7 @@ through-requires c κs = search needs
 returns : tie.Need-returns
 returns c =
     let a = c .before .before .before .before .before .before .before .before .args in
-    rw (c .enum-told .given .1) (taken-nothing 0 (a .out .now) (omega arith))
+    rw (c .enum-told .given .1) (taken-nothing 0 (held (a .out .now)) (omega arith))
 
 same-length : tie.Need-same-length
 same-length c = search needs

@@ -2,6 +2,7 @@
 use mathlib.Core.List.{List}
 use Prim.Native.Nat.{ℕ}
 use borrow.Author.Tests.{not-true, not-false}
+use Rattle.areas.specs.Rows.{held}
 use Rattle.arrivals.specs.Arriving.{labelsOf}
 use Rattle.arrivals.proofs.NewSums.{two-large, two-last}
 use borrow.Author.Needs.{needs}
@@ -41,10 +42,10 @@ returns-2 c =
     let asked = c .before .before in
     let united = asked .before .before .before in
     let a = united .before .before .before .before .before .before .before .before .before .args in
-    let news : ℕ → List ℕ = labelsOf (a .news .now) (a .log .now) in
-    let sets : ℕ → List ℕ = labelsOf (a .sets .now) (a .work .now) in
+    let news : ℕ → List ℕ = labelsOf (a .news .now) (held (a .log .now)) in
+    let sets : ℕ → List ℕ = labelsOf (a .sets .now) (held (a .work .now)) in
     rw (not-false (a .sums) (asked .if1 .left))
-    (two-large (news (a .t)) (sets (a .t)) (news (a .u)) (sets (a .u)) (a .out .now) _
+    (two-large (news (a .t)) (sets (a .t)) (news (a .u)) (sets (a .u)) (held (a .out .now)) _
     (rw (c .enum-told .given .1, united .before .before .before .part-at .ensures, united .before .before .part-at2 .ensures) at (united .union-of .ensures)))
 
 add-new-sums-requires : tie.Need-add-new-sums-requires
@@ -55,15 +56,15 @@ same-length-3 c = search needs
 
 returns-3 : tie.Need-returns-3
 returns-3 c =
-    let held = c .before .before .before .before .before in
-    let asked = held .before .before in
+    let holds = c .before .before .before .before .before in
+    let asked = holds .before .before in
     let united = asked .before .before .before in
     let a = united .before .before .before .before .before .before .before .before .before .args in
-    let news : ℕ → List ℕ = labelsOf (a .news .now) (a .log .now) in
-    let sets : ℕ → List ℕ = labelsOf (a .sets .now) (a .work .now) in
+    let news : ℕ → List ℕ = labelsOf (a .news .now) (held (a .log .now)) in
+    let sets : ℕ → List ℕ = labelsOf (a .sets .now) (held (a .work .now)) in
     rw (not-false (a .sums) (asked .if1 .left))
-    (two-last (news (a .t)) (sets (a .t)) (news (a .u)) (sets (a .u)) (a .out .now) _
-    (rw (held .first .given .1, united .before .before .before .part-at .ensures, united .before .before .part-at2 .ensures) at (united .union-of .ensures))
+    (two-last (news (a .t)) (sets (a .t)) (news (a .u)) (sets (a .u)) (held (a .out .now)) _
+    (rw (holds .first .given .1, united .before .before .before .part-at .ensures, united .before .before .part-at2 .ensures) at (united .union-of .ensures))
     (c .before .before .add-new-sums .ensures))
 
 pub of-two-spec : {M : Type 1} → statement M

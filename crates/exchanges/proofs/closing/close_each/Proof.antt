@@ -3,6 +3,7 @@
 use mathlib.Core.Path.{sym, _∙_}
 use native.Mathlib.Omega.{arith}
 use borrow.Author.Needs.{needs}
+use Rattle.areas.specs.Rows.{held}
 use Rattle.sets.proofs.Presence.{rises→}
 use Rattle.exchanges.proofs.LabelByLabel.{closes-reached}
 use Rattle.exchanges.proofs.closing.close_each.Statement.{statement}
@@ -24,7 +25,8 @@ returns : tie.Need-returns
 returns c =
     let reached = c .before .before .before .before .before .before in
     let a = reached .before .before .before .before .before .before .args in
-    closes-reached (a .labels .now) (a .operand .now) (a .rules .now) (reached .reach .ensures) (c .before .before .put-each-short .ensures)
+    closes-reached (held (a .labels .now)) (held (a .operand .now)) (held (a .rules .now)) (reached .reach .ensures)
+    (c .before .before .put-each-short .ensures)
 
 ascends-requires : tie.Need-ascends-requires
 ascends-requires c κs = search needs
@@ -44,7 +46,8 @@ returns-2 : tie.Need-returns-2
 returns-2 c =
     let reached = c .before .before .before .before .before .before .before .before .before in
     let a = reached .before .before .before .before .before .before .args in
-    closes-reached (a .labels .now) (a .operand .now) (a .rules .now) (reached .reach .ensures) (c .before .before .put-each-long .ensures)
+    closes-reached (held (a .labels .now)) (held (a .operand .now)) (held (a .rules .now)) (reached .reach .ensures)
+    (c .before .before .put-each-long .ensures)
 
 same-length-3 : tie.Need-same-length-3
 same-length-3 c = search needs
@@ -53,7 +56,8 @@ returns-3 : tie.Need-returns-3
 returns-3 c =
     let reached = c .before .before .before .before .before .before .before .before .before in
     let a = reached .before .before .before .before .before .before .args in
-    closes-reached (a .labels .now) (a .operand .now) (a .rules .now) (reached .reach .ensures) (c .before .before .put-each-short2 .ensures)
+    closes-reached (held (a .labels .now)) (held (a .operand .now)) (held (a .rules .now)) (reached .reach .ensures)
+    (c .before .before .put-each-short2 .ensures)
 
 pub close-each-spec : {M : Type 1} → statement M
 close-each-spec =

@@ -1,6 +1,9 @@
 -- `exchanges::closing::put_each_short` meets its contract. Assumes nothing.
 use native.Mathlib.Omega.{arith}
 use borrow.Author.Needs.{needs}
+use lib.ListN.{replicate}
+use Rattle.areas.specs.Rows.{held}
+use Rattle.areas.proofs.Held.{length-held}
 use Rattle.exchanges.proofs.Walking.{alone-walking}
 use Rattle.exchanges.proofs.closing.put_each_short.Statement.{statement}
 use Rattle.exchanges.proofs.closing.put_each_short.Tie as tie
@@ -12,7 +15,7 @@ put-each-requires : tie.Need-put-each-requires
 put-each-requires c κs =
     let f = c .before .before .before .before .before .before in
     let a = f .args in
-    alone-walking (a .len) (a .operand .now) (a .rules .now) (a .out .now) _ (f .pre) (omega arith)
+    alone-walking (a .len) (held (a .operand .now)) (held (a .rules .now)) (held (a .out .now)) _ (f .pre) (omega (arith, length-held (replicate 1 0)))
 
 same-length : tie.Need-same-length
 same-length c = search needs

@@ -1,11 +1,14 @@
 -- `exchanges::following::put` and `follow` meet their contracts. A rule that leads on leaves less, so the measure is twice what is
 -- left, and one more in `put`. The invariant of the loop over the rules is `Following`, its measure the place up to which they are to
 -- come. Assumes nothing.
-use mathlib.Core.Path.{_∙_}
+use mathlib.Core.Path.{_≡_, refl, _∙_}
 use Prim.Native.Nat.{ℕ, _+_, _*_, _<_}
 use native.Mathlib.Omega.{arith}
 use borrow.Author.Needs.{needs}
-use Rattle.exchanges.proofs.Walking.{walked-length}
+use lib.ListN.{length}
+use Rattle.labels.specs.Packing.{code}
+use Rattle.areas.specs.Rows.{held}
+use Rattle.exchanges.proofs.Walking.{held-long}
 use Rattle.exchanges.proofs.RuleByRule.{put-known, put-large, put-walking, put-stops, put-done}
 use Rattle.exchanges.proofs.RuleByRule.{Following, following-start, following-end, following-nothing, following-next, following-large, leads-less}
 use borrow.Fn.Kinds.{In}
@@ -25,10 +28,10 @@ use Rattle.exchanges.proofs.following.+follow+put.{statement}
 use Rattle.exchanges.proofs.following.+follow+put.Tie.{close}
 
 abbrev μ-follow : Measures 4 follow-kinds.ps ℕ
-μ-follow κs a = 2 * a .1 .1 .1 .1 .1 .1 .0 .rest .word
+μ-follow κs a = 2 * code (a .1 .1 .1 .1 .1 .1 .0 .rest)
 
 abbrev μ-put : Measures 4 put-kinds.ps ℕ
-μ-put κs a = 2 * a .1 .1 .1 .1 .1 .1 .0 .rest .word + 1
+μ-put κs a = 2 * code (a .1 .1 .1 .1 .1 .1 .0 .rest) + 1
 
 abbrev follow-at : ℕ → In 4 follow-kinds.ps
 follow-at t = and 4 follow-kinds.ps (is 4 follow-kinds.ps μ-follow t) follow.Pre
@@ -71,7 +74,7 @@ module _ (t : ℕ) where
   put-returns c =
       let f = c .before .before .before .before .before .before .before in
       let a = f .args in
-      put-known (a .before) (a .state .rest .word) (a .state .sum .word) (f .pre .1) (c .before .known .ensures) (c .if1 .taken)
+      put-known (a .before) (code (a .state .rest)) (code (a .state .sum)) (f .pre .1) (c .before .known .ensures) (c .if1 .taken)
 
   put-at-start-requires : put-lts.Need-at-start-requires (put-calls t) (put-at t) put.Post
   put-at-start-requires c κs = search needs
@@ -96,7 +99,7 @@ module _ (t : ℕ) where
       let entered = c .before .before .before .before in
       let f = entered .before .before .before .before .before .before .before .before .before .before in
       let a = f .args in
-      put-large (a .before) (a .state .rest .word) (a .state .sum .word) (f .pre .1) (entered .before .at-start .ensures) (entered .enter .ensures)
+      put-large (a .before) (code (a .state .rest)) (code (a .state .sum)) (f .pre .1) (entered .before .at-start .ensures) (entered .enter .ensures)
       (c .enum-told .given .1)
 
   put-follow-requires : put-lts.Need-follow-requires (put-calls t) (put-at t) put.Post
@@ -105,7 +108,7 @@ module _ (t : ℕ) where
       let f = entered .before .before .before .before .before .before .before .before .before .before in
       let a = f .args in (
         omega (arith, f .pre .0),
-        put-walking (a .before) (a .state .rest .word) (a .state .sum .word) (f .pre .1) (entered .before .at-start .ensures) (entered .enter .ensures)
+        put-walking (a .before) (code (a .state .rest)) (code (a .state .sum)) (f .pre .1) (entered .before .at-start .ensures) (entered .enter .ensures)
             (c .before .before .before .answer .given .1),
       )
 
@@ -129,7 +132,7 @@ module _ (t : ℕ) where
       let entered = followed .before .before .before .before .before .before .before .before in
       let f = entered .before .before .before .before .before .before .before .before .before .before in
       let a = f .args in
-      put-stops (a .before) (a .state .rest .word) (a .state .sum .word) (f .pre .1) (entered .before .at-start .ensures) (entered .enter .ensures)
+      put-stops (a .before) (code (a .state .rest)) (code (a .state .sum)) (f .pre .1) (entered .before .at-start .ensures) (entered .enter .ensures)
       (followed .before .before .before .before .answer .given .1) (followed .follow .ensures) (c .enum-told2 .given .1)
 
   put-remember-requires : put-lts.Need-remember-requires (put-calls t) (put-at t) put.Post
@@ -152,9 +155,9 @@ module _ (t : ℕ) where
       let entered = followed .before .before .before .before .before .before .before .before in
       let f = entered .before .before .before .before .before .before .before .before .before .before in
       let a = f .args in
-      put-done (a .before) (a .state .rest .word) (a .state .sum .word) (f .pre .1) (entered .before .at-start .ensures) (entered .enter .ensures)
+      put-done (a .before) (code (a .state .rest)) (code (a .state .sum)) (f .pre .1) (entered .before .at-start .ensures) (entered .enter .ensures)
       (followed .before .before .before .before .answer .given .1) (followed .follow .ensures) (kept .before .before .before .grown .given .1)
-      (followed .follow .kept .1 .0) (kept .remember .ensures)
+      (held-long _ _ (followed .follow .kept .1 .0)) (kept .remember .ensures)
 
   put-meets : {M : Type 1} → put-lts.Closed (put-calls t) (put-at t) put.Post M
   put-meets =
@@ -182,7 +185,8 @@ module _ (t : ℕ) where
 
 abbrev follow-Inv-loop : follow-lts.InvT-loop
 follow-Inv-loop out₀ states₀ len operand rules before state count₀ i₀ out states count i =
-    Following len (state .rest .word) (state .sum .word) operand rules out₀ before states₀ states out count i
+    Following len (code (state .rest)) (code (state .sum)) (held operand) (held rules) (held out₀) before (held states) (held out) count i
+    × (length states ≡ length states₀) × (length out ≡ length out₀)
 
 abbrev follow-μ-loop : follow-lts.MeasureT-loop
 follow-μ-loop out₀ states₀ len operand rules before state count₀ i₀ out states count i = i
@@ -192,7 +196,7 @@ module _ (t : ℕ) where
   follow-loop-holds c =
       let f = c .before .before .before .before in
       let a = f .args in
-      following-start (a .before) (a .state .rest .word) (a .state .sum .word) (f .pre .1)
+      (following-start (a .before) (code (a .state .rest)) (code (a .state .sum)) (f .pre .1), refl, refl)
 
   follow-next-state-requires : follow-lts.Need-next-state-requires (follow-calls t) (follow-at t) follow.Post follow-Inv-loop follow-μ-loop
   follow-next-state-requires c κs = search needs
@@ -207,7 +211,8 @@ module _ (t : ℕ) where
   follow-loop-again c =
       let stepped = c .before .before in
       let tested = stepped .before in
-      following-nothing (tested .before .loop .inv) (tested .loop-test .taken) (stepped .next-state .ensures) (c .enum-told .given .1)
+      let inv = tested .before .loop .inv in
+      (following-nothing (inv .0) (tested .loop-test .taken) (stepped .next-state .ensures) (c .enum-told .given .1), inv .1, inv .2)
 
   follow-enum-known-made : follow-lts.Need-enum-known-made (follow-calls t) (follow-at t) follow.Post follow-Inv-loop follow-μ-loop
   follow-enum-known-made c = search needs
@@ -217,8 +222,8 @@ module _ (t : ℕ) where
       let told = c .before .before .before in
       let stepped = told .before .before in
       let tested = stepped .before in
-      let less = leads-less (tested .before .loop .inv) (tested .loop-test .taken) (stepped .next-state .ensures) (told .made .given .1) in
-      (omega (arith, tested .before .before .before .before .before .before .pre .0), tested .before .loop .inv .walking)
+      let less = leads-less (tested .before .loop .inv .0) (tested .loop-test .taken) (stepped .next-state .ensures) (told .made .given .1) in
+      (omega (arith, tested .before .before .before .before .before .before .pre .0), tested .before .loop .inv .0 .walking)
 
   follow-enum-known-grown : follow-lts.Need-enum-known-grown (follow-calls t) (follow-at t) follow.Post follow-Inv-loop follow-μ-loop
   follow-enum-known-grown c = search needs
@@ -229,12 +234,12 @@ module _ (t : ℕ) where
   follow-same-length : follow-lts.Need-same-length (follow-calls t) (follow-at t) follow.Post follow-Inv-loop follow-μ-loop
   follow-same-length c =
       let grown = c .before .before .before .before .before .before in
-      grown .put .kept .0 ∙ walked-length (grown .before .before .before .before .before .before .before .before .loop .inv .walked)
+      grown .put .kept .0 ∙ grown .before .before .before .before .before .before .before .before .loop .inv .2
 
   follow-same-length-2 : follow-lts.Need-same-length-2 (follow-calls t) (follow-at t) follow.Post follow-Inv-loop follow-μ-loop
   follow-same-length-2 c =
       let grown = c .before .before .before .before .before .before in
-      grown .put .kept .1 .0 ∙ grown .before .before .before .before .before .before .before .before .loop .inv .long
+      grown .put .kept .1 .0 ∙ grown .before .before .before .before .before .before .before .before .loop .inv .1
 
   follow-returns : follow-lts.Need-returns (follow-calls t) (follow-at t) follow.Post follow-Inv-loop follow-μ-loop
   follow-returns c =
@@ -242,7 +247,7 @@ module _ (t : ℕ) where
       let told = grown .before .before .before .before in
       let stepped = told .before .before in
       let tested = stepped .before in
-      following-large (tested .before .loop .inv) (tested .loop-test .taken) (stepped .next-state .ensures) (told .made .given .1)
+      following-large (tested .before .loop .inv .0) (tested .loop-test .taken) (stepped .next-state .ensures) (told .made .given .1)
       (grown .put .ensures) (c .enum-told2 .given .1)
 
   follow-loop-less-2 : follow-lts.Need-loop-less-2 (follow-calls t) (follow-at t) follow.Post follow-Inv-loop follow-μ-loop
@@ -256,17 +261,22 @@ module _ (t : ℕ) where
       let told = grown .before .before .before .before in
       let stepped = told .before .before in
       let tested = stepped .before in
-      following-next (tested .before .loop .inv) (tested .loop-test .taken) (stepped .next-state .ensures) (told .made .given .1)
-      (grown .put .ensures) (c .before .grown .given .1) (grown .put .kept .1 .0)
+      let inv = tested .before .loop .inv in
+      let kept = grown .put .kept in (
+        following-next (inv .0) (tested .loop-test .taken) (stepped .next-state .ensures) (told .made .given .1) (grown .put .ensures)
+            (c .before .grown .given .1) (held-long _ _ (kept .1 .0)),
+        kept .1 .0 ∙ inv .1,
+        kept .0 ∙ inv .2,
+      )
 
   follow-same-length-3 : follow-lts.Need-same-length-3 (follow-calls t) (follow-at t) follow.Post follow-Inv-loop follow-μ-loop
-  follow-same-length-3 c = walked-length (c .before .loop .inv .walked)
+  follow-same-length-3 c = c .before .loop .inv .2
 
   follow-same-length-4 : follow-lts.Need-same-length-4 (follow-calls t) (follow-at t) follow.Post follow-Inv-loop follow-μ-loop
-  follow-same-length-4 c = c .before .loop .inv .long
+  follow-same-length-4 c = c .before .loop .inv .1
 
   follow-returns-2 : follow-lts.Need-returns-2 (follow-calls t) (follow-at t) follow.Post follow-Inv-loop follow-μ-loop
-  follow-returns-2 c = following-end (c .before .loop .inv) (c .loop-test .left)
+  follow-returns-2 c = following-end (c .before .loop .inv .0) (c .loop-test .left)
 
   follow-meets : {M : Type 1} → follow-lts.Closed (follow-calls t) (follow-at t) follow.Post M
   follow-meets =

@@ -1,5 +1,7 @@
 -- `exchanges::following::next_state` meets its contract: the part that is asked about is the whole operand. Assumes nothing.
 use borrow.Author.Needs.{needs}
+use Rattle.labels.specs.Packing.{code}
+use Rattle.areas.specs.Rows.{held}
 use Rattle.rules.specs.Rules.{exchangeAt}
 use Rattle.exchanges.proofs.RuleByRule.{step-whole}
 use Rattle.exchanges.proofs.following.next_state.Statement.{statement}
@@ -14,7 +16,7 @@ step-requires c κs = search needs
 returns : tie.Need-returns
 returns c =
     let a = c .before .before .before .before .args in
-    step-whole (a .operand .now) (exchangeAt (a .rules .now) (a .i)) (a .state .rest .word) (a .state .sum .word)
+    step-whole (held (a .operand .now)) (exchangeAt (held (a .rules .now)) (a .i)) (code (a .state .rest)) (code (a .state .sum))
     (c .before .labels-in .ensures) (c .step .ensures)
 
 pub next-state-spec : {M : Type 1} → statement M

@@ -12,7 +12,7 @@ use Rattle.forms.proofs.terms.read_term.Statement.{statement}
 use Rattle.forms.proofs.terms.read_term.Tie as tie
 
 returns : tie.Need-returns
-returns c = rw (lt-leb (length (c .before .before .before .before .args .names .now)) 12 (c .if1 .taken)) (refl, refl)
+returns c = rw (lt-leb (length (c .before .before .before .before .args .names .now)) 24 (c .if1 .taken)) (refl, refl)
 
 read-line-requires : tie.Need-read-line-requires
 read-line-requires c κs = search needs
@@ -27,7 +27,7 @@ returns-2 c =
     let a = few .before .before .before .before .args in
     let after = read .read-line .last .1 .1 .1 .0 in
     let l : length after ≡ length (a .list .now) = search needs in
-    rw (le-leb (length (a .names .now)) 12 (few .if1 .left))
+    rw (le-leb (length (a .names .now)) 24 (few .if1 .left))
     (line-taken (map (nameOf 8) (a .names .now)) _ (a .text .now) (termLine (a .text .now)) (a .list .now) after (read .read-line .result) l
     (read .read-line .ensures))
 

@@ -1,7 +1,9 @@
 -- `images::imaging::add_image` meets its contract: by whether rules are followed. Assumes nothing.
-use mathlib.Core.Bool.{true, false}
+use mathlib.Core.Bool.{false}
 use borrow.Author.Needs.{needs}
-use Rattle.images.proofs.Images.{imaged-by}
+use Rattle.areas.specs.Rows.{held}
+use Rattle.images.specs.Imaging.{takenBy}
+use Rattle.images.proofs.Images.{imaged-by, imaged-rules}
 use Rattle.images.proofs.imaging.add_image.Statement.{statement}
 use Rattle.images.proofs.imaging.add_image.Tie as tie
 
@@ -21,7 +23,7 @@ returns : tie.Need-returns
 returns c =
     let tested = c .before .before .before .before in
     let a = tested .before .before .before .before .before .before .args in
-    imaged-by true (a .way) (a .list .now) (a .labels .now) (a .operand .now) (tested .before .follows .ensures) (tested .if1 .taken)
+    imaged-rules (a .way) (a .list .now) (held (a .labels .now)) (held (a .operand .now)) (tested .before .follows .ensures) (tested .if1 .taken)
     (c .before .before .close-each .ensures)
 
 same-length-2 : tie.Need-same-length-2
@@ -31,7 +33,8 @@ returns-2 : tie.Need-returns-2
 returns-2 c =
     let tested = c .before .before .before .before in
     let a = tested .before .before .before .before .before .before .args in
-    imaged-by false (a .way) (a .list .now) (a .labels .now) (a .operand .now) (tested .before .follows .ensures) (tested .if1 .left)
+    imaged-by false (a .way) (takenBy (a .way) (a .list .now)) (held (a .labels .now)) (held (a .operand .now)) (tested .before .follows .ensures)
+    (tested .if1 .left)
     (c .before .before .add-offered .ensures)
 
 pub add-image-spec : {M : Type 1} → statement M

@@ -31,7 +31,7 @@ returns : tie.Need-returns
 returns c = rw (c .before .enum-told .given .1) (c .renaming .ensures)
 
 returns-2 : tie.Need-returns-2
-returns-2 c = MapFor-others (c .before .before .args .way) (c .before .before .args .list .now) (replicate 12 0) (c .match .keys2)
+returns-2 c = MapFor-others (c .before .before .args .way) (c .before .before .args .list .now) (replicate 24 0) (c .match .keys2)
 
 pub map-for-spec : {M : Type 1} → statement M
 map-for-spec = tie.close (tie.spec enum-told renaming-requires returns returns-2)

@@ -1,5 +1,6 @@
 -- `images::imaging::take` meets its contract. Assumes nothing.
 use borrow.Author.Needs.{needs}
+use Rattle.areas.specs.Rows.{held}
 use Rattle.images.proofs.Images.{taken-nothing, taken-long, taken-next}
 use Rattle.images.proofs.imaging.take.Statement.{statement}
 use Rattle.images.proofs.imaging.take.Tie as tie
@@ -22,12 +23,12 @@ enter-requires c κs = search needs
 returns : tie.Need-returns
 returns c =
     let f = c .before .before .before in
-    rw (c .enum-told .given .1) (taken-nothing (f .args .len) (f .args .out .now) (f .pre))
+    rw (c .enum-told .given .1) (taken-nothing (f .args .len) (held (f .args .out .now)) (f .pre))
 
 returns-2 : tie.Need-returns-2
 returns-2 c =
     let a = c .before .before .before .args in
-    rw (c .enum-told2 .given .1) (taken-long (a .len) (a .out .now))
+    rw (c .enum-told2 .given .1) (taken-long (a .len) (held (a .out .now)))
 
 same-length : tie.Need-same-length
 same-length c = search needs

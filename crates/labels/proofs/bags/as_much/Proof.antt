@@ -1,41 +1,28 @@
--- `labels::bags::as_much` meets its contract. The loop's invariant: what is left of the words compares as the words do; the
--- measure is what is left of the first. Assumes nothing.
-use mathlib.Core.Path.{refl}
-use mathlib.Core.Logic.{inl, inr}
-use native.Mathlib.Omega.{arith}
-use borrow.Author.Tests.{ltb-true, ltb-false}
-use Rattle.labels.specs.Bags.{bag, asMuch}
-use Rattle.labels.proofs.Words.{Compared, compared-end, compared-fail, compared-step, compared-skip}
+-- `labels::bags::as_much` meets its contract. Assumes nothing.
+use mathlib.Core.Path.{sym, _∙_}
+use borrow.Author.Needs.{needs}
+use borrow.Author.Tests.{not-true, not-false}
+use Rattle.labels.proofs.Codes.{as-much-codes}
 use Rattle.labels.proofs.bags.as_much.Statement.{statement}
 use Rattle.labels.proofs.bags.as_much.Tie as tie
 
-abbrev Inv-loop : tie.InvT-loop
-Inv-loop named₀ small₀ large₀ named small large = Compared named small large (asMuch (bag named₀) (bag small₀) (bag large₀))
+word-has-requires : tie.Need-word-has-requires
+word-has-requires c κs = search needs
 
-abbrev μ-loop : tie.MeasureT-loop
-μ-loop named₀ small₀ large₀ named small large = named
-
-loop-holds : tie.Need-loop-holds Inv-loop μ-loop
-loop-holds c = record { digits = 13; holds = omega arith; equal = refl }
-
-returns : tie.Need-returns Inv-loop μ-loop
+returns : tie.Need-returns
 returns c =
-    compared-fail (c .before .before .before .loop .inv) (c .before .before .loop-test .taken) (c .before .if1 .taken)
-    (ltb-true _ _ (c .if2 .taken))
+    let a = c .before .before .before .before .before .args in
+    let first = c .before .word-has in
+    sym (as-much-codes (a .names) (a .a) (a .b) ∙ rw (← first .ensures, not-true (first .result) (c .if1 .taken)))
 
-loop-less : tie.Need-loop-less Inv-loop μ-loop
-loop-less c = let n = c .before .loop-test .taken in omega arith
+word-has-requires-2 : tie.Need-word-has-requires-2
+word-has-requires-2 c κs = search needs
 
-loop-again : tie.Need-loop-again Inv-loop μ-loop
-loop-again c =
-    elim (c .if1 .came) [
-      | inl w ↦ compared-step (c .before .before .loop .inv) (c .before .loop-test .taken) (ltb-false _ _ (w .1 .left))
-      | inr w ↦ compared-skip (c .before .before .loop .inv) (c .before .loop-test .taken) (w .left)
-    ]
-
-returns-2 : tie.Need-returns-2 Inv-loop μ-loop
-returns-2 c = compared-end (rw (c .loop-test .left) at (c .before .loop .inv))
+returns-2 : tie.Need-returns-2
+returns-2 c =
+    let a = c .before .before .before .before .before .before .args in
+    let first = c .before .before .word-has in
+    sym (as-much-codes (a .names) (a .a) (a .b) ∙ rw (← first .ensures, not-false (first .result) (c .before .if1 .left), ← c .word-has2 .ensures))
 
 pub as-much-spec : {M : Type 1} → statement M
-as-much-spec =
-    tie.close (tie.spec Inv-loop μ-loop loop-holds returns loop-less loop-again returns-2)
+as-much-spec = tie.close (tie.spec word-has-requires returns word-has-requires-2 returns-2)

@@ -3,8 +3,9 @@ use Prim.Native.Nat.{_+_}
 use native.Mathlib.Omega.{arith}
 use borrow.Author.Needs.{needs}
 use borrow.Author.Tests.{lt-ltb, le-ltb}
+use Rattle.labels.specs.Packing.{code}
 use Rattle.labels.specs.Bags.{sumOf}
-use Rattle.labels.proofs.Sizes.{size-word}
+use Rattle.labels.proofs.Sizes.{size-few}
 use Rattle.labels.proofs.bags.sum.Statement.{statement}
 use Rattle.labels.proofs.bags.sum.Tie as tie
 
@@ -17,7 +18,7 @@ size-requires-2 c κs = search needs
 add-if1 : tie.Need-add-if1
 add-if1 c =
     let a = c .before .before .args in
-    omega (arith, size-word (a .a .word) (omega arith), size-word (a .b .word) (omega arith))
+    omega (arith, size-few (code (a .a)), size-few (code (a .b)))
 
 joined-requires : tie.Need-joined-requires
 joined-requires c κs = search needs

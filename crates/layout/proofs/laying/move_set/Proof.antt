@@ -59,7 +59,7 @@ returns-2 c =
     moved-set (at .before .before .before .before .part-at .ensures) (moves at) (p .0) (p .2) (laid .carry .ensures) (c .before .before .set-part .ensures)
 
 same-length-3 : tie.Need-same-length-3
-same-length-3 c = returns-2 c .longWork
+same-length-3 c = c .before .before .before .before .before .before .carry .kept .0
 
 same-length-4 : tie.Need-same-length-4
 same-length-4 c = returns-2 c .longRow

@@ -1,7 +1,8 @@
 -- `lists::names::name_from` meets its contract: a name and its number.
 -- Assumes nothing.
-use mathlib.Core.Path.{refl}
+use mathlib.Core.Path.{refl, _∙_}
 use native.Mathlib.Omega.{arith}
+use Rattle.labels.proofs.Codes.{code-of}
 use Rattle.faults.proofs.Calls.{asks-nothing}
 use Rattle.words.proofs.Steps.{stops, goes, stuck-there, steps-to, steps-stuck, arrived, otherwise}
 use Rattle.lists.proofs.Seen.{said-same, name-faulted}
@@ -29,7 +30,7 @@ element-copy-out-wide c = let h = c .letter-of .ensures .0 in omega arith
 
 returns-2 : tie.Need-returns-2
 returns-2 c =
-    let found = c .before in
+    let found = c .before .before in
     let start = found .before in
     let known = start .before .before in
     let named = known .before .before in
@@ -42,11 +43,12 @@ returns-2 c =
     record {
       stands =
           goes _ (goes _ s (arrived _ (s .within)))
-          (otherwise (arrived _ (s .within)) (said-same (name-faulted (a .names .now) _ (c .name-fault .ensures) number) number refl));
+          (otherwise (arrived _ (s .within))
+          (said-same (name-faulted (a .names .now) _ (c .before .name-fault .ensures) number) (code-of (c .label-of .ensures) ∙ number) refl));
     }
 
 pub name-from-spec : {M : Type 1} → statement M
 name-from-spec =
     tie.close
     (tie.spec asks-nothing enum-known-name enum-told asks-nothing returns asks-nothing element-copy-out-wide asks-nothing asks-nothing asks-nothing
-    returns-2)
+    asks-nothing returns-2)

@@ -21,7 +21,7 @@ returns c = rw (c .enum-told .given .1) (record { places = refl; says = λ line.
 
 returns-2 : tie.Need-returns-2
 returns-2 c =
-    let l = c .before .before .before .before .label .given in
+    let l = c .before .before .before .before .before .label .given in
     let faults = c .worse-of .ensures ∙ ap (worse (foundOf (l .0 .0 .fault))) (c .before .amount-unless .ensures) in
     rw (l .1) (record { places = refl; says = λ line. ap (λ s. past s (drop (l .0 .1 .0) line)) (said-same faults refl refl) })
 

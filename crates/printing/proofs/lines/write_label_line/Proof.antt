@@ -6,6 +6,7 @@ use Prim.Native.Nat.{_≤_}
 use native.Mathlib.Nat.{le-refl}
 use native.Mathlib.Omega.{arith}
 use lib.ListN.{length}
+use Rattle.labels.specs.Packing.{code}
 use Rattle.meaning.specs.Bytes.{Text, ascii}
 use Rattle.grammar.specs.Forms.{lf}
 use Rattle.grammar.specs.Printed.{printedLabel, line}
@@ -17,7 +18,7 @@ use Rattle.printing.proofs.lines.write_label_line.Statement.{statement}
 use Rattle.printing.proofs.lines.write_label_line.Tie as tie
 
 abbrev value : tie.Start → Text
-value s = printedLabel (nameTexts (s .args .names)) (countsOf (s .args .label))
+value s = printedLabel (nameTexts (s .args .names)) (countsOf (code (s .args .label)))
 
 slice-aggregate-copy : tie.Need-slice-aggregate-copy
 slice-aggregate-copy c = refl

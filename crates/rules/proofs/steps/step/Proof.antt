@@ -7,7 +7,9 @@ use mathlib.Core.List.{List}
 use Prim.Native.Nat.{ℕ, _+_, _-_, _%_, _^_, _≤_}
 use borrow.Author.Needs.{needs}
 use lib.ListN.{length, List·getD-eq-default}
-use Rattle.labels.specs.Packing.{packed}
+use Rattle.labels.specs.Packing.{code, packed}
+use Rattle.labels.proofs.Codes.{code-of}
+use Rattle.areas.specs.Rows.{held}
 use Rattle.parts.specs.Parts.{wordsOf}
 use Rattle.sets.specs.Inserting.{present}
 use Rattle.rules.specs.declared.State.{State}
@@ -49,26 +51,27 @@ none-there ls i rest h = rw (List·getD-eq-default ls 0 {n = i} h)
 
 -- whether the rule applies
 fits : (c : tie.After-applies) → let a = c .before .before .before .before .before .before .args in
-    c .applies .result ≡ applies (exchangeAt (a .rules .now) (a .i)) (a .state .rest .word)
+    c .applies .result ≡ applies (exchangeAt (held (a .rules .now)) (a .i)) (code (a .state .rest))
 fits c =
     let a = c .before .before .before .before .before .before .args in
-    c .applies .ensures ∙ ap (λ x. applies (record { left = x .word; right = 0 }) (a .state .rest .word)) (c .before .read-label .ensures)
+    c .applies .ensures ∙ ap (λ x. applies (record { left = x; right = 0 }) (code (a .state .rest))) (code-of (c .before .read-label .ensures))
 
 -- the label that is made, and whether it is followed by itself
 made : (c : tie.After-joined) → let a = c .before .before .before .before .before .before .before .before .before .before .args in
-    c .joined .result ≡ packed (replacedBy (exchangeAt (a .rules .now) (a .i)) (a .state .sum .word))
+    c .joined .result ≡ packed (replacedBy (exchangeAt (held (a .rules .now)) (a .i)) (code (a .state .sum)))
 made c =
     let took = c .before .before in
     let read = took .before .before .before in
-    let w = read .before .before .before .before .before .args .state .sum .word in
-    let left = took .difference .ensures ∙ ap (λ x. packed (w - x .word)) (read .read-label .ensures) in
-    c .joined .ensures ∙ ap₂ (λ x y. packed ((x .word + y .word) % 2 ^ 64)) left (c .before .read-label2 .ensures)
+    let w = code (read .before .before .before .before .before .args .state .sum) in
+    let left = code-of (took .difference .ensures) ∙ ap (λ x. w - x) (code-of (read .read-label .ensures)) in
+    c .joined .ensures ∙ ap₂ (λ x y. packed ((x + y) % 2 ^ 124)) left (code-of (c .before .read-label2 .ensures))
 
 known : (c : tie.After-contains) → let a = c .before .before .before .before .before .before .before .before .before .before .before .args in
-    c .contains .result ≡ present (wordsOf (a .before) (a .operand) (a .words .now)) (replacedBy (exchangeAt (a .rules .now) (a .i)) (a .state .sum .word))
+    c .contains .result
+    ≡ present (wordsOf (a .before) (a .operand) (held (a .words .now))) (replacedBy (exchangeAt (held (a .rules .now)) (a .i)) (code (a .state .sum)))
 known c =
     let a = c .before .before .before .before .before .before .before .before .before .before .before .args in
-    c .contains .ensures ∙ ap (λ x. present (wordsOf (a .before) (a .operand) (a .words .now)) (x .word)) (made (c .before))
+    c .contains .ensures ∙ ap (present (wordsOf (a .before) (a .operand) (held (a .words .now)))) (code-of (made (c .before)))
 
 -- where it leads, by the two tests
 not-applied : {t : Bool} (k : Bool) (s : State) → false ≡ t → Nothing ≡ pickStep t k s
@@ -83,7 +86,7 @@ leads-on s e f = rw (← e, ← f)
 returns : tie.Need-returns
 returns c =
     let a = c .before .before .before .before .args in
-    not-applied _ _ (none-there (a .rules .now) (a .i) (a .state .rest .word) (rw (c .before .labels-in .ensures) at (c .if1 .taken)))
+    not-applied _ _ (none-there (held (a .rules .now)) (a .i) (code (a .state .rest)) (rw (c .before .labels-in .ensures) at (c .if1 .taken)))
 
 returns-2 : tie.Need-returns-2
 returns-2 c =
@@ -95,8 +98,8 @@ returns-3 c =
     let took = c .before .before .before in
     let asked = took .before .before .before in
     let read = asked .before .before in
-    let w = read .before .before .before .before .before .args .state .rest .word in
-    let rest = c .difference2 .ensures ∙ ap (λ x. packed (w - x .word)) (read .read-label .ensures) in
+    let w = code (read .before .before .before .before .before .args .state .rest) in
+    let rest = c .difference2 .ensures ∙ ap (λ x. packed (w - x)) (code-of (read .read-label .ensures)) in
     ap₂ (λ x y. To (record { rest = x; sum = y })) rest (made took)
     ∙ leads-on _ (sym (asked .if2 .taken) ∙ fits (asked .before)) (sym (c .before .if3 .left) ∙ known (c .before .before))
 

@@ -1,6 +1,7 @@
 -- `sums::seen::enter_once` meets its contract. Assumes nothing.
 use mathlib.Core.Path.{sym, _∙_}
 use borrow.Author.Needs.{needs}
+use Rattle.labels.specs.Packing.{code}
 use Rattle.sums.proofs.SeenLaws.{passed-over, grown-stops, now-kept}
 use Rattle.sums.proofs.seen.enter_once.Statement.{statement}
 use Rattle.sums.proofs.seen.enter_once.Tie as tie
@@ -25,7 +26,7 @@ returns c =
     let tested = c .before .before .before in
     let slotted = tested .before .before in
     let f = slotted .before .before .before in
-    passed-over (slotted .slot .result) (f .args .label .word) (f .pre) (sym (c .before .before .if1 .taken) ∙ tested .is-kept .ensures)
+    passed-over (slotted .slot .result) (code (f .args .label)) (f .pre) (sym (c .before .before .if1 .taken) ∙ tested .is-kept .ensures)
     (c .reach .ensures)
 
 at-start-requires : tie.Need-at-start-requires
@@ -68,7 +69,7 @@ returns-3 c =
     let slotted = entered .before .before .before .before .before .before in
     let f = slotted .before .before .before in
     rw (wrote .write-label .ensures)
-    (now-kept (slotted .slot .result) (f .args .label .word) (f .pre) (rw (entered .before .at-start .ensures) at (entered .enter .ensures))
+    (now-kept (slotted .slot .result) (code (f .args .label)) (f .pre) (rw (entered .before .at-start .ensures) at (entered .enter .ensures))
     (answered .answer .given .1))
 
 pub enter-once-spec : {M : Type 1} → statement M

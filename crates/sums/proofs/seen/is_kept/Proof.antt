@@ -2,6 +2,8 @@
 use mathlib.Core.Path.{_≡_, sym, ap, _∙_}
 use borrow.Author.Needs.{needs}
 use lib.Dec.{eqb}
+use Rattle.labels.specs.Packing.{code}
+use Rattle.labels.proofs.Codes.{code-of}
 use Rattle.sums.proofs.seen.is_kept.Statement.{statement}
 use Rattle.sums.proofs.seen.is_kept.Tie as tie
 
@@ -12,10 +14,10 @@ same-requires : tie.Need-same-requires
 same-requires c κs = search needs
 
 -- the test for the empty label
-empty : (c : tie.After-same) → eqb (c .before .before .before .args .label .word) 0 ≡ c .same .result
+empty : (c : tie.After-same) → eqb (code (c .before .before .before .args .label)) 0 ≡ c .same .result
 empty c =
-    let w = c .before .before .before .args .label .word in
-    sym (c .same .ensures ∙ ap (λ x. eqb w (x .word)) (c .before .tau .ensures))
+    let w = code (c .before .before .before .args .label) in
+    sym (c .same .ensures ∙ ap (eqb w) (code-of (c .before .tau .ensures)))
 
 returns : tie.Need-returns
 returns c = rw (empty (c .before), c .if1 .taken)

@@ -11,7 +11,7 @@ slice-aggregate-result : tie.Need-slice-aggregate-result
 slice-aggregate-result c = search needs
 
 returns : tie.Need-returns
-returns c = let a = c .before .before .before .args in take-drop-past (a .lists .now) (32 * a .number) (a .count) (omega arith)
+returns c = let a = c .before .before .before .args in take-drop-past (a .lists .now) (64 * a .number) (a .count) (omega arith)
 
 mul-part-of : tie.Need-mul-part-of
 mul-part-of c = search needs

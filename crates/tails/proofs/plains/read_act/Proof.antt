@@ -7,7 +7,7 @@ use mathlib.Core.List.{[], map}
 use Prim.Native.Nat.{_+_, _≤_}
 use native.Mathlib.Omega.{arith}
 use borrow.Author.Tests.{not-true, not-false}
-use lib.ListN.{length, drop}
+use lib.ListN.{length, drop, length-map}
 use Rattle.table.specs.Decoded.{nameOf}
 use Rattle.grammar.specs.Text.{past, stuck, starts, placed, word}
 use Rattle.grammar.specs.Forms.{space}
@@ -72,8 +72,8 @@ named c =
     said-went-on (seen (nameEntry (map (nameOf 8) (a .names .now))) (placed word)) (a .rest .now) 1 (passed tested) (read .read-name .ensures)
     (c .before .name .given .1)
 
-add-t15 : tie.Need-add-t15
-add-t15 c = let s = missed c .within in omega arith
+add-t16 : tie.Need-add-t16
+add-t16 c = let s = missed c .within in omega arith
 
 returns-2 : tie.Need-returns-2
 returns-2 c bounds store =
@@ -94,17 +94,20 @@ returns-3 c bounds store =
 
 returns-4 : tie.Need-returns-4
 returns-4 c bounds store =
-    let known = c .before .before in
+    let left = c .before .before in
+    let known = left .before .before in
     let tested = known .before .before .before .before .before in
-    let a = tested .before .before .before .before .args in
+    let start = tested .before .before .before .before in
+    let a = start .args in
     act-line (map (nameOf 8) (a .names .now)) (a .rest .now) (spaced tested) (known .before .name .given .0 .0) (named known) bounds store
-    (sym (c .before .sign-at2 .ensures) ∙ not-false _ (c .if2 .left))
+    (omega (arith, start .good .1 .0, length-map (a .names .now) (nameOf 8))) (c .number-of .ensures)
+    (sym (left .before .sign-at2 .ensures) ∙ not-false _ (left .if2 .left))
 
-add-t17 : tie.Need-add-t17
-add-t17 c = let s = returns-4 c (record { equations = 0; term = 0 }) [] .within in omega arith
+add-t19 : tie.Need-add-t19
+add-t19 c = let s = returns-4 c (record { equations = 0; term = 0 }) [] .within in omega arith
 
 pub read-act-spec : {M : Type 1} → statement M
 read-act-spec =
     tie.close
     (tie.spec asks-nothing returns sub-read-name part-read-name-start part-read-name-end asks-nothing enum-known-name enum-told asks-nothing
-    add-t15 returns-2 add-next asks-nothing returns-3 add-t17 returns-4)
+    add-t16 returns-2 add-next asks-nothing returns-3 asks-nothing add-t19 returns-4)

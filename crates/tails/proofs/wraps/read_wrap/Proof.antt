@@ -3,7 +3,7 @@
 use borrow.Author.Needs.{needs}
 use mathlib.Core.Path.{sym, ap, _∙_}
 use mathlib.Core.List.{map}
-use Prim.Native.Nat.{_+_, _≤_}
+use Prim.Native.Nat.{_+_, _%_, _^_, _≤_}
 use native.Mathlib.Omega.{arith}
 use borrow.Author.Tests.{not-true, not-false}
 use lib.ListN.{length, drop}
@@ -11,6 +11,7 @@ use Rattle.table.specs.Decoded.{nameOf}
 use Rattle.grammar.specs.Text.{lf}
 use Rattle.grammar.specs.Forms.{space}
 use Rattle.grammar.specs.Faults.{worse, numberFault}
+use Rattle.labels.specs.Packing.{code}
 use Rattle.faults.specs.CodedFaults.{foundOf}
 use Rattle.faults.proofs.Calls.{asks-nothing}
 use Rattle.words.proofs.Rests.{sign-within}
@@ -168,14 +169,15 @@ returns-5 c =
     let kind = read .before .before .before in
     let told = kind .before .before .before .before in
     let number = told .before .before in
-    let a = number .before .before .before .before .args in
+    let start = number .before .before .before .before in
+    let a = start .args in
     let list = known .before .list .given in
     let operandFault = numberFault (a .bounds .term) (told .operand .given .0 .0) in
     rw (c .wrapped .ensures)
     (wrap-line (wrapOf (a .k)) (map (nameOf 8) (a .names .now)) (a .rest .now) (steps-to (number .number-after .ensures) (told .operand .given .1))
     (sym (kind .before .before .sign-at .ensures) ∙ not-false _ (kind .before .if1 .left)) (kind .list-kind .ensures) (passed (kind .before)) (listed read)
-    (list .1) (a .bounds) (sym (tested .before .sign-at2 .ensures) ∙ not-false _ (tested .if2 .left))
-    (operator-wrapped (a .k) (record { at = a .bounds .term; entries = list .0 .0 .first }))
+    (list .1) (a .bounds) (omega (arith, start .good .1 .0)) (sym (tested .before .sign-at2 .ensures) ∙ not-false _ (tested .if2 .left))
+    (operator-wrapped (a .k) (record { at = a .bounds .term; entries = code (list .0 .0 .first) % 2 ^ 64 }))
     (c .before .joined .ensures ∙ ap (λ p. worse (foundOf (list .0 .0 .fault)) (operandFault p)) (left .left-at .ensures)))
 
 pub read-wrap-spec : {M : Type 1} → statement M

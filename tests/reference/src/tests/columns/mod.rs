@@ -13,7 +13,7 @@ type Marked = (&'static str, u8, &'static [&'static str]);
 #[rustfmt::skip]
 const OF_FORM: &[Marked] = &[
     ("names=3", 2, &[
-        "names=^25", "names=25^ ", "names=^0", "names=^13", "names=0^0", "names=^", "names=10^0",
+        "names=^25", "names=25^ ", "names=^0", "names=^26", "names=0^0", "names=^", "names=10^0",
         "name^=3", "^Names=3", "names^", "^", "^ names=3", "names=3^\r", "names=^x", "names^ =3",
     ]),
     ("name=c", 2, &[
@@ -132,7 +132,14 @@ fn each_line_is_refused_where_it_is_marked() {
 /// is as far as any line goes.
 #[test]
 fn a_line_without_its_end_is_refused_at_its_end() {
-    let cases = [("names=25", 9), ("names=25 ", 9), ("names=", 7), ("nam", 4), ("names=00", 8)];
+    let cases = [
+        ("names=25", 9),
+        ("names=24", 9),
+        ("names=25 ", 9),
+        ("names=", 7),
+        ("nam", 4),
+        ("names=00", 8),
+    ];
     for (text, column) in cases {
         assert_eq!(text::answer(text.as_bytes()), refused(2, 1, column), "{}", text);
     }

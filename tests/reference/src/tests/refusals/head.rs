@@ -6,7 +6,7 @@ use super::{Row, READ};
 pub const ROWS: &[Row] = &[
     ("names=3", &[
         (2, &[
-            "names=0", "names=13", "names=99", "names=100", "names=", "names=03", "names=3 ",
+            "names=0", "names=25", "names=99", "names=100", "names=", "names=03", "names=3 ",
             "names= 3", "names=-1", "names=+3", "names=x", "names", "Names=3", "names:3",
             "names=3,", "names=3\r", "names=3\0", "\u{feff}names=3", " names=3", "name=3", "",
         ]),

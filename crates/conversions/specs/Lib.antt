@@ -1,0 +1,2 @@
+-- What the conversions of label numbers mean.
+pub mod Conversions
