@@ -84,7 +84,8 @@ def check_c_call(sample):
     """The C call: its archive is linked, the promises of its header tried, and
     its texts compared with the reference's, record by record, and with those that
     were kept."""
-    print(run(command(linked(C_CALL / "checks.c"))).decode(), end="", flush=True)
+    for program in ("checks.c", "stack.c"):
+        print(run(command(linked(C_CALL / program))).decode(), end="", flush=True)
     check_example_program()
     difference, texts = dealt_out(command(linked(C_CALL / "batch.c")), sample)
     if difference:

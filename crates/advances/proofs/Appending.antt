@@ -1,24 +1,18 @@
 -- New labels behind the end of the log: by what is written there, and by the room that is left.
 -- Assumes nothing.
-use mathlib.Core.Path.{_≡_, sym, ap, _∙_}
+use mathlib.Core.Path.{_≡_, ap, _∙_}
 use mathlib.Core.List.{List}
-use Prim.Native.Nat.{ℕ, _+_, _-_, _/_, _≤_}
+use Prim.Native.Nat.{ℕ, _+_, _-_, _≤_}
 use native.Mathlib.Omega.{arith}
 use borrow.Author.Tests.{leb-true, leb-false}
 use lib.Dec.{leb}
 use lib.ListN.{length, take}
 use lib.Seq.{take-all}
-use Rattle.areas.specs.Rows.{held}
-use Rattle.areas.proofs.Held.{length-held}
 use Rattle.parts.specs.Parts.{laid}
 use Rattle.sets.specs.declared.Built.the-variants.{TooLarge, Holds}
 use Rattle.sets.proofs.Steps.{built-holds, built-large}
 use Rattle.logs.specs.Logs.{lessOf, spaceFor, Logs}
 use Rattle.advances.specs.Keeping.{Appended}
-
--- As many words hold as many labels.
-pub held-long : (ws vs : List ℕ) → length ws ≡ length vs → length (held ws) ≡ length (held vs)
-held-long ws vs e = length-held ws ∙ ap (λ (n : ℕ). n / 2) e ∙ sym (length-held vs)
 
 module _ (known made : List ℕ) (end : ℕ) (log : List ℕ) {log′ : List ℕ} where
   all-there : {count : ℕ} → Logs known made end log log′ (Holds count)

@@ -1,5 +1,5 @@
 -- Laws of a term in a round, each file after those that it cites.
--- held-long: as many words hold as many labels; logged-fits, appended-all, appended-large: the promise of `append_new`
+-- logged-fits, appended-all, appended-large: the promise of `append_new`
 pub mod Appending
 -- grows-nothing: a set in which nothing is new; words-laid: what is laid in the log; midway-next: one term more is done
 pub mod Midways

@@ -9,8 +9,8 @@ use Rattle.meaning.specs.Descriptions.{Pair, Rule}
 use Rattle.meaning.specs.Legal.{Each}
 use Rattle.areas.specs.Pairs.{pairWord, pairsIn}
 
-abbrev pub labelWords : List Label → List ℕ
-labelWords ls = map number ls
+abbrev pub labelNumbers : List Label → List ℕ
+labelNumbers ls = map number ls
 
 abbrev pub pairWords : List Pair → List ℕ
 pairWords ps = map pairWord ps

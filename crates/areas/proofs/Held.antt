@@ -1,6 +1,6 @@
 -- Words and the labels that they hold: so many labels are two words each.
 -- Assumes nothing.
-use mathlib.Core.Path.{_≡_, refl, ap, ap₂}
+use mathlib.Core.Path.{_≡_, refl, sym, ap, ap₂, _∙_}
 use mathlib.Core.List.{List, [], _∷_, _++_}
 use Prim.Native.Nat.{ℕ, zero, suc, _+_, _*_, _/_, _%_, _^_, _<_}
 use native.Mathlib.Omega.{arith}
@@ -56,6 +56,10 @@ pub length-inWords : (ns : List ℕ) → length (inWords ns) ≡ 2 * length ns
 unfolding inWords
 length-inWords [] = refl
 length-inWords (n ∷ ns) = omega (arith, length-inWords ns)
+
+-- words that are as many hold as many labels
+pub held-long : (ws vs : List ℕ) → length ws ≡ length vs → length (held ws) ≡ length (held vs)
+held-long ws vs e = length-held ws ∙ ap (λ (n : ℕ). n / 2) e ∙ sym (length-held vs)
 
 -- One label is read and written.
 two-more-above : (n : ℕ) → 2 * suc n + 1 ≡ suc (suc (2 * n + 1))

@@ -2,15 +2,18 @@
 
 -- zeroed-set, zeroed-all, length-zeroed, zeroed-front: words set to 0 one after the other
 pub mod Zeroes
--- length-held, held-none, held-take, held-drop, held-zeros, held-append, held-inWords, length-inWords, held-get, held-set: words and the
--- labels that they hold
+-- length-held, held-none, held-take, held-drop, held-zeros, held-append, held-inWords, length-inWords, held-long, held-get, held-set:
+-- words and the labels that they hold
 pub mod Held
+-- lent, back, lent-is, back-is: words that are lent from the first on
+pub mod Lent
 -- put-step, Filling, filling-start, filling-step, filling-two, filling-end: words put at the start of an area one after the other;
 -- FillingLabels, labels-start, labels-step, labels-end: labels put there, two words each
 pub mod Filling
--- Moving, moving-start, moving-step, moving-end, movedUp-past, movedUp-within, set-before: labels that move one place up
+-- movedFrom, moved-none, moved-step: words that move two places up; movedUp-within, movedUp-past, movedUp-none, held-moved, set-before: the
+-- labels that they hold, which move one place up
 pub mod Moves
--- labelWords, pairWords, ruleLabels; pairsIn-pairWords: how the lists of operators stand in words
+-- labelNumbers, pairWords, ruleLabels; pairsIn-pairWords: how the lists of operators stand in words
 pub mod Entries
 -- held-unique: the labels that a row holds are settled
 pub mod Uniqueness

@@ -4,9 +4,10 @@ use labels::LABEL_WORDS;
 use labels::Label;
 use labels::WORD_END;
 ghost use mathlib.Core.Path.{_≡_};
-ghost use Prim.Native.Nat.{_<_, _-_, _/_};
+ghost use Prim.Native.Nat.{_-_, _≤_};
 ghost use lib.Dec.{eqb};
-ghost use lib.ListN.{length, getD, set};
+ghost use mathlib.Core.List.{_++_};
+ghost use lib.ListN.{length, getD, set, take};
 ghost use Rattle.labels.specs.Packing.{code, packed};
 ghost use Rattle.areas.specs.Rows.{held, movedUp};
 
@@ -51,25 +52,24 @@ pub fn write_label(words: &mut [u64], i: usize, label: Label)
     }
 }
 
-// A label of the row is copied one place up.
-fn copy_up(words: &mut [u64], i: usize)
-    requires { ⌜ (0 < i) × (i < length (now words) / 2) ⌝ }
-    ensures { λ r. ⌜ held (now (words .exit)) ≡ set (held (now (words .entry))) i (getD (held (now (words .entry))) (i - 1) 0) ⌝ }
+// All words move two places up, over the last two. The loop ends at the start of the slice, so that the compiler makes one move of it.
+fn shift_up(words: &mut [u64])
+    requires { ⌜ 2 ≤ length (now words) ⌝ }
+    ensures { λ r. ⌜ now (words .exit) ≡ take 2 (now (words .entry)) ++ take (length (now (words .entry)) - 2) (now (words .entry)) ⌝ }
 {
-    let at = LABEL_WORDS * i;
-    words[at] = words[at - 2];
-    words[at + 1] = words[at - 1];
+    let mut i = words.len() - LABEL_WORDS;
+    while 0 < i {
+        i -= 1;
+        words[i + LABEL_WORDS] = words[i];
+    }
 }
 
 // The labels from one place up to another move one place up, over the label at the second, if that is a place of the slice.
 pub fn move_up(words: &mut [u64], from: usize, to: usize)
     ensures { λ r. ⌜ held (now (words .exit)) ≡ movedUp from to (held (now (words .entry))) ⌝ }
 {
-    if to < words.len() / LABEL_WORDS {
-        let mut i = to;
-        while from < i {
-            copy_up(words, i);
-            i -= 1;
-        }
+    if from < to && to < words.len() / LABEL_WORDS {
+        let end = LABEL_WORDS * to + LABEL_WORDS;
+        shift_up(&mut words[LABEL_WORDS * from..end]);
     }
 }

@@ -81,8 +81,9 @@ module _ (newA a newB b : List ℕ) where
     abbrev pub New : (sums : Bool) → List ℕ → Built → Type 0
     New sums after r = GrownAt (atStart 0) (λ room. twoNew sums room newA a newB b) before after r
 
-    pub two-large : Union TooLarge → New true now TooLarge
-    two-large x = first-large 0 0 _ (sumsNew (roomAt 0 mostLabels (length before)) newA a newB b) before now x
+    pub two-large : (sums : Bool) → Union TooLarge → New sums now TooLarge
+    two-large true x = first-large 0 0 _ (sumsNew (roomAt 0 mostLabels (length before)) newA a newB b) before now x
+    two-large false x = x
 
     pub two-last : {n : ℕ} {r : Built} {after : List ℕ} → Union (Holds n)
         → GrownAt (atStart n) (λ room. sumsNew room newA a newB b) now after r → New true after r

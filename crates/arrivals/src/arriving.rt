@@ -2,8 +2,10 @@
 use crate::news_of;
 use areas::rows::labels_in;
 use extents::at_start;
+use extents::is_empty;
 use extents::labels_of;
 use extents::part_at;
+use merging::joining::copy_of;
 use merging::joining::union_of;
 use operators::through;
 use parts::Part;
@@ -22,7 +24,30 @@ fn copied(log: &[u64], part: Part, out: &mut [u64]) -> Built
     ensures { λ r. ⌜ GrownAt (atStart 0) (λ room. unionNew room (wordsIn part (held (now (log .entry)))) [])
         (held (now (out .entry))) (held (now (out .exit))) r ⌝ }
 {
-    union_of(log, part, Part { from: 0, to: 0 }, out)
+    let made = copy_of(log, part, out);
+    let Built::Holds(count) = made else {
+        return Built::TooLarge;
+    };
+    Built::Holds(count)
+}
+
+// The new labels of two sets, of which one mostly has none.
+fn joined(log: &[u64], left: Part, right: Part, out: &mut [u64]) -> Built
+    ensures { λ r. ⌜ GrownAt (atStart 0)
+        (λ room. unionNew room (wordsIn left (held (now (log .entry)))) (wordsIn right (held (now (log .entry)))))
+        (held (now (out .entry))) (held (now (out .exit))) r ⌝ }
+{
+    if is_empty(right) {
+        return copied(log, left, out);
+    }
+    if is_empty(left) {
+        return copied(log, right, out);
+    }
+    let made = union_of(log, left, right, out);
+    let Built::Holds(count) = made else {
+        return Built::TooLarge;
+    };
+    Built::Holds(count)
 }
 
 // Every sum of labels of two sets of which one is new. Where all labels of the first set are new, those of the second need not be
@@ -45,13 +70,17 @@ fn add_new_sums(
     let new = labels_of(log, part_at(news, t));
     let all = labels_of(work, part_at(sets, t));
     let first = add_sums(new, labels_of(work, part_at(sets, u)), out, len);
-    if labels_in(new) == labels_in(all) {
-        return first;
-    }
     let Built::Holds(count) = first else {
         return Built::TooLarge;
     };
-    add_sums(labels_of(log, part_at(news, u)), all, out, count)
+    if labels_in(new) == labels_in(all) {
+        return Built::Holds(count);
+    }
+    let second = add_sums(labels_of(log, part_at(news, u)), all, out, count);
+    let Built::Holds(total) = second else {
+        return Built::TooLarge;
+    };
+    Built::Holds(total)
 }
 
 // The new labels of two sets, and if they are asked for every sum with one of them.
@@ -70,14 +99,18 @@ fn of_two(
         (labelsOf (now (news .entry)) (held (now (log .entry))) u) (labelsOf (now (sets .entry)) (held (now (work .entry))) u))
         (held (now (out .entry))) (held (now (out .exit))) r ⌝ }
 {
-    let first = union_of(log, part_at(news, t), part_at(news, u), out);
-    if !sums {
-        return first;
-    }
+    let first = joined(log, part_at(news, t), part_at(news, u), out);
     let Built::Holds(count) = first else {
         return Built::TooLarge;
     };
-    add_new_sums(work, sets, log, news, t, u, out, count)
+    if !sums {
+        return Built::Holds(count);
+    }
+    let made = add_new_sums(work, sets, log, news, t, u, out, count);
+    let Built::Holds(total) = made else {
+        return Built::TooLarge;
+    };
+    Built::Holds(total)
 }
 
 // What is given for a term, by its shape.

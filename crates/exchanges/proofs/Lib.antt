@@ -1,5 +1,5 @@
 -- The laws of communication, each file after those that it cites.
--- held-long: words that are as many hold as many labels; steady-entered, steady-closed: no step shortens a set or takes it past the room;
+-- steady-entered, steady-closed: no step shortens a set or takes it past the room;
 -- alone-walking, fresh-walking: the start; walked-none,
 -- walked-one, walked-then, walked-stops: no label, one, more after some, no more; walked-on, walked-length, walked-set: what is so after them
 pub mod Walking

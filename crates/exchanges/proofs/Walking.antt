@@ -3,13 +3,12 @@
 use mathlib.Core.Path.{_≡_, refl, sym, ap, ap₂, subst, _∙_}
 use mathlib.Core.Bool.{Bool, true, false}
 use mathlib.Core.List.{List, [], _∷_, _++_}
-use Prim.Native.Nat.{ℕ, _-_, _/_, _≤_, _<_}
+use Prim.Native.Nat.{ℕ, _-_, _≤_, _<_}
 use native.Mathlib.Decide.{decLt}
 use native.Mathlib.Omega.{arith}
 use lib.ListN.{length, replicate}
 use Rattle.meaning.specs.Sets.{Rising}
 use Rattle.areas.specs.Rows.{held}
-use Rattle.areas.proofs.Held.{length-held}
 use Rattle.parts.specs.Parts.{setAt, roomAt, mostLabels}
 use Rattle.parts.proofs.LaidSets.{length-laid, setAt-laid}
 use Rattle.sets.specs.declared.Built.{Built}
@@ -40,10 +39,6 @@ same-count e = cc
 
 not-held : {n : ℕ} → TooLarge ≡ Holds n → ⊥
 not-held e = let z : _≡_ {A = ℕ} 0 1 = cc in omega arith
-
--- words that are as many hold as many labels
-pub held-long : (ws vs : List ℕ) → length ws ≡ length vs → length (held ws) ≡ length (held vs)
-held-long ws vs e = length-held ws ∙ ap (λ (n : ℕ). n / 2) e ∙ sym (length-held vs)
 
 -- a memory without room for a state keeps none
 pub recalls-small : (all ls states s : List ℕ) → length states ≤ 2 → Recalls all ls states s

@@ -10,9 +10,7 @@ use sets::Built;
 use sets::ascending::ascends;
 ghost use Prim.Native.Nat.{_≤_};
 ghost use lib.ListN.{length};
-ghost use Rattle.meaning.specs.Sets.{Rising};
 ghost use Rattle.areas.specs.Rows.{held};
-ghost use Rattle.parts.specs.Parts.{setAt};
 ghost use Rattle.exchanges.specs.Closing.{Closes};
 ghost use Rattle.exchanges.specs.Following.{Walking};
 
@@ -65,7 +63,7 @@ fn put_each_short(
     put_each(labels, operand, rules, &mut none, out, len)
 }
 
-// The same with a memory, for a set that ascends.
+// The same with a memory, if the set ascends.
 fn put_each_long(
     labels: &[u64],
     operand: &[u64],
@@ -73,16 +71,20 @@ fn put_each_long(
     out: &mut [u64],
     len: usize,
 ) -> Built
-    requires { ⌜ (len ≤ length (held (now out))) × Rising (setAt 0 len (held (now out))) ⌝ }
+    requires { ⌜ len ≤ length (held (now out)) ⌝ }
     ensures { λ r. ⌜ Closes len (held (now (labels .entry))) (held (now (operand .entry))) (held (now (rules .entry)))
         (held (now (out .entry))) (held (now (out .exit))) r ⌝ }
 {
     let mut states = [0u64; MEMORY_WORDS];
-    put_each(labels, operand, rules, &mut states, out, len)
+    if ascends(out, 0, len) {
+        return put_each(labels, operand, rules, &mut states, out, len);
+    }
+    put_each(labels, operand, rules, &mut states[..0], out, len)
 }
 
 // The labels of a row, which are all labels of an operand or some of them, each with all that comes of it by rules but what comes
-// of another label of the operand. A memory costs more than it spares where there is little to choose from.
+// of another label of the operand. A memory costs more than it spares where there is little to choose from. As two ways lead to it, the
+// compiler keeps it in a frame of its own: in the frame of this function its pages would be touched by every call.
 pub fn close_each(
     labels: &[u64],
     operand: &[u64],
@@ -94,12 +96,23 @@ pub fn close_each(
         (held (now (out .entry))) (held (now (out .exit))) r ⌝ }
 {
     let count = reach(out, 0, len);
-    if !many_choices(labels, rules) {
-        return put_each_short(labels, operand, rules, out, count);
+    if many_choices(labels, rules) {
+        if count == 0 {
+            let many = put_each_long(labels, operand, rules, out, 0);
+            let Built::Holds(n) = many else {
+                return Built::TooLarge;
+            };
+            return Built::Holds(n);
+        }
+        let many = put_each_long(labels, operand, rules, out, count);
+        let Built::Holds(n) = many else {
+            return Built::TooLarge;
+        };
+        return Built::Holds(n);
     }
-    if ascends(out, 0, count) {
-        put_each_long(labels, operand, rules, out, count)
-    } else {
-        put_each_short(labels, operand, rules, out, count)
-    }
+    let few = put_each_short(labels, operand, rules, out, count);
+    let Built::Holds(n) = few else {
+        return Built::TooLarge;
+    };
+    Built::Holds(n)
 }

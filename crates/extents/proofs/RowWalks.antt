@@ -1,7 +1,7 @@
 -- A walk over the labels of a row in other words than the set that is built of them, at the start of its own: label by label, each
 -- goes through a step.
 -- Assumes nothing.
-use mathlib.Core.Path.{_≡_, ap, _∙_}
+use mathlib.Core.Path.{_≡_, ap, subst, _∙_}
 use mathlib.Core.List.{List, []}
 use Prim.Native.Nat.{ℕ, _+_, _≤_, _<_}
 use native.Mathlib.Numerals.{add-one}
@@ -11,13 +11,19 @@ use lib.Seq.{drop-cons}
 use Rattle.labels.specs.Packing.{code, packed}
 use Rattle.labels.proofs.Codes.{code-of}
 use Rattle.labels.specs.declared.Label.{Label}
+use Rattle.parts.specs.declared.Target.{Target}
 use Rattle.parts.specs.Parts.{setAt, mostLabels, roomAt, reachOf}
 use Rattle.parts.proofs.LaidSets.{setAt-reach}
 use Rattle.sets.specs.declared.Built.{Built}
 use Rattle.sets.specs.declared.Built.the-variants.{TooLarge, Holds}
-use Rattle.sets.specs.Building.{Building, andThen, each, GrownAt}
+use Rattle.sets.specs.Building.{Building, andThen, each, enter, GrownAt}
 use Rattle.sets.proofs.Steps.{Steady, Going, going-start, going-length, going-end, going-as, going-holds, going-large}
 use Rattle.extents.specs.Extents.{atStart}
+
+-- a label that is put into a set at the start of words of its own
+pub enter-start : {len : ℕ} (w : ℕ) {target : Target} {before after : List ℕ} {r : Built} → target ≡ atStart len
+    → GrownAt target (λ room. enter room w) before after r → GrownAt (atStart len) (λ room. enter room w) before after r
+enter-start w {before = before} {after} {r} start g = subst (λ (t : Target). GrownAt t (λ room. enter room w) before after r) start g
 
 -- What the labels from the i-th on give is to come. A step is what a label gives in the room; the set was said to have `len` labels.
 module _ (step : ℕ → ℕ → List ℕ → Building) (labels : List ℕ) (len : ℕ) (before : List ℕ) (end : ℕ) where

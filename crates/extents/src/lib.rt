@@ -21,6 +21,13 @@ fn number_at(row: &[usize], i: usize) -> usize
 pub fn part_at(row: &[usize], i: usize) -> Part
     ensures { λ r. ⌜ r ≡ partAt (now (row .entry)) i ⌝ }
 {
+    if i < row.len() / 2 {
+        let at = 2 * i;
+        return Part {
+            from: row[at],
+            to: row[at + 1],
+        };
+    }
     if row.len() <= i {
         return Part { from: 0, to: 0 };
     }
@@ -43,6 +50,12 @@ fn set_number(row: &mut [usize], i: usize, number: usize)
 pub fn set_part(row: &mut [usize], i: usize, part: Part)
     ensures { λ r. ⌜ now (row .exit) ≡ withPart (now (row .entry)) i part ⌝ }
 {
+    if i < row.len() / 2 {
+        let at = 2 * i;
+        row[at] = part.from;
+        row[at + 1] = part.to;
+        return;
+    }
     if row.len() <= i {
         return;
     }

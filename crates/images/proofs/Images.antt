@@ -1,14 +1,17 @@
 -- What a way makes of a label, put into a set at the start of words of its own; it never shortens a set nor takes it past the room.
 -- Assumes nothing.
 use mathlib.Core.Path.{_≡_, refl, sym, ap, subst, _∙_}
-use mathlib.Core.Bool.{Bool, true, false, false≢true}
-use mathlib.Core.List.{List}
+use mathlib.Core.Bool.{false}
+use mathlib.Core.List.{List, [], _∷_}
 use Prim.Native.Nat.{ℕ, _^_, _≤_, _<_}
 use native.Mathlib.Omega.{arith}
 use lib.ListN.{length}
+use types.Run.{OneOf, miss}
+use denote.Enum.Declared.{tagOf}
 use Rattle.labels.specs.declared.Label.{Label}
 use Rattle.labels.specs.Packing.{code, packed}
 use Rattle.areas.specs.Rows.{held}
+use Rattle.areas.proofs.Lent.{lent, back, lent-is, back-is}
 use Rattle.parts.specs.declared.Target.{Target}
 use Rattle.parts.proofs.LaidSets.{laid-self}
 use Rattle.sets.specs.declared.Built.{Built}
@@ -18,22 +21,13 @@ use Rattle.sets.specs.declared.Offer.the-variants.{Nothing, TooLong, Next}
 use Rattle.sets.specs.Building.{done, each, enter, taken, GrownAt}
 use Rattle.sets.proofs.Steps.{Steady, steady-taken, steady-enter, going-start, going-end}
 use Rattle.extents.specs.Extents.{atStart}
-use Rattle.rules.specs.Rules.{exchangesIn}
-use Rattle.choices.specs.Following.{closed}
-use Rattle.exchanges.proofs.Walking.{steady-closed}
 use Rattle.images.specs.declared.Way.{Way}
 use Rattle.images.specs.declared.Way.the-variants.{Copy, Block, Hide, Rename, Comm, Allow}
-use Rattle.images.specs.Imaging.{takenBy, offerOf, followsRules, offered, pickImage, imaged}
+use Rattle.images.specs.Imaging.{takenBy, offerOf, followsRules, offered, imaged, MapFor}
+use Rattle.images.proofs.Way.{the-type}
 
 pub steady-offered : (room : ℕ) (way : Way) (list : List ℕ) (w : ℕ) → Steady room (offered room way list w)
 steady-offered room way list w = steady-taken room (enter room) (offerOf way list w) (steady-enter room)
-
-pub steady-imaged : (room : ℕ) (way : Way) (list all : List ℕ) (w : ℕ) → Steady room (imaged room way list all w)
-steady-imaged room way list all w = go (followsRules way)
-  where
-    go : (follows : Bool) → Steady room (pickImage follows (closed room all (exchangesIn list)) (offered room way list) w)
-    go true = steady-closed room all (exchangesIn list) w
-    go false = steady-offered room way list w
 
 -- What is offered: nothing, a label of over 31 actions, or one that is put in.
 pub taken-nothing : (len : ℕ) (words : List ℕ) → len ≤ length words → GrownAt (atStart len) (λ room. taken (enter room) Nothing) words words (Holds len)
@@ -43,11 +37,6 @@ taken-nothing len words h =
 
 pub taken-long : (len : ℕ) (words : List ℕ) → GrownAt (atStart len) (λ room. taken (enter room) TooLong) words words TooLarge
 taken-long len words = record { answer = refl; words = sym (laid-self 0 len words) }
-
-pub taken-next : {len : ℕ} (label : Label) {target : Target} {before after : List ℕ} {r : Built} → target ≡ atStart len
-    → GrownAt target (λ room. enter room (code label)) before after r
-    → GrownAt (atStart len) (λ room. taken (enter room) (Next label)) before after r
-taken-next label {before = before} {after} {r} start g = subst (λ (t : Target). GrownAt t (λ room. enter room (code label)) before after r) start g
 
 -- what a way makes of a label
 pub taken-made : {len : ℕ} (way : Way) (list : List ℕ) (label : Label) {offer : Offer} {before after : List ℕ} {r : Built}
@@ -61,30 +50,21 @@ pub lower-small : {label : Label} (n : ℕ) → label ≡ packed n → label .lo
 unfolding packed
 lower-small n e = omega (arith, ap (λ (l : Label). l .lower) e)
 
--- What the labels of a row give, by whether rules are followed.
-abbrev ImagedBy : Bool → Way → (list labels all : List ℕ) → ℕ → (before after : List ℕ) → Built → Type 0
-ImagedBy rules way list labels all len before after r =
-    GrownAt (atStart len) (λ room. each (pickImage rules (closed room all (exchangesIn list)) (offered room way list)) labels) before after r
+-- What the labels of lent rows give goes into lent words.
+abbrev pub Imaged : Way → (list labels operand : List ℕ) → ℕ → (before after : List ℕ) → Built → Type 0
+Imaged way list labels operand len before after r =
+    GrownAt (atStart len) (λ room. each (imaged room way (takenBy way list) (held operand)) (held labels)) (held before) (held after) r
 
-pub imaged-by : (rules : Bool) (way : Way) (list labels all : List ℕ) {follows : Bool} {len : ℕ} {before after : List ℕ} {r : Built}
-    → follows ≡ followsRules way → follows ≡ rules → ImagedBy rules way list labels all len before after r
-    → ImagedBy (followsRules way) way list labels all len before after r
-imaged-by rules way list labels all {len = len} {before} {after} {r} answer e g =
-    subst (λ (t : Bool). ImagedBy t way list labels all len before after r) (sym e ∙ answer) g
+pub imaged-lent : (way : Way) (list labels operand before now : List ℕ) {len : ℕ} {r : Built}
+    → Imaged way (lent list) (lent labels) (lent operand) len (lent before) now r → Imaged way list labels operand len before (back before now) r
+imaged-lent way list labels operand before now g =
+    rw (back-is before now) (rw (lent-is list, lent-is labels, lent-is operand, lent-is before) at g)
 
--- a way whose rules are followed takes labels
-rules-taken : (way : Way) (words : List ℕ) → followsRules way ≡ true → takenBy way words ≡ held words
-rules-taken Copy words e = absurd (false≢true e)
-rules-taken Block words e = absurd (false≢true e)
-rules-taken Hide words e = absurd (false≢true e)
-rules-taken Rename words e = absurd (false≢true e)
-rules-taken Comm words e = refl
-rules-taken Allow words e = absurd (false≢true e)
-
-pub imaged-rules : (way : Way) (words labels all : List ℕ) {follows : Bool} {len : ℕ} {before after : List ℕ} {r : Built}
-    → follows ≡ followsRules way → follows ≡ true
-    → GrownAt (atStart len) (λ room. each (closed room all (exchangesIn (held words))) labels) before after r
-    → ImagedBy (followsRules way) way (takenBy way words) labels all len before after r
-imaged-rules way words labels all {len = len} {before} {after} {r} answer e g =
-    imaged-by true way (takenBy way words) labels all answer e
-    (subst (λ (list : List ℕ). ImagedBy true way list labels all len before after r) (sym (rules-taken way words (sym answer ∙ e))) g)
+-- The ways but rename and comm: no rules are followed, and any map will do.
+pub others : (way : Way) → OneOf (0 ∷ 1 ∷ 2 ∷ 5 ∷ []) (tagOf the-type way) → (followsRules way ≡ false) × ((list map : List ℕ) → MapFor way list map)
+others Copy h = (refl, λ list map. tt)
+others Block h = (refl, λ list map. tt)
+others Hide h = (refl, λ list map. tt)
+others Rename h = absurd (miss (0 ∷ 1 ∷ 2 ∷ 5 ∷ []) 3 tt h)
+others Comm h = absurd (miss (0 ∷ 1 ∷ 2 ∷ 5 ∷ []) 4 tt h)
+others Allow h = (refl, λ list map. tt)

@@ -19,7 +19,7 @@ use Rattle.meaning.proofs.Members.{in-map, in-map→, member→in, in→member}
 use Rattle.meaning.proofs.Maps.{size-without, size-renamed, length-without, length-renamed}
 use Rattle.labels.specs.Packing.{packed}
 use Rattle.labels.proofs.Sizes.{number-zero}
-use Rattle.areas.proofs.Entries.{labelWords, pairWords, pairsIn-pairWords}
+use Rattle.areas.proofs.Entries.{labelNumbers, pairWords, pairsIn-pairWords}
 use Rattle.labels.proofs.Refinement.{Packs, packs-small}
 use Rattle.names.proofs.Refinement.{clear-number, without-number, renamed-number}
 use Rattle.sets.specs.declared.Offer.the-variants.{Next}
@@ -107,5 +107,5 @@ module _ (names : ℕ) (ls : List Label) (q : AllPack names ls) (r : Rising (map
   unfolding allowed isTau
   allowed-number = ap₂ _||_ (sym (eqb-zero (size a) (number a) (number-zero a))) member-number
 
-  pub allow-offers : Offered names (offerOf Allow (labelWords ls) (number a)) (keep (allowed ls) a)
+  pub allow-offers : Offered names (offerOf Allow (labelNumbers ls) (number a)) (keep (allowed ls) a)
   allow-offers = rw allowed-number (kept-offers (allowed ls a) a p)

@@ -22,21 +22,11 @@ ghost use Rattle.areas.specs.Rows.{held};
 ghost use Rattle.labels.specs.Packing.{code};
 ghost use Rattle.extents.specs.Extents.{atStart};
 ghost use Rattle.sets.specs.Building.{GrownAt, each, enter, taken};
-ghost use Rattle.images.specs.Imaging.{takenBy, offered, imaged, MapFor, offerOf, followsRules};
-
-// The map of a renaming, made of the list once for the row; the other ways have none.
-fn map_for(way: Way, list: &[u64]) -> [u64; NAMES]
-    ensures { λ r. ⌜ MapFor way (now (list .entry)) r ⌝ }
-{
-    match way {
-        Way::Rename => renaming(list),
-        _ => [0u64; NAMES],
-    }
-}
+ghost use Rattle.images.specs.Imaging.{takenBy, offered, imaged, MapFor, offerOf};
 
 // What a way makes of a label, whose lower word has nothing above the bits of names.
-fn made(way: Way, list: &[u64], map: [u64; NAMES], label: Label) -> Offer
-    requires { ⌜ MapFor way (now list) map × (label .lower < 2 ^ 60) ⌝ }
+fn made(way: Way, list: &[u64], map: &[u64; NAMES], label: Label) -> Offer
+    requires { ⌜ MapFor way (now list) (now map) × (label .lower < 2 ^ 60) ⌝ }
     ensures { λ r. ⌜ r ≡ offerOf way (takenBy way (now (list .entry))) (code label) ⌝ }
 {
     match way {
@@ -49,7 +39,7 @@ fn made(way: Way, list: &[u64], map: [u64; NAMES], label: Label) -> Offer
             }
         }
         Way::Hide => Offer::Next(hide(label, list)),
-        Way::Rename => Offer::Next(rename(label, map)),
+        Way::Rename => Offer::Next(rename(label, *map)),
         Way::Comm => Offer::Next(label),
         Way::Allow => {
             if allowed(list, label) {
@@ -58,16 +48,6 @@ fn made(way: Way, list: &[u64], map: [u64; NAMES], label: Label) -> Offer
                 Offer::Nothing
             }
         }
-    }
-}
-
-// Whether the list of a way holds rules that are followed.
-fn follows(way: Way) -> bool
-    ensures { λ r. ⌜ r ≡ followsRules way ⌝ }
-{
-    match way {
-        Way::Comm => true,
-        _ => false,
     }
 }
 
@@ -84,13 +64,20 @@ fn take(out: &mut [u64], len: usize, offer: Offer) -> Built
 }
 
 // What a way makes of the labels of a row, and no rule is followed.
-fn add_offered(way: Way, list: &[u64], labels: &[u64], out: &mut [u64], len: usize) -> Built
+fn add_offered(
+    way: Way,
+    list: &[u64],
+    map: &[u64; NAMES],
+    labels: &[u64],
+    out: &mut [u64],
+    len: usize,
+) -> Built
+    requires { ⌜ MapFor way (now list) (now map) ⌝ }
     ensures { λ r. ⌜ GrownAt (atStart len) (λ room. each (offered room way (takenBy way (now (list .entry)))) (held (now (labels .entry))))
         (held (now (out .entry))) (held (now (out .exit))) r ⌝ }
 {
     let mut count = reach(out, 0, len);
     let end = labels_in(labels);
-    let map = map_for(way, list);
     let mut i = 0;
     while i < end {
         let label = read_label(labels, i);
@@ -106,7 +93,8 @@ fn add_offered(way: Way, list: &[u64], labels: &[u64], out: &mut [u64], len: usi
 }
 
 // What the labels of a row give. They are all labels of an operand or some of them: by rules nothing comes of one that comes of
-// another label of the operand.
+// another label of the operand. Only a renaming has a map, which is made of the list once for the row. The rows are lent anew: as they came
+// they would be copied whole.
 pub fn add_image(
     way: Way,
     list: &[u64],
@@ -119,9 +107,15 @@ pub fn add_image(
         (λ room. each (imaged room way (takenBy way (now (list .entry))) (held (now (operand .entry)))) (held (now (labels .entry))))
         (held (now (out .entry))) (held (now (out .exit))) r ⌝ }
 {
-    if follows(way) {
-        close_each(labels, operand, list, out, len)
-    } else {
-        add_offered(way, list, labels, out, len)
+    let mut map = [0u64; NAMES];
+    match way {
+        Way::Comm => {
+            return close_each(&labels[0..], &operand[0..], &list[0..], &mut out[0..], len);
+        }
+        Way::Rename => {
+            map = renaming(list);
+        }
+        _ => {}
     }
+    add_offered(way, list, &map, labels, out, len)
 }

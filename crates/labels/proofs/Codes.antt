@@ -9,11 +9,11 @@ use native.Mathlib.Decide.{decLt, ℕ-discrete}
 use native.Mathlib.Omega.{arith}
 use borrow.Author.Tests.{lt-ltb, le-ltb, eq-eqb, ne-eqb}
 use lib.Dec.{ltb, eqb}
-use Rattle.meaning.specs.Labels.{labelOf}
+use Rattle.meaning.specs.Labels.{labelOf, inside}
 use Rattle.labels.specs.declared.Label.{Label}
 use Rattle.labels.specs.Packing.{code, packed}
 use Rattle.labels.specs.Bags.{bag, asMuch}
-use Rattle.labels.proofs.Words.{as-much-none, as-much-words}
+use Rattle.labels.proofs.Words.{as-much-none, as-much-words, inside-as-much}
 
 -- The number of a packed number is that number.
 pub code-packed : (n : ℕ) → code (packed n) ≡ n
@@ -64,3 +64,9 @@ module _ (names a b : Label) where
       let y = b .lower % 2 ^ 60 in
       rw (thirteen n x y (omega arith) (omega arith) (omega arith))
       (as-much-words 12 13 n x y (names .upper) (a .upper) (b .upper) (omega arith) (omega arith) (omega arith))
+
+pub inside-codes : (a b : Label) → inside (bag (code a)) (bag (code b))
+    ≡ inside (labelOf 13 (a .lower % 2 ^ 60)) (labelOf 13 (b .lower % 2 ^ 60)) && inside (labelOf 13 (a .upper)) (labelOf 13 (b .upper))
+inside-codes a b =
+    inside-as-much 25 (code a) (code b) ∙ as-much-codes a a b
+    ∙ sym (ap₂ _&&_ (inside-as-much 13 (a .lower % 2 ^ 60) (b .lower % 2 ^ 60)) (inside-as-much 13 (a .upper) (b .upper)))

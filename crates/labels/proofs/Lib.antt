@@ -7,6 +7,8 @@ pub mod Words
 pub mod Sizes
 -- Packs, bag-number, size-number, sum-number, inside-number, difference-number, single-number: numbers do what labels do
 pub mod Refinement
--- code-packed, code-of, words-packed, packed-code, ltb-alike, eqb-alike, as-much-codes: packing and reading again, and what the words of
--- labels say of their numbers
+-- code-packed, code-of, words-packed, packed-code, ltb-alike, eqb-alike, as-much-codes, inside-codes: packing and reading again, and what
+-- the words of labels say of their numbers
 pub mod Codes
+-- lent, borrowed, lends-nothing, larger-outside: whether a word lies inside another, by what their difference borrows
+pub mod Borrows

@@ -81,11 +81,24 @@ pub fn as_much(names: Label, a: Label, b: Label) -> bool
     word_has(names.upper, a.upper, b.upper)
 }
 
+// The bits that lend to the names before them when those have too little: the lowest of the count behind each of the first twelve names.
+const LENT: u64 = 1190112520884487200;
+
+// Whether no count of a word has to borrow of the next when another word is taken from it.
+fn lends_nothing(small: u64, large: u64) -> bool
+    ensures { λ r. ⌜ r ≡ inside (labelOf 13 small) (labelOf 13 large) ⌝ }
+{
+    if large < small {
+        return false;
+    }
+    (small ^ large ^ (large - small)) & LENT == 0
+}
+
 // Whether a lies inside b.
 pub fn inside(a: Label, b: Label) -> bool
     ensures { λ r. ⌜ r ≡ inside (bag (code a)) (bag (code b)) ⌝ }
 {
-    as_much(a, a, b)
+    lends_nothing(a.lower % WORD_END, b.lower % WORD_END) && lends_nothing(a.upper, b.upper)
 }
 
 // a without the actions of b, for a b that lies inside a; for another it is the difference of the numbers, not below 0. Only where b does

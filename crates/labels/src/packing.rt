@@ -57,5 +57,9 @@ const END_REST: u64 = 709420;
 pub fn residue(a: Label) -> u64
     ensures { λ r. ⌜ r ≡ code a % 1000003 ⌝ }
 {
-    (a.lower % WORD_END % PRIME + END_REST * (a.upper % PRIME)) % PRIME
+    let low = a.lower % WORD_END % PRIME;
+    if a.upper == 0 {
+        return low;
+    }
+    (low + END_REST * (a.upper % PRIME)) % PRIME
 }

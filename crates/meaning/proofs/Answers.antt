@@ -33,9 +33,6 @@ module _ {v w : Verdict} (e : v ≡ w) where
   pub reason-eq : v .reason ≡ w .reason
   reason-eq = ap (λ (x : Verdict). x .reason) e
 
-  pub line-eq : v .line ≡ w .line
-  line-eq = ap (λ (x : Verdict). x .line) e
-
   pub rounds-eq : v .rounds ≡ w .rounds
   rounds-eq = ap (λ (x : Verdict). x .rounds) e
 

@@ -2,7 +2,7 @@
 -- Assumes nothing.
 use mathlib.Core.Path.{_≡_, refl}
 use mathlib.Core.Bool.{Bool, true, false, _&&_, _||_}
-use mathlib.Core.List.{List}
+use mathlib.Core.List.{List, [], _∷_}
 use Prim.Native.Nat.{ℕ, zero, suc, _+_, _-_, _*_, _%_, _≤_, _<_}
 use native.Mathlib.Omega.{arith}
 use borrow.Author.Tests.{lt-ltb, le-ltb, le-leb, lt-leb, eq-eqb, ne-eqb}
@@ -98,3 +98,8 @@ pub written : (m m₁ m₂ m₃ : List ℕ) (n s v before rest sum : ℕ) → n 
     → m₁ ≡ set m (3 * (ways * s + n % ways)) sum → m₂ ≡ set m₁ (3 * (ways * s + n % ways) + 1) rest → m₃ ≡ set m₂ (3 * (ways * s + n % ways) + 2) v
     → m₃ ≡ remembered m before rest sum
 written m m₁ m₂ m₃ n s v before rest sum en es ev e₁ e₂ e₃ = rw (e₃, e₂, e₁, en, es, ev)
+
+-- there is no place for them in an empty memory
+pub nowhere-written : (m : List ℕ) (before rest sum : ℕ) → length m ≡ 0 → m ≡ remembered m before rest sum
+nowhere-written [] before rest sum h = refl
+nowhere-written (l ∷ m) before rest sum h = absurd (omega arith)

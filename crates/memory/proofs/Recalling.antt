@@ -103,6 +103,13 @@ known→some memory ls before rest sum e =
     from→some memory ls before rest sum ways (ways * slotOf sum)
     (second-of (not (eqb sum 0)) (holdsFrom ways memory ls (ways * slotOf sum) before rest sum) e)
 
+pub nothing-known : (memory ls : List ℕ) (before rest sum : ℕ) → length memory ≡ 0 → false ≡ knownIn memory ls before rest sum
+nothing-known memory ls before rest sum h = go (knownIn memory ls before rest sum) refl
+  where
+    go : (known : Bool) → knownIn memory ls before rest sum ≡ known → false ≡ known
+    go true e = absurd (omega (arith, known→some memory ls before rest sum e))
+    go false e = refl
+
 -- What is true of a set is true of one with more.
 pub recalls-more : (all ls memory s s′ : List ℕ) → Recalls all ls memory s → ((w : ℕ) → w ∈ s → w ∈ s′) → Recalls all ls memory s′
 recalls-more all ls memory s s′ x f entry h n w m = f w (x entry h n w m)

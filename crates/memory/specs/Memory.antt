@@ -11,12 +11,12 @@ use Rattle.labels.specs.Bags.{bag, asMuch}
 use Rattle.rules.specs.Rules.{Exchange, exchangesBefore}
 use Rattle.choices.specs.Following.{comesOf}
 
--- Where states are kept: a slot by the label, and in it one of sixteen ways by what is left. Labels that differ little fall far apart.
+-- Where states are kept: a slot by the label, and in it one of eight ways by what is left. Labels that differ little fall far apart.
 unfoldable pub slotOf : ℕ → ℕ
-slotOf w = let short = w % 1000003 + 1000 in (short * short % 1000003) % 251
+slotOf w = let short = w % 1000003 + 1000 in (short * short % 1000003) % 503
 
 abbrev pub ways : ℕ
-ways = 16
+ways = 8
 
 abbrev pub wayOf : ℕ → ℕ
 wayOf rest = slotOf rest % ways

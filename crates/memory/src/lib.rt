@@ -20,17 +20,17 @@ ghost use Rattle.labels.specs.Packing.{code};
 ghost use Rattle.rules.specs.Rules.{exchangesBefore};
 ghost use Rattle.memory.specs.Memory.{slotOf, wayOf, coversIn, holdsAt, holdsFrom, knownIn, remembered};
 
-// How many words a memory takes: those of three labels for each of sixteen states with the same label, or with another that falls to the
+// How many words a memory takes: those of three labels for each of eight states with the same label, or with another that falls to the
 // same slot.
-pub const MEMORY_WORDS: usize = 24096;
+pub const MEMORY_WORDS: usize = 24144;
 
-const SLOTS: u64 = 251;
+const SLOTS: u64 = 503;
 
-const WAYS: usize = 16;
+const WAYS: usize = 8;
 
 // Where the states with a label are kept. Labels that differ little fall far apart.
 fn slot(label: Label) -> usize
-    ensures { λ r. ⌜ (r ≡ slotOf (code label)) × (r < 251) ⌝ }
+    ensures { λ r. ⌜ (r ≡ slotOf (code label)) × (r < 503) ⌝ }
 {
     let short = residue(label) + 1000;
     ((short * short % 1000003) % SLOTS) as usize
@@ -52,7 +52,7 @@ pub fn covers(rules: &[u64], before: usize, a: Label, b: Label) -> bool
 
 // Whether what is kept at an entry covers a state to which the rules before a place may be applied.
 fn holds_at(memory: &[u64], entry: usize, rules: &[u64], before: usize, state: State) -> bool
-    requires { ⌜ entry < 4016 ⌝ }
+    requires { ⌜ entry < 4024 ⌝ }
     ensures { λ r. ⌜ r ≡ holdsAt (held (now (memory .entry))) (held (now (rules .entry))) entry before (code (state .rest)) (code (state .sum)) ⌝ }
 {
     let at = 3 * entry;
@@ -76,6 +76,9 @@ fn holds_at(memory: &[u64], entry: usize, rules: &[u64], before: usize, state: S
 pub fn known(memory: &[u64], rules: &[u64], before: usize, state: State) -> bool
     ensures { λ r. ⌜ r ≡ knownIn (held (now (memory .entry))) (held (now (rules .entry))) before (code (state .rest)) (code (state .sum)) ⌝ }
 {
+    if labels_in(memory) == 0 {
+        return false;
+    }
     if same(state.sum, tau()) {
         return false;
     }
@@ -94,6 +97,9 @@ pub fn known(memory: &[u64], rules: &[u64], before: usize, state: State) -> bool
 pub fn remember(memory: &mut [u64], before: usize, state: State)
     ensures { λ r. ⌜ held (now (memory .exit)) ≡ remembered (held (now (memory .entry))) before (code (state .rest)) (code (state .sum)) ⌝ }
 {
+    if labels_in(memory) == 0 {
+        return;
+    }
     let way = slot(state.rest) % WAYS;
     let at = 3 * (WAYS * slot(state.sum) + way);
     write_label(memory, at, state.sum);

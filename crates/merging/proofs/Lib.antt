@@ -9,6 +9,8 @@ pub mod Unions
 pub mod Draws
 -- laying-start, laying-step, laying-end, laying-full, laying-more, laying-both: the loop of `union_of`
 pub mod UnionWalks
--- cut-fits: it never passes the room; union-number, union-outcome, union-result: on the numbers of labels it is the union, or has more
--- labels than there is room for
+-- copying-start, copying-step, copying-end, copying-full, copying-more, copying-one: the loop of `copy_of`
+pub mod CopyWalks
+-- cut-fits: it never passes the room; one-part: one list alone, first or second; union-number, union-outcome, union-result: on the
+-- numbers of labels it is the union, or has more labels than there is room for
 pub mod UnionLaws

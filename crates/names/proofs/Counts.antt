@@ -7,6 +7,7 @@ use native.Mathlib.Nat.{pow-suc, pow-succ', not-suc-le-zero, mul-comm, mul-assoc
 use native.Mathlib.Omega.{arith}
 use lib.Dec.{lit<}
 use lib.ListN.{length, set, length-set, List·getD-append}
+use lib.Bits.{bitAnd}
 use lib.Pow.{pow-add}
 use lib.Seq.{getD-append-add, set-out}
 use Rattle.meaning.specs.Labels.{Label, count, number, labelOf}
@@ -16,6 +17,7 @@ use Rattle.labels.specs.Packing.{code, packed}
 use Rattle.labels.specs.Bags.{bag}
 use Rattle.labels.proofs.Codes.{words-packed}
 use Rattle.labels.proofs.Words.{number-bag, pow-mul, labelOf-words}
+use Rattle.names.proofs.Masks.{masked}
 
 -- The digits of a label are those of its two words; what stands above a lower word's twelve is passed over.
 low-word : (w : ℕ) → labelOf 12 w ≡ labelOf 12 (w % 2 ^ 60)
@@ -73,16 +75,7 @@ module _ (a : packing.Label) (n : ℕ) where
   pub upper-count : 12 ≤ n → n < 25 → count (bag (code a)) n ≡ a .upper / 2 ^ (5 * (n - 12)) % 32
   upper-count h k = upper-name h ∙ shifted 13 (a .upper) (n - 12) (omega arith)
 
-  -- The label without the name: its part of the word goes.
-  lower-part : n < 12 → count (bag (code a)) n * 2 ^ (5 * n) ≤ a .lower % 2 ^ 60
-  lower-part h =
-      let e = cleared 12 (a .lower % 2 ^ 60) n (omega arith) h in
-      let same = lower-name h ∙ ap (λ (b : Label). count b n) (low-word (a .lower)) in
-      rw same (omega arith)
-
-  upper-part : a .upper < 2 ^ 64 → 12 ≤ n → n < 25 → count (bag (code a)) n * 2 ^ (5 * (n - 12)) ≤ a .upper
-  upper-part w h k = let e = cleared 13 (a .upper) (n - 12) (omega arith) (omega arith) in rw (upper-name h) (omega arith)
-
+  -- The label without the name: its digit of the word goes.
   upper-weight : 12 ≤ n → (x : ℕ) → x * 2 ^ (5 * n) ≡ 2 ^ 60 * (x * 2 ^ (5 * (n - 12)))
   upper-weight h x =
       let e : 5 * n ≡ 60 + 5 * (n - 12) = omega arith in
@@ -91,30 +84,42 @@ module _ (a : packing.Label) (n : ℕ) where
       ∙ ap (λ (k : ℕ). k * 2 ^ (5 * (n - 12))) (mul-comm x (2 ^ 60))
       ∙ mul-assoc (2 ^ 60) x (2 ^ (5 * (n - 12)))
 
-  module _ (w : a .upper < 2 ^ 64) (x : ℕ) (e : x ≡ count (bag (code a)) n) where
-    rest : n < 25 → number (set (bag (code a)) n 0) + x * 2 ^ (5 * n) ≡ code a
+  module _ (w : a .upper < 2 ^ 64) where
+    rest : n < 25 → number (set (bag (code a)) n 0) + count (bag (code a)) n * 2 ^ (5 * n) ≡ code a
     unfolding code
-    rest h = rw e (cleared 25 (code a) n (omega arith) h)
+    rest h = cleared 25 (code a) n (omega arith) h
 
-    pub lower-share : n < 12 → (x * 2 ^ (5 * n)) % 2 ^ 64 ≤ a .lower % 2 ^ 60
-    lower-share h = rw e (omega (arith, lower-part h))
+    -- what is left of the one word and the digit at its place are the word
+    lower-rest : (left : ℕ) → n < 12 → left + a .lower % 2 ^ 60 / 2 ^ (5 * n) % 32 * 2 ^ (5 * n) ≡ a .lower % 2 ^ 60
+        → record { lower = left; upper = a .upper } ≡ packed (number (set (bag (code a)) n 0))
+    unfolding code
+    lower-rest left h e =
+        let digit = lower-name h ∙ ap (λ (b : Label). count b n) (low-word (a .lower)) ∙ shifted 12 (a .lower % 2 ^ 60) n h in
+        words-packed left (a .upper) (omega arith) (omega (arith, rw digit at (rest (omega arith)), e))
 
-    pub upper-share : 12 ≤ n → n < 25 → (x * 2 ^ (5 * (n - 12))) % 2 ^ 64 ≤ a .upper
-    upper-share h k = rw e (omega (arith, upper-part w h k))
+    upper-rest : (left : ℕ) → 12 ≤ n → n < 25 → left + a .upper / 2 ^ (5 * (n - 12)) % 32 * 2 ^ (5 * (n - 12)) ≡ a .upper
+        → record { lower = a .lower % 2 ^ 60; upper = left } ≡ packed (number (set (bag (code a)) n 0))
+    unfolding code
+    upper-rest left h k e =
+        let digit = upper-count h k in
+        let place = upper-weight h (a .upper / 2 ^ (5 * (n - 12)) % 32) in
+        words-packed (a .lower % 2 ^ 60) left (omega arith) (omega (arith, rw digit at (rest k), e))
 
     pub lower-cleared : n < 12
-        → record { lower = a .lower % 2 ^ 60 - (x * 2 ^ (5 * n)) % 2 ^ 64; upper = a .upper } ≡ packed (number (set (bag (code a)) n 0))
-    unfolding code
-    lower-cleared h =
-        let part = rw (← e) at (lower-part h) in
-        words-packed (a .lower % 2 ^ 60 - (x * 2 ^ (5 * n)) % 2 ^ 64) (a .upper) (omega arith) (omega (arith, rest (omega arith)))
+        → record { lower = bitAnd (a .lower % 2 ^ 60) (2 ^ 60 - 1 - (31 * 2 ^ (5 * n)) % 2 ^ 64); upper = a .upper }
+        ≡ packed (number (set (bag (code a)) n 0))
+    lower-cleared h = lower-rest _ h (masked (5 * n) 60 (a .lower % 2 ^ 60) (omega arith) (omega arith) (omega arith))
 
-    pub upper-cleared : 12 ≤ n → n < 25
-        → record { lower = a .lower % 2 ^ 60; upper = a .upper - (x * 2 ^ (5 * (n - 12))) % 2 ^ 64 } ≡ packed (number (set (bag (code a)) n 0))
-    unfolding code
-    upper-cleared h k =
-        let part = rw (← e) at (upper-part w h k) in
-        words-packed (a .lower % 2 ^ 60) (a .upper - (x * 2 ^ (5 * (n - 12))) % 2 ^ 64) (omega arith) (omega (arith, rest k, upper-weight h x))
+    pub upper-cleared : 12 ≤ n → n < 24
+        → record { lower = a .lower % 2 ^ 60; upper = bitAnd (a .upper) (2 ^ 64 - 1 - (31 * 2 ^ (5 * (n - 12))) % 2 ^ 64) }
+        ≡ packed (number (set (bag (code a)) n 0))
+    upper-cleared h k = upper-rest _ h (omega arith) (masked (5 * (n - 12)) 64 (a .upper) (omega arith) (omega arith) w)
+
+    -- the name after the last has the four bits above
+    pub last-cleared : n ≡ 24 → record { lower = a .lower % 2 ^ 60; upper = a .upper % 2 ^ 60 } ≡ packed (number (set (bag (code a)) n 0))
+    last-cleared e =
+        let place : 5 * (n - 12) ≡ 60 = omega arith in
+        upper-rest (a .upper % 2 ^ 60) (omega arith) (omega arith) (rw place (omega arith))
 
   pub none-cleared : a .upper < 2 ^ 64 → 25 ≤ n → record { lower = a .lower % 2 ^ 60; upper = a .upper } ≡ packed (number (set (bag (code a)) n 0))
   unfolding code

@@ -52,14 +52,20 @@ fn hide_one(a: Label, n: u64) -> Label
     let lower = a.lower % WORD_END;
     if n < WORD_NAMES {
         return Label {
-            lower: lower - (count(a, n) << (5 * n)),
+            lower: lower & (WORD_END - 1 - (31 << (5 * n))),
             upper: a.upper,
         };
     }
-    if n <= NAMES as u64 {
+    if n < NAMES as u64 {
         return Label {
             lower,
-            upper: a.upper - (count(a, n) << (5 * (n - WORD_NAMES))),
+            upper: a.upper & (u64::MAX - (31 << (5 * (n - WORD_NAMES)))),
+        };
+    }
+    if n == NAMES as u64 {
+        return Label {
+            lower,
+            upper: a.upper % WORD_END,
         };
     }
     Label {

@@ -14,7 +14,7 @@ use Rattle.table.specs.Holding.{HoldsLists}
 use Rattle.table.proofs.TableTerms.{length-ruleWords, list-stored}
 use Rattle.areas.specs.Rows.{held}
 use Rattle.areas.proofs.Held.{held-inWords}
-use Rattle.areas.proofs.Entries.{pairWords, labelWords, ruleLabels}
+use Rattle.areas.proofs.Entries.{pairWords, labelNumbers, ruleLabels}
 use Rattle.labels.proofs.Refinement.{single-number}
 use Rattle.ordering.specs.Ordering.{rulesFor}
 use Rattle.images.specs.declared.Way.{Way}
@@ -35,7 +35,7 @@ wayWords labels names (block ns) = ns
 wayWords labels names (hide ns) = ns
 wayWords labels names (rename ps) = pairWords ps
 wayWords labels names (comm rs) = rulesFor labels (ruleLabels names rs)
-wayWords labels names (allow ls) = labelWords ls
+wayWords labels names (allow ls) = labelNumbers ls
 
 -- The labels of rules, as they are stored and as they are taken.
 rules-exchanged : (n : ℕ) → n ≤ 24 → (rs : List Rule) → Each (LegalRule n) rs → exchangeLabels (T.ruleWords rs) ≡ ruleLabels n rs
@@ -64,4 +64,4 @@ module _ (d : Description) (lists : List ℕ) (stand : HoldsLists d lists) (n t 
   words-same labels (rename ps) e l = list-stored d lists stand n h (rename ps) e
   words-same labels (comm rs) e l =
       ap (rulesFor labels) (ap ruleList (list-stored d lists stand n h (comm rs) e) ∙ rule-list (names d) narrow rs (l .1) (l .2))
-  words-same labels (allow ls) e l = ap held (list-stored d lists stand n h (allow ls) e) ∙ held-inWords (labelWords ls)
+  words-same labels (allow ls) e l = ap held (list-stored d lists stand n h (allow ls) e) ∙ held-inWords (labelNumbers ls)

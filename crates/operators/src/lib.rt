@@ -44,7 +44,11 @@ fn communicate(rules: &[u64], labels: &[u64], operand: &[u64], out: &mut [u64]) 
     let first = first_rules(rules);
     let end = first.len() / RULE_WORDS * 2;
     let list = rules_for(labels, exchanges(first), end);
-    close_each(labels, operand, &list[..LABEL_WORDS * end], out, 0)
+    let closed = close_each(labels, operand, &list[..LABEL_WORDS * end], out, 0);
+    let Built::Holds(n) = closed else {
+        return Built::TooLarge;
+    };
+    Built::Holds(n)
 }
 
 // The way of an operator.
@@ -85,7 +89,7 @@ pub fn through(
         (held (now (operand .entry))) (held (now (out .entry))) (held (now (out .exit))) r ⌝ }
 {
     let place = list_place(operator);
-    match operator {
+    let made = match operator {
         Operator::Comm(_) => communicate(rule_words_of(lists, place), labels, operand, out),
         Operator::Allow(_) => add_image(
             Way::Allow,
@@ -103,5 +107,9 @@ pub fn through(
             out,
             0,
         ),
-    }
+    };
+    let Built::Holds(n) = made else {
+        return Built::TooLarge;
+    };
+    Built::Holds(n)
 }

@@ -26,13 +26,13 @@ use Rattle.reading.specs.declared.Answer as ReadAnswer
 use Rattle.reading.specs.declared.Answer.the-variants as B
 use Rattle.rounds.specs.declared.Answer as RoundsAnswer
 use Rattle.rounds.specs.declared.Answer.the-variants as R
-use Rattle.rounds.specs.Alphabets.{alphabetOf, answerArea, Answered, AnsweredFew}
+use Rattle.rounds.specs.Alphabets.{alphabetOf, answerArea, Answered, AnsweredFew, AnsweredOwn}
 use Rattle.rimecutter.specs.declared.Answer.{Answer}
 use Rattle.rimecutter.specs.declared.Answer.the-variants.{Listed, TooLong, Bad, TooLarge}
 use Rattle.rimecutter.specs.declared.calls.Response.{Response}
 use Rattle.rimecutter.specs.Calls.{Call, refusing, answering, tooShort, ofOutcome, ofReading, unlessShort, call, ownCall}
 use Rattle.rimecutter.specs.Calls.{verdictOf, answerAfter, cleared, workAfter, workWords, answerWords}
-use Rattle.rimecutter.specs.Answers.{verdictFor, NamesFor, Responded, answerFor, refusalFor, RespondedFew, clearedUnless, Cleared}
+use Rattle.rimecutter.specs.Answers.{verdictFor, NamesFor, Responded, answerFor, refusalFor, RespondedFew, RespondedOwn, clearedUnless, Cleared}
 use Rattle.rimecutter.proofs.Readings.{fault-back, Refused, ReadAs}
 use Rattle.rimecutter.proofs.Uniqueness.{verdict-unique}
 
@@ -160,6 +160,12 @@ module _ {text : Text} {table lists listed : List ℕ} {order : Order} (h : Read
         untold = λ large. let z : _≡_ {A = ℕ} 0 1 = cc in absurd (omega arith);
         told = λ some. found-told answer (found .0) (found .1) s;
       }
+
+  pub own-worked : (f : RoundsAnswer.Answer) {answer answer′ : List ℕ} → AnsweredOwn table lists order listed answer answer′ f → r .answer ≡ answerFor f
+      → answerWords ≤ length answer → RespondedOwn (ownCall text) answer′ r
+  own-worked f w s wide =
+      let found = w .right (h .given) (h .wanted) (h .legal) (h .holds) (h .ordered) wide in
+      record { under = w .under; told = found-told (w .under) (found .0) (found .1) s }
 
   pub full-worked : (f : RoundsAnswer.Answer) {work answer work′ answer′ : List ℕ} → Answered table lists order listed work answer work′ answer′ f
       → r .answer ≡ answerFor f → workWords ≤ length work → answerWords ≤ length answer → Responded (ownCall text) work work′ answer answer′ r

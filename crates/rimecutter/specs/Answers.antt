@@ -61,6 +61,11 @@ pub record RespondedFew (c : Call) (answer answer′ : List ℕ) (r : Response) 
   pub untold : r .answer ≡ TooLarge → answer′ ≡ answer
   pub told : (r .answer ≡ TooLarge → ⊥) → (verdictFor (r .answer) ≡ verdictOf c) × (answer′ ≡ answerAfter c answer) × NamesFor c (r .names)
 
+-- What is told in areas of the call's own that are enough: what the call tells, with its labels over what the rounds left in the answer area.
+pub record RespondedOwn (c : Call) (answer′ : List ℕ) (r : Response) : Type 0 where
+  pub under : List ℕ
+  pub told : (verdictFor (r .answer) ≡ verdictOf c) × (answer′ ≡ answerAfter c under) × NamesFor c (r .names)
+
 -- Refusal 1 leaves the work area as it was, everything else clears it.
 abbrev pub clearedUnless : Answer → List ℕ → List ℕ
 clearedUnless TooLong work = work

@@ -3,7 +3,7 @@ ghost use mathlib.Core.Path.{_≡_};
 ghost use Prim.Native.Nat.{_≤_};
 ghost use lib.ListN.{length};
 ghost use Rattle.rimecutter.specs.Calls.{call, ownCall, tooShort, workWords, answerWords};
-ghost use Rattle.rimecutter.specs.Answers.{answerFor, refusalFor, RespondedFew, Cleared, Responded};
+ghost use Rattle.rimecutter.specs.Answers.{answerFor, refusalFor, RespondedFew, RespondedOwn, Cleared, Responded};
 use crate::Answer;
 use areas::clear;
 use reading::read_description;
@@ -11,6 +11,7 @@ use rounds::ANSWER_WORDS;
 use rounds::WORK_WORDS;
 use rounds::few::FEW_TERMS;
 use rounds::few::alphabet_of_few;
+use rounds::own::alphabet_in_own;
 use table::LIST_WORDS;
 use table::LISTS_WORDS;
 use table::NAMES;
@@ -80,7 +81,29 @@ pub fn respond_few(description: &[u8], answer: &mut [u64]) -> Response
     }
 }
 
-// The call in areas that are always enough. It starts from the text again: what a try in small areas has read is lost with them.
+// The call in areas of its own that are always enough. The rounds have the answer area for themselves until the labels are listed: what
+// it held before is lost.
+pub fn respond_own(description: &[u8], answer: &mut [u64]) -> Response
+    requires { ⌜ answerWords ≤ length (now answer) ⌝ }
+    ensures { λ r. ⌜ RespondedOwn (ownCall (now (description .entry))) (now (answer .exit)) r ⌝ }
+{
+    let mut table = [0u64; TABLE_WORDS];
+    let mut lists = [0u64; LISTS_WORDS];
+    let mut listed = [0u64; LIST_WORDS];
+    let read = read_description(description, &mut table, &mut lists, &mut listed);
+    let said = read.answer;
+    let order = read.order;
+    let reading::Answer::Fine = said else {
+        return unread(said);
+    };
+    let found = found(alphabet_in_own(&table, &lists, order, &listed, answer));
+    Response {
+        answer: found,
+        names: names_by_value(&table),
+    }
+}
+
+// The same with a work area that is lent. It starts from the text again: what a try in small areas has read is lost with them.
 pub fn respond_full(description: &[u8], work: &mut [u64], answer: &mut [u64]) -> Response
     requires { ⌜ (workWords ≤ length (now work)) × (answerWords ≤ length (now answer)) ⌝ }
     ensures { λ r. ⌜ Responded (ownCall (now (description .entry)))

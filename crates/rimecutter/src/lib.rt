@@ -8,7 +8,7 @@ ghost use Rattle.rimecutter.specs.Answers.{Settled, TextWritten};
 use crate::calls::Response;
 use crate::calls::respond;
 use crate::calls::respond_few;
-use crate::calls::respond_full;
+use crate::calls::respond_own;
 use areas::rows::labels_in;
 use faults::Flaw;
 use faults::number_of;
@@ -17,7 +17,6 @@ use printing::write_answer;
 use printing::write_refusal;
 use reading::TEXT_BYTES;
 use rounds::ANSWER_WORDS;
-use rounds::WORK_WORDS;
 use rounds::few::FEW_WORDS;
 
 // Listed with the rounds and the number of labels; or refused: with 1; with the fault of a line, its column and the line's number; or with 7.
@@ -76,9 +75,8 @@ fn write_response(text: &mut [u8], response: Response, answer: &[u64]) -> usize
 fn text_full(description: &[u8], text: &mut [u8]) -> usize
     ensures { λ r. ⌜ Printed (textOf (ownCall (now (description .entry)))) (now (text .entry)) (now (text .exit)) r ⌝ }
 {
-    let mut work = [0u64; WORK_WORDS];
     let mut answer = [0u64; ANSWER_WORDS];
-    let response = respond_full(description, &mut work, &mut answer);
+    let response = respond_own(description, &mut answer);
     write_response(text, response, &answer)
 }
 

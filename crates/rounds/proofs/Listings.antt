@@ -4,13 +4,13 @@ use mathlib.Core.Path.{_≡_, refl, sym, ap, ap₂, subst, _∙_, _≡⟨_⟩_, 
 use mathlib.Core.Logic.{_⊎_, inl, inr}
 use mathlib.Core.Bool.{Bool}
 use mathlib.Core.List.{List, [], _∷_, _++_, map, append-assoc}
-use Prim.Native.Nat.{ℕ, zero, suc, _+_, _*_, _-_, _/_, _≤_, _<_}
+use Prim.Native.Nat.{ℕ, zero, suc, _+_, _*_, _-_, _/_, _≤_, _<_, min}
 use native.Mathlib.Nat.{zero-add, suc-add}
 use native.Mathlib.Omega.{arith}
 use native.Mathlib.Decide.{decLt}
 use borrow.Author.Tests.{le-leb}
 use lib.Dec.{T}
-use lib.ListN.{length, take, drop, replicate, length-map, length-append}
+use lib.ListN.{length, take, drop, replicate, length-map, length-append, length-replicate}
 use lib.Seq.{take-at, drop-at}
 use Rattle.meaning.specs.Labels.{Label, number, inWords}
 use Rattle.meaning.specs.Descriptions as D
@@ -29,20 +29,21 @@ use Rattle.table.specs.Encoded.{slotOf, orderWords, orderFor}
 use Rattle.table.specs.Holding.{rootIn, Holds, HoldsOrder}
 use Rattle.table.proofs.Holdings.{slots-held}
 use Rattle.areas.proofs.Zeroes.{zeroed-front}
-use Rattle.areas.proofs.Held.{held-append, held-inWords, length-inWords}
+use Rattle.areas.proofs.Held.{length-held, held-append, held-inWords, length-inWords}
 use Rattle.cutting.specs.Cutting.{put, cutLabels, cutInto, whereRoom}
 use Rattle.deltas.specs.Deltas.{overIn}
 use Rattle.deltas.proofs.Passing.{over-in, few-labels, few-packs}
 use Rattle.extents.specs.Extents.{partAt, wordsIn}
 use Rattle.stability.specs.declared.Last.the-variants as L
-use Rattle.stability.specs.Running.{Ready, Ran}
+use Rattle.stability.specs.Running.{Ready, RootListed, RunEnds, Ran}
 use Rattle.stability.proofs.Runs.{ready-zeros, length-zeros}
+use Rattle.stability.proofs.Reaches.{passing-large}
 use Rattle.stability.specs.declared.Found.the-variants as F
 use Rattle.keeping.specs.Settling.{whole, alone}
 use Rattle.stability.specs.Endings.{foundOf, labelsOf, Reached}
 use Rattle.rounds.specs.declared.Answer.{Answer}
 use Rattle.rounds.specs.declared.Answer.the-variants as A
-use Rattle.rounds.specs.Alphabets.{alphabetOf, answerArea, allIn, listIn, Answered, AnsweredFew, Listing}
+use Rattle.rounds.specs.Alphabets.{alphabetOf, answerArea, allIn, listIn, Answered, AnsweredFew, AnsweredOwn, Listing}
 use Rattle.rounds.proofs.Answering.{isAll, listOf, cut-number}
 use Rattle.rounds.proofs.Orders.{Cuts, cuts-to}
 
@@ -175,6 +176,16 @@ module _ {table lists : List ℕ} {order : Order} {own work area : List ℕ} whe
               w ∙ ap (zeroed (2 * used)) v ∙ alone-cleared words work (2 * used) long (omega (arith, length-inWords found, length-map labels number)),
             )
 
+-- The root's set of the stable round, from where it stands.
+root-listed : {table lists : List ℕ} {order : Order} {own sets work set : List ℕ} {k root most : ℕ} (d : D.Description) (o : D.Order) → Legal d o
+    → Holds d table lists → HoldsOrder o order own → RootListed d k sets work most → root ≡ rootIn table → set ≡ wordsIn (partAt sets root) work
+    → (area : List ℕ) {area′ : List ℕ} {n : ℕ} → min most 1024 ≤ length area / 2 → Listing set order own area area′ n
+    → (A.Listed k n ≡ alphabetOf (answer d o)) × (area′ ≡ answerArea (answer d o) area)
+root-listed {sets = sets} {work} {set} {k} d o l h g x e taken area room q =
+    let start : set ≡ map number (x .labels) = taken ∙ ap (λ (t : ℕ). wordsIn (partAt sets t) work) (e ∙ h .rooted) ∙ x .words in
+    let cuts = subst (λ (y : Outcome). Cuts d o y (answer d o)) (x .outcome) (cuts-to d o) in
+    listed-right d o k (x .labels) l cuts area g start (omega (arith, x .few, root-few d o k (x .labels) l cuts)) q
+
 -- The call in small areas: no room, or an answer.
 module _ {table lists : List ℕ} {order : Order} {own area : List ℕ} where
   pub few-large : AnsweredFew table lists order own area area A.TooLarge
@@ -184,16 +195,13 @@ module _ {table lists : List ℕ} {order : Order} {own area : List ℕ} where
       → Ran table lists (zeros 16) (zeros 34) (zeros 224) (held (zeros 384)) (held (zeros 192)) (held (zeros 192)) slots sets news work log out (L.Stable k)
       → root ≡ rootIn table → set ≡ wordsIn (partAt sets root) work → Listing set order own area area′ n
       → AnsweredFew table lists order own area area′ (A.Listed k n)
-  few-listed {sets = sets} {work = work} {set = set} {k = k} room run e taken q = record {
+  few-listed {k = k} room run e taken q = record {
     unchanged = λ z. absurd (let y : _≡_ {A = ℕ} 0 1 = cc in omega arith);
     right = λ d o l h g j m z.
         let count = ap length (slots-held h (l .termsCount .1)) ∙ length-map (d .terms) slotOf in
         let few = few-slots (D.termCount d) (λ x. run .short (omega (arith, count))) in
         let x = run .right d o l h (few-ready (D.termCount d) few) in
-        let start : set ≡ map number (x .labels) = taken ∙ ap (λ (t : ℕ). wordsIn (partAt sets t) work) (e ∙ h .rooted) ∙ x .words in
-        let cuts = subst (λ (y : Outcome). Cuts d o y (answer d o)) (x .outcome) (cuts-to d o) in
-        let small = x .few in
-        let right = listed-right d o k (x .labels) l cuts area g start (omega (arith, length-zeros 192)) q in
+        let right = root-listed d o l h g x e taken area (omega (arith, length-zeros 192)) q in
         (sym z ∙ right .0, right .1);
   }
     where
@@ -210,6 +218,45 @@ module _ {table lists : List ℕ} {order : Order} {own area : List ℕ} where
         | yes h ↦ absurd (let s = short h in let y : _≡_ {A = ℕ} 0 1 = cc in omega arith)
         | no h ↦ omega arith
       ]
+
+-- The call in areas of its own that are always enough: an answer area that is too short, a limit passed, an answer.
+own-ready : (area : List ℕ) → 2048 ≤ length area → (terms : ℕ) → terms ≤ 96
+    → Ready terms (zeros 96) (zeros 194) (zeros 224) (held (zeros 8192)) (held (zeros 4096)) (held area)
+own-ready area most terms h =
+    let halves = length-zeros 8192 in
+    let one = length-zeros 4096 in
+    let room = length-held area in
+    ready-zeros terms 194 224 (zeros 96) (held (zeros 8192)) (held (zeros 4096)) (held area) (omega (arith, length-replicate {A = ℕ} 96 0))
+    (omega arith) (omega arith) (omega arith) (omega arith) (omega arith)
+
+passed-any : (d : D.Description) (o : D.Order) (sets work : List ℕ) → RunEnds d sets work 2048 L.TooLarge → answer d o ≡ tooLarge
+passed-any d o sets work (inl e) = subst (λ (y : Outcome). Cuts d o y (answer d o)) e (cuts-to d o)
+passed-any d o sets work (inr x) = subst (λ (y : Outcome). Cuts d o y (answer d o)) (passing-large x) (cuts-to d o)
+
+module _ {table lists : List ℕ} {order : Order} {own area : List ℕ} where
+  pub own-short : length area < 2048 → AnsweredOwn table lists order own area area A.TooLarge
+  own-short h = record { under = area; right = λ d o l e g m. absurd (omega arith) }
+
+  pub own-large : {slots sets news work log out area′ : List ℕ}
+      → Ran table lists (zeros 96) (zeros 194) (zeros 224) (held (zeros 8192)) (held (zeros 4096)) (held area) slots sets news work log out L.TooLarge
+      → AnsweredOwn table lists order own area area′ A.TooLarge
+  own-large {sets = sets} {work = work} {area′ = area′} run = record {
+    under = area′;
+    right = λ d o l h g m.
+        let ends = run .right d o l h (own-ready area m _ (l .termsCount .1)) in
+        let none = passed-any d o sets work (subst (λ (n : ℕ). RunEnds d sets work n L.TooLarge) (length-zeros 4096) ends) in
+        (sym (ap alphabetOf none), sym (ap (λ (y : Outcome). answerArea y area′) none));
+  }
+
+  pub own-listed : {slots sets news work log out set : List ℕ} (after : List ℕ) {area′ : List ℕ} {k n root : ℕ} → length after ≡ length area
+      → Ran table lists (zeros 96) (zeros 194) (zeros 224) (held (zeros 8192)) (held (zeros 4096)) (held area) slots sets news work log out (L.Stable k)
+      → root ≡ rootIn table → set ≡ wordsIn (partAt sets root) work → Listing set order own after area′ n
+      → AnsweredOwn table lists order own area area′ (A.Listed k n)
+  own-listed after long run e taken q = record {
+    under = after;
+    right = λ d o l h g m.
+        root-listed d o l h g (run .right d o l h (own-ready area m _ (l .termsCount .1))) e taken after (omega (arith, length-zeros 4096)) q;
+  }
 
 -- What is promised settles the answer and both areas; and the round count that is answered is the description's.
 module _ (table lists : List ℕ) (order : Order) (own work area work₁ area₁ work₂ area₂ : List ℕ) (r₁ r₂ : Answer)

@@ -43,6 +43,13 @@ pub record AnsweredFew (table lists : List ℕ) (order : Order) (own area area�
   pub right : (d : D.Description) (o : D.Order) → Legal d o → Holds d table lists → HoldsOrder o order own → (k n : ℕ) → r ≡ A.Listed k n
       → (A.Listed k n ≡ alphabetOf (answer d o)) × (area′ ≡ answerArea (answer d o) area)
 
+-- The call in areas of its own that are always enough: what is answered is right, and an answer's labels stand over what the rounds left in the
+-- answer area.
+pub record AnsweredOwn (table lists : List ℕ) (order : Order) (own area area′ : List ℕ) (r : Answer) : Type 0 where
+  pub under : List ℕ
+  pub right : (d : D.Description) (o : D.Order) → Legal d o → Holds d table lists → HoldsOrder o order own → 2048 ≤ length area
+      → (r ≡ alphabetOf (answer d o)) × (area′ ≡ answerArea (answer d o) under)
+
 -- The order as the code takes it: whether it is `all`, and the labels of its list.
 abbrev pub allIn : Order → Bool
 allIn All = true

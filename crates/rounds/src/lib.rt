@@ -1,6 +1,7 @@
 // The alphabet of a table: the root's set, worked out round by round in a lent work area, cut to the order.
 pub mod few;
 mod listing;
+pub mod own;
 
 use crate::listing::cut_to;
 use areas::clear;

@@ -10,5 +10,6 @@ pub mod Starting
 pub mod Copies
 -- copied-merged, ran-unready, ran-turned: the promise of `run`; ready-zeros: areas that are enough, with rows of zeros; length-zeros
 pub mod Runs
--- reached-short, reached-run: the promise of `until_stable`; reached-unique: it settles all
+-- passing-large: what a log that is always enough tells; reached-short, reached-run: the promise of `until_stable`; reached-unique: it settles
+-- all
 pub mod Reaches

@@ -42,7 +42,7 @@ abbrev Answered : D.Description → (work work′ : List ℕ) → Found → Type
 Answered d work work′ r = (r ≡ foundOf (answer d D.all)) × (work′ ≡ alone (inWords (map number (labelsOf (answer d D.all)))) work)
 
 -- A log of 2,048 labels has room for as many labels as there may be.
-passing-large : {d : D.Description} → Passing d 2048 → answer d D.all ≡ tooLarge
+pub passing-large : {d : D.Description} → Passing d 2048 → answer d D.all ≡ tooLarge
 passing-large {d} x = passed-answer d D.all (x .round) (subst T (over-in (roundSets d (x .round))) (x .passed))
 
 -- The rounds were run in the words that are used, and what is behind them is as before.

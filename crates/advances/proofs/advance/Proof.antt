@@ -1,5 +1,5 @@
 -- `advances::advance` meets its contract. Assumes nothing.
-use Rattle.advances.proofs.Appending.{held-long}
+use Rattle.areas.proofs.Held.{held-long}
 use Rattle.advances.proofs.Advancing.{advanced-quiet, advanced-large, advanced-kept}
 use borrow.Author.Needs.{needs}
 use Rattle.advances.proofs.advance.Statement.{statement}

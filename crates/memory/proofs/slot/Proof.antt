@@ -29,7 +29,7 @@ mul-result c = omega (arith, square (c .residue .result + 1000) (omega (arith, s
 
 returns : tie.Need-returns
 unfolding slotOf
-returns c = (ap (λ (r : ℕ). ((r + 1000) * (r + 1000) % 1000003) % 251) (c .residue .ensures), omega arith)
+returns c = (ap (λ (r : ℕ). ((r + 1000) * (r + 1000) % 1000003) % 503) (c .residue .ensures), omega arith)
 
 pub slot-spec : {M : Type 1} → statement M
 slot-spec = tie.close (tie.spec residue-requires add-short mul-result returns)

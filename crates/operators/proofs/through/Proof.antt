@@ -1,9 +1,11 @@
 -- `operators::through` meets its contract: each operator goes its way, with its list; that of comm holds rules, and that of allow labels.
 -- Assumes nothing.
-use mathlib.Core.Path.{_≡_, refl}
+use mathlib.Core.Path.{_≡_, refl, ap, _∙_}
 use mathlib.Core.List.{List, [], _∷_}
+use mathlib.Core.Logic.{inl, inr}
 use Prim.Native.Nat.{ℕ}
 use borrow.Author.Needs.{needs}
+use lib.ListN.{length}
 use types.Run.{OneOf, miss}
 use denote.Enum.Declared.{tagOf}
 use Rattle.slots.specs.declared.Operator.{Operator}
@@ -12,7 +14,7 @@ use Rattle.slots.proofs.Operator.{the-type}
 use Rattle.table.specs.Decoded.{wordsAt}
 use Rattle.areas.specs.Rows.{held}
 use Rattle.images.specs.Imaging.{takenBy}
-use Rattle.operators.specs.Operators.{wayFor, placeFor, wordsFor}
+use Rattle.operators.specs.Operators.{wayFor, placeFor, wordsFor, Passes}
 use Rattle.operators.proofs.through.Statement.{statement}
 use Rattle.operators.proofs.through.Tie as tie
 
@@ -55,46 +57,53 @@ words-of-requires c κs = tt
 add-image-requires-2 : tie.Need-add-image-requires-2
 add-image-requires-2 c κs = tt
 
+enum-known-made : tie.Need-enum-known-made
+enum-known-made c = search needs
+
+enum-told-3 : tie.Need-enum-told-3
+enum-told-3 c = search needs
+
+-- whichever way an operator went: the words are as many, and what it makes of the labels is in the set
+same : (c : tie.At-match-came) → length (c .match .out) ≡ length (c .before .before .before .before .before .before .args .out .now)
+same c = elim (c .match .came) [
+  | inl w ↦ ap length (w .7) ∙ w .4 .kept .1 .1 .1 .0
+  | inr v ↦ elim v [ inl w ↦ ap length (w .7) ∙ w .4 .kept .1 .1 .1 .1 .0 | inr w ↦ ap length (w .7) ∙ w .4 .kept .1 .1 .1 .1 .0 ]
+]
+
+passes : (c : tie.At-match-came) →
+    let a = c .before .before .before .before .before .before .args in
+    Passes (wayFor (a .operator)) (wordsFor (a .lists .now) (held (a .labels .now)) (a .operator)) (held (a .labels .now)) (held (a .operand .now))
+    (held (a .out .now)) (held (c .match .out)) (c .match .made)
+passes c =
+    let a = c .before .before .before .before .before .before .args in
+    let at-place = c .before .list-place .ensures in
+    elim (c .match .came) [
+      | inl w ↦ rw (w .7, w .8, w .1 .given .1) (rw (w .2 .ensures, at-place, w .1 .given .1) at (w .4 .ensures))
+      | inr v ↦ elim v [
+        | inl w ↦ rw (w .7, w .8, w .1 .given .1) (rw (w .2 .ensures, at-place, w .1 .given .1) at (w .4 .ensures))
+        | inr w ↦ rw (w .7, w .8) (rw (
+          w .1 .ensures,
+          w .2 .ensures,
+          at-place,
+          plain (a .lists .now) (held (a .labels .now)) (a .operator) (w .0 .keys3),
+        ) at (w .4 .ensures))
+      ]
+    ]
+
 same-length : tie.Need-same-length
-same-length c = search needs
+same-length c = same (c .before .before)
 
 returns : tie.Need-returns
-returns c =
-    let added = c .before .before in
-    let listed = added .before .before in
-    let told = listed .before in
-    let is-comm = told .enum-told .given .1 in
-    rw is-comm (rw (listed .rule-words-of .ensures, told .before .before .list-place .ensures, is-comm) at (added .communicate .ensures))
+returns c = rw (c .enum-told3 .given .1) at (passes (c .before .before))
 
 same-length-2 : tie.Need-same-length-2
-same-length-2 c = search needs
+same-length-2 c = same (c .before .before .before)
 
 returns-2 : tie.Need-returns-2
-returns-2 c =
-    let added = c .before .before in
-    let listed = added .before .before in
-    let told = listed .before in
-    let is-allow = told .enum-told2 .given .1 in
-    rw is-allow (rw (listed .label-words-of .ensures, told .before .before .list-place .ensures, is-allow) at (added .add-image .ensures))
-
-same-length-3 : tie.Need-same-length-3
-same-length-3 c = search needs
-
-returns-3 : tie.Need-returns-3
-returns-3 c =
-    let added = c .before .before in
-    let listed = added .before .before in
-    let other = listed .before .before in
-    let a = other .before .before .before .before .before .before .args in
-    rw (
-      listed .before .way-of .ensures,
-      listed .words-of .ensures,
-      other .before .list-place .ensures,
-      plain (a .lists .now) (held (a .labels .now)) (a .operator) (other .match .keys3),
-    ) at (added .add-image2 .ensures)
+returns-2 c = rw (c .before .made .given .1) at (passes (c .before .before .before))
 
 pub through-spec : {M : Type 1} → statement M
 through-spec =
     tie.close
     (tie.spec list-place-requires enum-told rule-words-of-requires communicate-requires enum-told-2 label-words-of-requires add-image-requires
-    way-of-requires words-of-requires add-image-requires-2 same-length returns same-length-2 returns-2 same-length-3 returns-3)
+    way-of-requires words-of-requires add-image-requires-2 enum-known-made enum-told-3 same-length returns same-length-2 returns-2)

@@ -7,14 +7,11 @@ use Rattle.rimecutter.proofs.Texts.{told-printed}
 use Rattle.rimecutter.proofs.text_full.Statement.{statement}
 use Rattle.rimecutter.proofs.text_full.Tie as tie
 
-slice-aggregate-respond-full : tie.Need-slice-aggregate-respond-full
-slice-aggregate-respond-full c = refl
+slice-aggregate-respond-own : tie.Need-slice-aggregate-respond-own
+slice-aggregate-respond-own c = refl
 
-slice-aggregate-respond-full-2 : tie.Need-slice-aggregate-respond-full-2
-slice-aggregate-respond-full-2 c = refl
-
-respond-full-requires : tie.Need-respond-full-requires
-respond-full-requires c κs = search needs
+respond-own-requires : tie.Need-respond-own-requires
+respond-own-requires c κs = search needs
 
 slice-aggregate-write-response : tie.Need-slice-aggregate-write-response
 slice-aggregate-write-response c = search needs
@@ -24,12 +21,11 @@ same-length c = search needs
 
 returns : tie.Need-returns
 returns c =
-    let done = c .before .before .before .before .before .before .before .respond-full in
-    let kept = done .ensures in
-    told-printed _ _ _ (done .result) (kept .settled .verdict, kept .settled .answers, kept .names) (c .before .before .write-response .ensures)
+    let done = c .before .before .before .before .before .before .respond-own in
+    told-printed _ _ _ (done .result) (done .ensures .told) (c .before .before .write-response .ensures)
 
 pub text-full-spec : {M : Type 1} → statement M
 text-full-spec =
     tie.close
-    (tie.spec slice-aggregate-respond-full slice-aggregate-respond-full-2 respond-full-requires slice-aggregate-write-response asks-nothing same-length
+    (tie.spec slice-aggregate-respond-own respond-own-requires slice-aggregate-write-response asks-nothing same-length
     returns)

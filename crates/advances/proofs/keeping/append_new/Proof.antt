@@ -2,8 +2,9 @@
 use native.Mathlib.Omega.{arith}
 use borrow.Author.Needs.{needs}
 use Rattle.areas.specs.Rows.{held}
+use Rattle.areas.proofs.Held.{held-long}
 use Rattle.areas.proofs.Held.{length-held}
-use Rattle.advances.proofs.Appending.{held-long, logged-fits, appended-all, appended-large}
+use Rattle.advances.proofs.Appending.{logged-fits, appended-all, appended-large}
 use Rattle.advances.proofs.keeping.append_new.Statement.{statement}
 use Rattle.advances.proofs.keeping.append_new.Tie as tie
 

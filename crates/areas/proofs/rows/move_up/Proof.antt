@@ -1,52 +1,62 @@
--- `areas::rows::move_up` meets its contract. The loop's invariant is `Moving`: the labels from the i-th on are moved; the
--- measure is i. Assumes nothing.
-use mathlib.Core.Path.{_≡_, refl}
+-- `areas::rows::move_up` meets its contract. Assumes nothing.
+use mathlib.Core.Logic.{⊎-elim}
+use Prim.Native.Nat.{_/_}
 use native.Mathlib.Omega.{arith}
+use borrow.Author.Needs.{needs}
+use borrow.Author.Tests.{ltb-true, ltb-false}
 use lib.ListN.{length}
 use Rattle.areas.specs.Rows.{held}
 use Rattle.areas.proofs.Held.{length-held}
-use Rattle.areas.proofs.Moves.{Moving, moving-start, moving-step, moving-end, movedUp-past, moving-place}
+use Rattle.areas.proofs.Moves.{movedUp-past, movedUp-none, held-moved}
 use Rattle.areas.proofs.rows.move_up.Statement.{statement}
 use Rattle.areas.proofs.rows.move_up.Tie as tie
 
-abbrev Inv-loop : tie.InvT-loop
-Inv-loop words₀ from to i₀ words i = Moving (held words₀) from to i (held words) × (length words ≡ length words₀)
+mul-end : tie.Need-mul-end
+mul-end c = omega (arith, ltb-true)
 
-abbrev μ-loop : tie.MeasureT-loop
-μ-loop words₀ from to i₀ words i = i
+add-end : tie.Need-add-end
+add-end c = omega (arith, ltb-true)
 
-loop-holds : tie.Need-loop-holds Inv-loop μ-loop
-loop-holds c =
-    let a = c .before .before .args in
-    (moving-start (held (a .words .now)) (a .from) (a .to) (omega (arith, length-held (a .words .now), c .if1 .taken)), refl)
+mul-shift-up : tie.Need-mul-shift-up
+mul-shift-up c = omega (arith, ltb-true)
 
-copy-up-requires : tie.Need-copy-up-requires Inv-loop μ-loop
-copy-up-requires c κs =
-    let l = c .before .before .loop in
-    omega (arith, moving-place (l .inv .0), length-held (l .words), c .before .loop-test .taken)
+mul-shift-up-2 : tie.Need-mul-shift-up-2
+mul-shift-up-2 c = omega (arith, ltb-true)
 
-sub-i : tie.Need-sub-i Inv-loop μ-loop
-sub-i c = omega arith
+sub-shift-up : tie.Need-sub-shift-up
+sub-shift-up c = search needs
 
-loop-less : tie.Need-loop-less Inv-loop μ-loop
-loop-less c = omega arith
+part-shift-up-start : tie.Need-part-shift-up-start
+part-shift-up-start c = search needs
 
-loop-again : tie.Need-loop-again Inv-loop μ-loop
-loop-again c =
-    let l = c .before .before .before .before .before .loop in
-    let up = c .before .before .copy-up in
-    (rw (up .ensures) (moving-step (l .inv .0) (c .before .before .before .before .loop-test .taken)), omega arith)
+part-shift-up-end : tie.Need-part-shift-up-end
+part-shift-up-end c = omega (arith, ltb-true)
 
-same-length : tie.Need-same-length Inv-loop μ-loop
-same-length c = c .before .loop .inv .1
+shift-up-requires : tie.Need-shift-up-requires
+shift-up-requires c κs = search needs
 
-returns : tie.Need-returns Inv-loop μ-loop
-returns c = moving-end (c .before .loop .inv .0) (c .loop-test .left)
+same-length : tie.Need-same-length
+same-length c = search needs
 
-returns-2 : tie.Need-returns-2 Inv-loop μ-loop
+returns : tie.Need-returns
+returns c =
+    let called = c .before .before in
+    let tested = called .before .before in
+    let a = tested .before .before .before .args in
+    held-moved (a .from) (a .to) (a .words .now) (called .shift-up .last .0) (tested .before .if1 .taken) (ltb-true _ _ (tested .if2 .taken))
+    (called .shift-up .ensures)
+
+returns-2 : tie.Need-returns-2
 returns-2 c =
     let a = c .before .before .args in
-    movedUp-past (a .from) (a .to) (held (a .words .now)) (omega (arith, length-held (a .words .now), c .if1 .left))
+    let ws = a .words .now in
+    ⊎-elim
+    (λ w. movedUp-past (a .from) (a .to) (held ws) (omega (arith, length-held ws, ltb-false (a .to) (length ws / 2) (w .1 .left))))
+    (λ w. movedUp-none (a .from) (a .to) (held ws) (w .left))
+    (c .if1 .came)
 
 pub move-up-spec : {M : Type 1} → statement M
-move-up-spec = tie.close (tie.spec Inv-loop μ-loop loop-holds copy-up-requires sub-i loop-less loop-again same-length returns returns-2)
+move-up-spec =
+    tie.close
+    (tie.spec mul-end add-end mul-shift-up mul-shift-up-2 sub-shift-up part-shift-up-start part-shift-up-end shift-up-requires same-length returns
+    returns-2)

@@ -4,7 +4,10 @@ use mathlib.Core.Path.{sym, _∙_}
 use mathlib.Core.List.{List}
 use Prim.Native.Nat.{ℕ}
 use Rattle.areas.specs.Rows.{held}
-use Rattle.arrivals.specs.Arriving.{labelsOf}
+use Rattle.sets.specs.Building.{GrownAt}
+use Rattle.extents.specs.Extents.{atStart}
+use Rattle.sums.specs.Sums.{sumsOf}
+use Rattle.arrivals.specs.Arriving.{labelsOf, sumsNew}
 use Rattle.arrivals.proofs.NewSums.{sums-all, sums-large, sums-last}
 use borrow.Author.Needs.{needs}
 use Rattle.arrivals.proofs.arriving.add_new_sums.Statement.{statement}
@@ -31,21 +34,50 @@ labels-of-requires-3 c κs = search needs
 add-sums-requires : tie.Need-add-sums-requires
 add-sums-requires c κs = search needs
 
-labels-in-requires : tie.Need-labels-in-requires
-labels-in-requires c κs = search needs
+enum-known-first : tie.Need-enum-known-first
+enum-known-first c = search needs
 
-labels-in-requires-2 : tie.Need-labels-in-requires-2
-labels-in-requires-2 c κs = search needs
+enum-told : tie.Need-enum-told
+enum-told c = search needs
+
+-- the sums with a new label of the first set
+first : (c : tie.After-add-sums) →
+    let a = c .before .before .before .before .before .before .before .before .before .before .before .before .before .args in
+    let new = labelsOf (a .news .now) (held (a .log .now)) (a .t) in
+    let all = labelsOf (a .sets .now) (held (a .work .now)) (a .u) in
+    GrownAt (atStart (a .len)) (λ room. sumsOf room new all) (held (a .out .now)) (held (c .add-sums .last .1 .1 .0)) (c .add-sums .result)
+first c =
+    let by = c .before .before in
+    let new = by .before .before .before .before in
+    rw (new .labels-of .ensures, new .before .part-at .ensures, by .labels-of3 .ensures, by .before .part-at3 .ensures) at (c .add-sums .ensures)
 
 same-length : tie.Need-same-length
 same-length c = search needs
 
 returns : tie.Need-returns
 returns c =
+    let added = c .before .before .before .before in
+    let a = added .before .before .before .before .before .before .before .before .before .before .before .before .before .args in
+    let news : ℕ → List ℕ = labelsOf (a .news .now) (held (a .log .now)) in
+    let sets : ℕ → List ℕ = labelsOf (a .sets .now) (held (a .work .now)) in
+    sums-large (news (a .t)) (sets (a .t)) (news (a .u)) (sets (a .u)) (a .len) (held (a .out .now)) _
+    (rw (c .enum-told .given .1) at (first added))
+
+labels-in-requires : tie.Need-labels-in-requires
+labels-in-requires c κs = search needs
+
+labels-in-requires-2 : tie.Need-labels-in-requires-2
+labels-in-requires-2 c κs = search needs
+
+same-length-2 : tie.Need-same-length-2
+same-length-2 c = search needs
+
+returns-2 : tie.Need-returns-2
+returns-2 c =
     let counted = c .before in
-    let added = counted .before .before .before .before in
-    let by = added .before .before in
-    let all = by .before .before in
+    let holds = counted .before .before .before in
+    let added = holds .before .before .before .before in
+    let all = added .before .before .before .before in
     let new = all .before .before in
     let lengths = sym (counted .before .labels-in .ensures) ∙ c .if1 .taken ∙ counted .labels-in2 .ensures in
     let a = new .before .before .before .before .before .before .before .args in
@@ -53,28 +85,7 @@ returns c =
     let sets : ℕ → List ℕ = labelsOf (a .sets .now) (held (a .work .now)) in
     sums-all (news (a .t)) (sets (a .t)) (news (a .u)) (sets (a .u)) (a .len) (held (a .out .now)) _
     (rw (new .labels-of .ensures, new .before .part-at .ensures, all .labels-of2 .ensures, all .before .part-at2 .ensures) at lengths)
-    (rw (new .labels-of .ensures, new .before .part-at .ensures, by .labels-of3 .ensures, by .before .part-at3 .ensures) at (added .add-sums .ensures))
-
-enum-known-first : tie.Need-enum-known-first
-enum-known-first c = search needs
-
-enum-told : tie.Need-enum-told
-enum-told c = search needs
-
-same-length-2 : tie.Need-same-length-2
-same-length-2 c = search needs
-
-returns-2 : tie.Need-returns-2
-returns-2 c =
-    let added = c .before .before .before .before .before .before .before in
-    let by = added .before .before in
-    let new = by .before .before .before .before in
-    let first = rw (c .enum-told .given .1, new .labels-of .ensures, new .before .part-at .ensures, by .labels-of3 .ensures, by .before .part-at3 .ensures) at
-    (added .add-sums .ensures) in
-    let a = new .before .before .before .before .before .before .before .args in
-    let news : ℕ → List ℕ = labelsOf (a .news .now) (held (a .log .now)) in
-    let sets : ℕ → List ℕ = labelsOf (a .sets .now) (held (a .work .now)) in
-    sums-large (news (a .t)) (sets (a .t)) (news (a .u)) (sets (a .u)) (a .len) (held (a .out .now)) _ first
+    (rw (holds .first .given .1) at (first added))
 
 part-at-requires-4 : tie.Need-part-at-requires-4
 part-at-requires-4 c κs = search needs
@@ -85,17 +96,26 @@ labels-of-requires-4 c κs = search needs
 add-sums-requires-2 : tie.Need-add-sums-requires-2
 add-sums-requires-2 c κs = search needs
 
-same-length-3 : tie.Need-same-length-3
-same-length-3 c = search needs
+enum-known-second : tie.Need-enum-known-second
+enum-known-second c = search needs
 
-returns-3 : tie.Need-returns-3
-returns-3 c =
-    let other = c .before .before .before .before in
-    let holds = other .before .before .before in
-    let counted = holds .before .before .before in
-    let added = counted .before .before .before .before in
-    let by = added .before .before in
-    let all = by .before .before in
+enum-told-2 : tie.Need-enum-told-2
+enum-told-2 c = search needs
+
+-- with the sums that have a new label of the second set, whatever they answer
+both : (c : tie.After-add-sums2) →
+    let a = c .before .before .before .before .before .before .before .before .before .before .before .before .before .before .before .before
+    .before .before .before .before .before .before .before .before .before .args in
+    let news : ℕ → List ℕ = labelsOf (a .news .now) (held (a .log .now)) in
+    let sets : ℕ → List ℕ = labelsOf (a .sets .now) (held (a .work .now)) in
+    GrownAt (atStart (a .len)) (λ room. sumsNew room (news (a .t)) (sets (a .t)) (news (a .u)) (sets (a .u))) (held (a .out .now))
+    (held (c .add-sums2 .last .1 .1 .0)) (c .add-sums2 .result)
+both c =
+    let other = c .before .before in
+    let counted = other .before .before .before in
+    let holds = counted .before .before .before in
+    let added = holds .before .before .before .before in
+    let all = added .before .before .before .before in
     let new = all .before .before in
     let lengths = rw (
       counted .before .labels-in .ensures,
@@ -104,15 +124,26 @@ returns-3 c =
       new .before .part-at .ensures,
       all .labels-of2 .ensures,
       all .before .part-at2 .ensures,
-    ) at (holds .before .before .if1 .left) in
+    ) at (other .before .before .if1 .left) in
     let a = new .before .before .before .before .before .before .before .args in
     let news : ℕ → List ℕ = labelsOf (a .news .now) (held (a .log .now)) in
     let sets : ℕ → List ℕ = labelsOf (a .sets .now) (held (a .work .now)) in
     sums-last (news (a .t)) (sets (a .t)) (news (a .u)) (sets (a .u)) (a .len) (held (a .out .now)) _ lengths
-    (rw (holds .first .given .1, new .labels-of .ensures, new .before .part-at .ensures, by .labels-of3 .ensures, by .before .part-at3 .ensures) at
-    (added .add-sums .ensures))
+    (rw (holds .first .given .1) at (first added))
     (rw (other .labels-of4 .ensures, other .before .part-at4 .ensures, all .labels-of2 .ensures, all .before .part-at2 .ensures) at
-    (c .before .before .add-sums2 .ensures))
+    (c .add-sums2 .ensures))
+
+same-length-3 : tie.Need-same-length-3
+same-length-3 c = search needs
+
+returns-3 : tie.Need-returns-3
+returns-3 c = rw (c .enum-told2 .given .1) at (both (c .before .before .before .before))
+
+same-length-4 : tie.Need-same-length-4
+same-length-4 c = search needs
+
+returns-4 : tie.Need-returns-4
+returns-4 c = rw (c .before .second .given .1) at (both (c .before .before .before .before .before))
 
 pub add-new-sums-spec : {M : Type 1} → statement M
 add-new-sums-spec =
@@ -125,16 +156,20 @@ add-new-sums-spec =
     part-at-requires-3
     labels-of-requires-3
     add-sums-requires
-    labels-in-requires
-    labels-in-requires-2
-    same-length
-    returns
     enum-known-first
     enum-told
+    same-length
+    returns
+    labels-in-requires
+    labels-in-requires-2
     same-length-2
     returns-2
     part-at-requires-4
     labels-of-requires-4
     add-sums-requires-2
+    enum-known-second
+    enum-told-2
     same-length-3
-    returns-3)
+    returns-3
+    same-length-4
+    returns-4)

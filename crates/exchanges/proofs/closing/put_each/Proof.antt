@@ -6,8 +6,8 @@ use native.Mathlib.Omega.{arith}
 use borrow.Author.Needs.{needs}
 use lib.ListN.{length}
 use Rattle.areas.specs.Rows.{held}
+use Rattle.areas.proofs.Held.{held-long}
 use Rattle.extents.proofs.RowWalks.{row-end}
-use Rattle.exchanges.proofs.Walking.{held-long}
 use Rattle.exchanges.proofs.LabelByLabel.{Closing, closing-start, closing-holds, closing-large}
 use Rattle.exchanges.proofs.closing.put_each.Statement.{statement}
 use Rattle.exchanges.proofs.closing.put_each.Tie as tie

@@ -8,7 +8,7 @@ use borrow.Author.Needs.{needs}
 use lib.ListN.{length}
 use Rattle.labels.specs.Packing.{code}
 use Rattle.areas.specs.Rows.{held}
-use Rattle.exchanges.proofs.Walking.{held-long}
+use Rattle.areas.proofs.Held.{held-long}
 use Rattle.exchanges.proofs.RuleByRule.{put-known, put-large, put-walking, put-stops, put-done}
 use Rattle.exchanges.proofs.RuleByRule.{Following, following-start, following-end, following-nothing, following-next, following-large, leads-less}
 use borrow.Fn.Kinds.{In}

@@ -13,11 +13,11 @@ use Rattle.images.proofs.imaging.add_offered.Statement.{statement}
 use Rattle.images.proofs.imaging.add_offered.Tie as tie
 
 abbrev Inv-loop : tie.InvT-loop
-Inv-loop way list labels out₀ len count₀ end map i₀ out count i =
+Inv-loop way list map labels out₀ len count₀ end i₀ out count i =
     RowWalk (λ room. offered room way (takenBy way list)) (held labels) len (held out₀) end (held out) count i × (length out ≡ length out₀)
 
 abbrev μ-loop : tie.MeasureT-loop
-μ-loop way list labels out₀ len count₀ end map i₀ out count i = end - i
+μ-loop way list map labels out₀ len count₀ end i₀ out count i = end - i
 
 reach-requires : tie.Need-reach-requires Inv-loop μ-loop
 reach-requires c κs = search needs
@@ -25,17 +25,14 @@ reach-requires c κs = search needs
 labels-in-requires : tie.Need-labels-in-requires Inv-loop μ-loop
 labels-in-requires c κs = search needs
 
-map-for-requires : tie.Need-map-for-requires Inv-loop μ-loop
-map-for-requires c κs = search needs
-
 loop-holds : tie.Need-loop-holds Inv-loop μ-loop
-loop-holds c = (row-start (c .before .before .reach .ensures) (c .before .labels-in .ensures), refl)
+loop-holds c = (row-start (c .before .reach .ensures) (c .labels-in .ensures), refl)
 
 read-label-requires : tie.Need-read-label-requires Inv-loop μ-loop
 read-label-requires c κs = search needs
 
 made-requires : tie.Need-made-requires Inv-loop μ-loop
-made-requires c κs = (c .before .before .before .map-for .ensures, lower-small _ (c .read-label .ensures))
+made-requires c κs = (c .before .before .before .before .before .before .before .before .before .pre, lower-small _ (c .read-label .ensures))
 
 take-requires : tie.Need-take-requires Inv-loop μ-loop
 take-requires c κs = row-length (c .before .before .before .before .loop .inv .0) .1
@@ -56,7 +53,7 @@ returns c =
     let taken = c .before .before .before .before in
     let read = taken .before .before .before in
     let looped = read .before .before in
-    let a = looped .before .before .before .before .before .before .before .before .args in
+    let a = looped .before .before .before .before .before .before .before .args in
     let list = takenBy (a .way) (a .list .now) in
     row-large (looped .loop .inv .0) (λ room. steady-offered room (a .way) list) (read .before .loop-test .taken) (read .read-label .ensures)
     (taken-made (a .way) list (read .read-label .result) (taken .before .before .made .ensures) (taken .take .ensures)) (c .enum-told .given .1)
@@ -72,7 +69,7 @@ loop-again c =
     let taken = c .before .before .before .before .before in
     let read = taken .before .before .before in
     let looped = read .before .before in
-    let a = looped .before .before .before .before .before .before .before .before .args in
+    let a = looped .before .before .before .before .before .before .before .args in
     let list = takenBy (a .way) (a .list .now) in (
       row-holds (looped .loop .inv .0) (λ room. steady-offered room (a .way) list) (read .before .loop-test .taken) (read .read-label .ensures)
           (taken-made (a .way) list (read .read-label .result) (taken .before .before .made .ensures) (taken .take .ensures)) (c .before .step .given .1),
@@ -88,5 +85,5 @@ returns-2 c = row-end (c .before .loop .inv .0) (c .loop-test .left)
 pub add-offered-spec : {M : Type 1} → statement M
 add-offered-spec =
     tie.close
-    (tie.spec Inv-loop μ-loop reach-requires labels-in-requires map-for-requires loop-holds read-label-requires made-requires take-requires enum-known-step
+    (tie.spec Inv-loop μ-loop reach-requires labels-in-requires loop-holds read-label-requires made-requires take-requires enum-known-step
     enum-told same-length returns add-i loop-less loop-again same-length-2 returns-2)

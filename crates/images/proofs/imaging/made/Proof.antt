@@ -63,7 +63,7 @@ returns-4 c = rw (c .before .enum-told3 .given .1) (ap Next (c .hide .ensures))
 
 returns-5 : tie.Need-returns-5
 returns-5 c =
-    let told = c .before in
+    let told = c .before .before in
     let f = told .before .before .before in
     let w = code (f .args .label) in
     rw (told .enum-told4 .given .1)

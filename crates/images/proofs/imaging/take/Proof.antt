@@ -1,7 +1,8 @@
 -- `images::imaging::take` meets its contract. Assumes nothing.
 use borrow.Author.Needs.{needs}
 use Rattle.areas.specs.Rows.{held}
-use Rattle.images.proofs.Images.{taken-nothing, taken-long, taken-next}
+use Rattle.extents.proofs.RowWalks.{enter-start}
+use Rattle.images.proofs.Images.{taken-nothing, taken-long}
 use Rattle.images.proofs.imaging.take.Statement.{statement}
 use Rattle.images.proofs.imaging.take.Tie as tie
 
@@ -37,7 +38,7 @@ returns-3 : tie.Need-returns-3
 returns-3 c =
     let entered = c .before .before in
     let told = entered .before .before .before .before in
-    rw (told .offer .given .1) (taken-next _ (entered .before .at-start .ensures) (entered .enter .ensures))
+    rw (told .offer .given .1) (enter-start _ (entered .before .at-start .ensures) (entered .enter .ensures))
 
 pub take-spec : {M : Type 1} → statement M
 take-spec =
