@@ -1,10 +1,10 @@
 -- The executable answer meets the declarative statement, and any two answers that meet it are equal.
 -- Assumes nothing.
 use mathlib.Core.Path.{◌≡◌, refl, sym, ap, ap₂, subst, ◌∙◌}
-use mathlib.Core.Logic.{inl, inr, ◌↔◌}
+use mathlib.Core.Logic.{inl, inr, ◌↔◌, ◌≢◌}
 use mathlib.Core.Bool.{Bool, true, false}
 use mathlib.Core.List.{List, [], ◌∷◌, ◌++◌}
-use Prim.Native.Nat.{ℕ, zero, suc, ◌+◌, ◌≤◌, ◌<◌, compare, Ordering}
+use Prim.Native.Nat.{ℕ, zero, suc, pred, ◌+◌, ◌≤◌, ◌<◌, compare, Ordering}
 use native.Mathlib.Nat.{suc-add, add-suc}
 use native.Mathlib.Omega.{arith}
 use native.Mathlib.Decide.{dec_lt}
@@ -13,7 +13,7 @@ use lib.ListN.{length}
 use Rattle.meaning.specs.Labels.{Label, size, order}
 use Rattle.meaning.specs.Sets.{◌∈◌, at, spread, kept, keep}
 use Rattle.meaning.specs.Descriptions.{Order, all, only, Description}
-use Rattle.meaning.specs.Rounds.{body_sets, round_sets, Rounds}
+use Rattle.meaning.specs.Rounds.{body_sets, round_sets, equation_sets, Rounds}
 use Rattle.meaning.specs.Limits.{some_over, over, PassesLimit}
 use Rattle.meaning.specs.Answers.{Allows, Outcome, too_large, listed, Lists, Answers, admits, cut, same_labels, same_sets, answer_from, answer, Verdict}
 use Rattle.meaning.proofs.Tests.{Says, compare-says, and_left, and_right, and_both}
@@ -124,7 +124,7 @@ stable→lists d o k earlier e fits =
       counted = record {
         at_least = omega arith;
         stable = e;
-        smallest = λ j. elim j [ zero ↦ λ p q. absurd (omega arith) | suc i ↦ λ p q s. earlier i (omega arith) s ];
+        smallest = by_case;
       };
       rising = sorted-rising (spread (keep (admits o)) set)
           (filter-sorted NumberLess (admits o) set
@@ -136,6 +136,10 @@ stable→lists d o k earlier e fits =
         λ h. (in_cut o set a).1 ((union a).0 h.0, h.1),
       );
     }
+  where
+    by_case : (j : ℕ) → 1 ≤ j → j < suc k → equation_sets d j ≢ equation_sets d (pred j)
+    by_case zero p q = absurd (omega arith)
+    by_case (suc i) p q = λ s. earlier i (omega arith) s
 
 -- One more round: a limit is passed, or the equation sets stay, or neither.
 abbrev decide : Bool → Bool → Outcome → Outcome → Outcome

@@ -47,6 +47,7 @@ module _ (L : Label → Label → Type 0) (irrefl : (a : Label) → L a a → �
 -- Strictly ascending numbers are sorted by number.
 rising-above : (a : Label) (s : List Label) → Above (number a) (map number s) → Rising (map number s) → (b : Label) → b ∈ s → number a < number b
 rising-above a (c ∷ s) h r b (inl e) = subst (λ (x : Label). number a < number x) (sym e) h
+rising-above a [] h r b x3 = elim x3 [ ]
 rising-above a (c ∷ s) h r b (inr m) = lt_trans h (rising-above c s r.0 r.1 b m)
 
 abbrev pub NumberLess : Label → Label → Type 0
@@ -76,6 +77,7 @@ record Taken (a : Label) (t : List Label) : Type 0 where
 
 take_out : (a : Label) (t : List Label) → a ∈ t → Taken a t
 take_out a (b ∷ t) (inl e) = record { rest = t; shorter = refl; others = λ c. elim [ inl k ↦ inl (k ∙ sym e) | inr m ↦ inr m ] }
+take_out a [] x' = elim x' [ ]
 take_out a (b ∷ t) (inr m) = keep-head (take_out a t m)
   where
     keep-head : Taken a t → Taken a (b ∷ t)

@@ -52,6 +52,7 @@ kind→test (an-operator k t) = operator→test k
 tests→kinds : (ts : List Term) → T (are_exact_terms ts) → (t : Term) → t ∈ ts → ExactTerm t
 unfolding are_exact_terms
 tests→kinds (x ∷ ts) h t (inl e) = subst ExactTerm (sym e) (test→kind x (and_left (is_exact_term x) (are_exact_terms ts) h))
+tests→kinds [] h t x'' = elim x'' [ ]
 tests→kinds (x ∷ ts) h t (inr m) = tests→kinds ts (and_right (is_exact_term x) (are_exact_terms ts) h) t m
 
 kinds→tests : (ts : List Term) → ((t : Term) → t ∈ ts → ExactTerm t) → T (are_exact_terms ts)

@@ -2,7 +2,7 @@
 -- Assumes nothing.
 use mathlib.Core.Path.{◌≡◌, sym, ap₂, subst}
 use mathlib.Core.Logic.{inl, inr}
-use mathlib.Core.List.{List, ◌∷◌}
+use mathlib.Core.List.{List, [], ◌∷◌}
 use Prim.Native.Nat.{ℕ}
 use lib.Dec.{T, eqb, eqb→eq}
 use Rattle.meaning.specs.Labels.{Label}
@@ -41,6 +41,7 @@ holds→ c t =
 each_holds : (cs : List Case) → T (all_hold cs) → (c : Case) → c ∈ cs → Holds c
 unfolding all_hold
 each_holds (b ∷ cs) t c (inl e) = subst Holds (sym e) (holds→ b (and_left (holds b) (all_hold cs) t))
+each_holds [] t c x'' = elim x'' [ ]
 each_holds (b ∷ cs) t c (inr m) = each_holds cs (and_right (holds b) (all_hold cs) t) c m
 
 pub cases : (c : Case) → c ∈ table → Holds c

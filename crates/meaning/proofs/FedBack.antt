@@ -31,6 +31,7 @@ in-applied names (q ∷ rs) a r (inl e) t =
     (inl (in-spread (turn (replaced names q)) (keep (inside q.left) a) a (replaced names r a)
     ((in-keep (inside q.left) a a).1 (refl, subst (λ (x : Rule). T (inside x.left a)) e t))
     ((in-turn (replaced names q) a (replaced names r a)).1 (ap (λ (x : Rule). replaced names x a) e))))
+in-applied names [] a r x'' t = elim x'' [ ]
 in-applied names (q ∷ rs) a r (inr m) t =
     (in-append (replaced names r a) (spread (turn (replaced names q)) (keep (inside q.left) a)) (applied names rs a)).1
     (inr (in-applied names rs a r m t))

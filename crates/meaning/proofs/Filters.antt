@@ -50,6 +50,7 @@ allowed-common ls ms ks c a = (
 pub clear→zero : (ns : List ℕ) (a : Label) → T (clear ns a) → (n : ℕ) → n ∈ ns → count a n ≡ 0
 unfolding clear
 clear→zero (m ∷ ns) a t n (inl e) = rw e (eqb→eq (count a m) 0 (and_left (eqb (count a m) 0) _ t))
+clear→zero [] a t n x'' = elim x'' [ ]
 clear→zero (m ∷ ns) a t n (inr k) = clear→zero ns a (and_right (eqb (count a m) 0) _ t) n k
 
 pub zero→clear : (ns : List ℕ) (a : Label) → ((n : ℕ) → n ∈ ns → count a n ≡ 0) → T (clear ns a)

@@ -26,6 +26,7 @@ pub record Long (s : List Label) : Type 0 where
 
 pub some_long→long : (s : List Label) → T (some_long s) → Long s
 unfolding some_long
+some_long→long [] t = elim t [ ]
 some_long→long (a ∷ s) t = pick (or_cases (ltb 31 (size a)) (some_long s) t) (some_long→long s)
   where
     pick : T (ltb 31 (size a)) ⊎ T (some_long s) → (T (some_long s) → Long s) → Long (a ∷ s)
@@ -35,6 +36,7 @@ some_long→long (a ∷ s) t = pick (or_cases (ltb 31 (size a)) (some_long s) t)
 pub long→some_long : (s : List Label) (a : Label) → a ∈ s → 31 < size a → T (some_long s)
 unfolding some_long
 long→some_long (b ∷ s) a (inl e) h = or_left (ltb 31 (size b)) (some_long s) (lt→ltb 31 (size b) (subst (λ (x : Label). 31 < size x) e h))
+long→some_long [] a x'' h = elim x'' [ ]
 long→some_long (b ∷ s) a (inr m) h = or_right (ltb 31 (size b)) (some_long s) (long→some_long s a m h)
 
 -- the three tests of one set and of those after it

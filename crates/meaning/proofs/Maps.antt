@@ -38,6 +38,7 @@ count-zeroed (x ∷ a) (suc n) = count-zeroed a n
 
 count-listed : (ns : List ℕ) (a : Label) (n : ℕ) → n ∈ ns → count (without ns a) n ≡ 0
 unfolding without
+count-listed [] a n k = elim k [ ]
 count-listed (m ∷ ns) a n k =
     elim (ℕ_discrete n m) [
       | yes e ↦ rw e (count-zeroed (without ns a) m)

@@ -29,6 +29,7 @@ each_in P (a ∷ s) h = (h a (inl refl), each_in P s (λ b m. h b (inr m)))
 
 pub each_of : {A : Type 0} (P : A → Type 0) (s : List A) → Each P s → (a : A) → a ∈ s → P a
 each_of P (b ∷ s) h a (inl e) = subst P (sym e) h.0
+each_of {A = A} P [] h a x'' = elim x'' [ ]
 each_of P (b ∷ s) h a (inr m) = each_of P s h.1 a m
 
 pub in-at : {A : Type 0} (s : List A) (n : ℕ) (x : A) → n < length s → get_or s n x ∈ s
@@ -43,10 +44,12 @@ pub record Image {A B : Type 0} (f : A → B) (s : List A) (b : B) : Type 0 wher
 
 pub in-map→ : {A B : Type 0} (f : A → B) (s : List A) (b : B) → b ∈ map f s → Image f s b
 in-map→ f (a ∷ s) b (inl e) = record { source = a; there = inl refl; becomes = e }
+in-map→ {A = A} {B = B} f [] b x' = elim x' [ ]
 in-map→ f (a ∷ s) b (inr m) = let x = in-map→ f s b m in record { source = x.source; there = inr x.there; becomes = x.becomes }
 
 pub in_map : {A B : Type 0} (f : A → B) (s : List A) (a : A) → a ∈ s → f a ∈ map f s
 in_map f (b ∷ s) a (inl e) = inl (ap f e)
+in_map {A = A} {B = B} f [] a x' = elim x' [ ]
 in_map f (b ∷ s) a (inr m) = inr (in_map f s a m)
 
 -- What some member of a list gives through f.
@@ -57,6 +60,7 @@ pub record Given {A B : Type 0} (f : A → List B) (s : List A) (b : B) : Type 0
 
 pub in-flat_map→ : {A B : Type 0} (f : A → List B) (s : List A) (b : B) → b ∈ flat_map f s → Given f s b
 unfolding flat_map
+in-flat_map→ {A = A} {B = B} f [] b m = elim m [ ]
 in-flat_map→ f (a ∷ s) b m = pick ((in-append b (f a) (flat_map f s)).0 m) (in-flat_map→ f s b)
   where
     pick : (b ∈ f a) ⊎ (b ∈ flat_map f s) → (b ∈ flat_map f s → Given f s b) → Given f (a ∷ s) b
@@ -66,6 +70,7 @@ in-flat_map→ f (a ∷ s) b m = pick ((in-append b (f a) (flat_map f s)).0 m) (
 pub in-flat_map : {A B : Type 0} (f : A → List B) (s : List A) (a : A) (b : B) → a ∈ s → b ∈ f a → b ∈ flat_map f s
 unfolding flat_map
 in-flat_map {A = A} f (c ∷ s) a b (inl e) m = (in-append b (f c) (flat_map f s)).1 (inl (subst (λ (x : A). b ∈ f x) e m))
+in-flat_map {A = A} {B = B} f [] a b x'' m = elim x'' [ ]
 in-flat_map f (c ∷ s) a b (inr k) m = (in-append b (f c) (flat_map f s)).1 (inr (in-flat_map f s a b k m))
 
 -- A label that some label with property P gives through f, and the sum of a label with P and one with Q.
@@ -83,6 +88,7 @@ pub record Sum (P Q : Label → Type 0) (c : Label) : Type 0 where
 
 pub in-spread→ : (f : Label → List Label) (s : List Label) (b : Label) → b ∈ spread f s → Through f (λ a. a ∈ s) b
 unfolding spread
+in-spread→ f [] b m = elim m [ ]
 in-spread→ f (a ∷ s) b m = pick ((in-append b (f a) (spread f s)).0 m) (in-spread→ f s b)
   where
     pick : (b ∈ f a) ⊎ (b ∈ spread f s) → (b ∈ spread f s → Through f (λ c. c ∈ s) b) → Through f (λ c. c ∈ (a ∷ s)) b
@@ -92,6 +98,7 @@ in-spread→ f (a ∷ s) b m = pick ((in-append b (f a) (spread f s)).0 m) (in-s
 pub in-spread : (f : Label → List Label) (s : List Label) (a b : Label) → a ∈ s → b ∈ f a → b ∈ spread f s
 unfolding spread
 in-spread f (c ∷ s) a b (inl e) m = (in-append b (f c) (spread f s)).1 (inl (subst (λ (x : Label). b ∈ f x) e m))
+in-spread f [] a b x'' m = elim x'' [ ]
 in-spread f (c ∷ s) a b (inr k) m = (in-append b (f c) (spread f s)).1 (inr (in-spread f s a b k m))
 
 pub in-product→ : (s t : List Label) (c : Label) → c ∈ product s t → Sum (λ a. a ∈ s) (λ b. b ∈ t) c
@@ -137,6 +144,7 @@ member→in a [] t = t
 pub in→member : (a : Label) (s : List Label) → a ∈ s → T (member a s)
 unfolding member
 in→member a (b ∷ s) (inl e) = or_left (compare_is_eq (order a b)) (member a s) (eq→same a b e)
+in→member a [] x' = elim x' [ ]
 in→member a (b ∷ s) (inr m) = or_right (compare_is_eq (order a b)) (member a s) (in→member a s m)
 
 -- Insertion adds just the one label, and keeps a list in order.

@@ -20,6 +20,7 @@ use Rattle.meaning.proofs.Answers.{filter-sorted}
 
 -- A list with an entry is not empty.
 some-entry : {A : Type 0} (s : List A) (a : A) → a ∈ s → 1 ≤ length s
+some-entry {A = A} [] a m = elim m [ ]
 some-entry (b ∷ s) a m = suc-le-suc zero-le
 
 first_entry : (s t : List ℕ) → 1 ≤ length s → ((n : ℕ) → n ∈ s → n ∈ t) → 1 ≤ length t

@@ -59,11 +59,15 @@ module _ (d d' : Description) (e : names d ≡ names d') (fewer : (t : ℕ) → 
 
 wider-at : (ts us : List Term) → WiderTerms ts us → (n : ℕ) → WiderTerm (get_or ts n delta) (get_or us n delta)
 wider-at [] [] h n = same delta
+wider-at [] (u ∷ us) h n = elim h [ ]
+wider-at (t ∷ ts) [] h n = elim h [ ]
 wider-at (t ∷ ts) (u ∷ us) h zero = h.0
 wider-at (t ∷ ts) (u ∷ us) h (suc n) = wider-at ts us h.1 n
 
 wider-length : (ts us : List Term) → WiderTerms ts us → length ts ≡ length us
 wider-length [] [] h = refl
+wider-length [] (u ∷ us) h = elim h [ ]
+wider-length (t ∷ ts) [] h = elim h [ ]
 wider-length (t ∷ ts) (u ∷ us) h = ap suc (wider-length ts us h.1)
 
 -- A delta that becomes another line makes fewer multi-actions, and never more.
