@@ -1,4 +1,6 @@
 // A term in a round: where something is new in what its set is made of, its new labels are logged and go into its set.
+#![tactic(auto)]
+
 mod keeping;
 
 ghost use Rattle.std.specs.Prelude.{◌≡◌};

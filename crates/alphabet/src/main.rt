@@ -1,4 +1,6 @@
 // Reads a description from standard input and writes its alphabet, or the refusal, to standard output.
+#![tactic(auto)]
+
 use libc::{STDIN_FILENO, STDOUT_FILENO};
 use rimecutter::alphabet_text;
 

@@ -1,4 +1,6 @@
 // Lent areas of words: a word read wherever a caller asks, and words set to 0. How labels stand in an area is in `rows`.
+#![tactic(auto)]
+
 pub mod rows;
 
 ghost use Rattle.std.specs.Prelude.{◌≡◌, get_or};

@@ -1,6 +1,8 @@
 // What is new in the set of a term: what the new labels of its operands give, before those are left out that its set has already.
 // Sets stand in the work area, and new labels in the log; where, is kept in a row of parts for each. In the row of new labels the
 // equations come after the terms: what is new for a ref is what was new in the body in the round before.
+#![tactic(auto)]
+
 pub mod arriving;
 pub mod looking;
 

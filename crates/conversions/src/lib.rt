@@ -1,5 +1,7 @@
 // Numbers of labels for hosts that stored them while a label took one word: from one word to two, which loses nothing, and back, which is
 // refused where an upper word is in use. Of a lower word every bit is kept, whatever it stands for.
+#![tactic(auto)]
+
 ghost use Rattle.std.specs.Prelude.{◌≡◌, [], ◌∷◌, ◌+◌, ◌*◌, ◌/◌, ◌≤◌, length};
 ghost use Rattle.areas.specs.Areas.{put};
 ghost use Rattle.conversions.specs.Conversions.{widened, lowers, in_use, narrow_of, Converted, widen_answer, narrow_answer};
@@ -14,7 +16,7 @@ pub const TOO_SHORT: usize = 1;
 pub const UPPER_IN_USE: usize = 11;
 
 // A label's number in one word, or that its upper word is in use.
-#[derive(Drop)]
+#[derive(Clone, Copy)]
 pub enum OneWord {
     InUse,
     Of(u64),

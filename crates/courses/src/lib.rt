@@ -1,4 +1,6 @@
 // One round: the terms one after the other, and then what is new in the bodies of equations is handed on to the refs.
+#![tactic(auto)]
+
 ghost use Rattle.areas.specs.Rows.{held};
 ghost use Rattle.courses.specs.Courses.{Coursed, HandedOn};
 

@@ -1,4 +1,6 @@
 // The root's set, cut to the order.
+#![tactic(auto)]
+
 ghost use Rattle.std.specs.Prelude.{◌≡◌, ◌/◌, length};
 ghost use Rattle.meaning.specs.Labels.{in_words};
 ghost use Rattle.areas.specs.Areas.{put};

@@ -1,5 +1,7 @@
 // Where rows of labels stand in lent words: a row of numbers keeps two for each, where it begins and where it ends. Places are
 // counted in labels.
+#![tactic(auto)]
+
 ghost use Rattle.std.specs.Prelude.{◌≡◌, get_or, set};
 ghost use Rattle.areas.specs.Rows.{held};
 ghost use Rattle.extents.specs.Extents.{part_at, with_part, words_in, is_empty, at_start};

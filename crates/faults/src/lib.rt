@@ -2,6 +2,8 @@
 // first; and the entries of a list are counted with theirs.
 //
 // A place is told by how many bytes of the text are left there, so that it is the same in every rest of one text.
+#![tactic(auto)]
+
 ghost use Rattle.std.specs.Prelude.{◌≡◌, min, ◌-◌, ltb, length};
 ghost use Rattle.meaning.specs.Answers.{fault_number, name, amount};
 ghost use Rattle.grammar.specs.Faults.{unless, worse};
@@ -15,7 +17,7 @@ use labels::packing::{below, label_of, tau};
 
 // What is wrong with a line: its form, a name in it, a number that leads nowhere, or how many there are of something or in which order
 // they stand.
-#[derive(Drop)]
+#[derive(Clone, Copy)]
 pub enum Fault {
     Form,
     Name,
@@ -36,7 +38,7 @@ pub fn number_of(f: Fault) -> usize
 }
 
 // A fault with its place, or none.
-#[derive(Drop)]
+#[derive(Clone, Copy)]
 pub enum Found {
     Fine,
     Faulty(Fault, usize),
@@ -87,7 +89,7 @@ pub fn name_fault(n: usize, names: usize, from: usize) -> Found
 }
 
 // A line's fault and its column, the byte where it begins, counted from 1.
-#[derive(Drop)]
+#[derive(Clone, Copy)]
 pub struct Flaw {
     pub fault: Fault,
     pub column: usize,
@@ -130,7 +132,7 @@ pub fn first_flaw() -> Flaw
 
 // What the entries of a list or the parts of a label come to: their faults joined, the least number that the next one may
 // have, and their weights added up, as far as the limit lets them.
-#[derive(Drop)]
+#[derive(Clone, Copy)]
 pub struct Tally {
     pub fault: Found,
     pub floor: Label,

@@ -1,4 +1,6 @@
 // The lines after the terms, to the text's end: the bodies and the root, which hold a number each, and the order.
+#![tactic(auto)]
+
 ghost use Rattle.std.specs.Prelude.{◌≤◌, length};
 ghost use Rattle.feet.specs.Feet.{BodiesRead, FootRead};
 ghost use Rattle.feet.specs.Ends.{EndRoom, EndGiven};

@@ -49,7 +49,7 @@ const KINDS: [u64; 17] = [
 ];
 
 // The kind whose word stands there, and the place after it; or the farthest place where a word was stuck.
-#[derive(Drop)]
+#[derive(Clone, Copy)]
 pub enum KindStep {
     To(usize, usize),
     Stuck(usize),

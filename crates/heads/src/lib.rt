@@ -1,4 +1,6 @@
 // The lines before the terms: the names, and how many equations and terms there are.
+#![tactic(auto)]
+
 ghost use Rattle.std.specs.Prelude.{◌≤◌, length};
 ghost use Rattle.heads.specs.Heads.{NamesRead, CountsRead, HeadGiven};
 

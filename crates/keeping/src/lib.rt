@@ -1,4 +1,6 @@
 // A set kept alone in the work area: at its start, with 0 behind it.
+#![tactic(auto)]
+
 ghost use Rattle.std.specs.Prelude.{◌≡◌, ◌+◌, ◌≤◌, length, take, drop};
 ghost use Rattle.meaning.specs.Labels.{in_words};
 ghost use Rattle.areas.specs.Areas.{put};

@@ -1,6 +1,8 @@
 // The lines that hold one thing after their key: a number or a name.
 //
 // A line is read from the start of what is lent, a text with other lines behind it; the LF that ends it belongs to its form.
+#![tactic(auto)]
+
 pub mod names;
 pub mod numbers;
 
@@ -14,7 +16,7 @@ use words::{Step, stuck_at};
 
 // How far reading has come: past some lines, with the number or the packed name that a single one holds, and how many bytes they
 // took; or the fault of a line with its column, and the line's number.
-#[derive(Drop)]
+#[derive(Clone, Copy)]
 pub enum Progress {
     To(u64, usize),
     Bad(Flaw, usize),

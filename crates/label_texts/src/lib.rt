@@ -1,5 +1,7 @@
 // Labels, written into an area that is lent for them, whole or not at all: `name:count` for each name that occurs, joined by `.`, and
 // `tau` for the empty bag.
+#![tactic(auto)]
+
 ghost use Rattle.std.specs.Prelude.{◌≡◌, ◌/◌, ◌≤◌, leb, length};
 ghost use Rattle.labels.specs.Packing.{code, packed};
 ghost use Rattle.table.specs.Decoded.{name_of};

@@ -2,6 +2,8 @@
 // so that the label's number is the lower word and the upper one 60 bits up. The four highest bits of a lower word are no name's and are
 // passed over. What is made of bags of actions is in `bags`; the empty label and the order of labels are in `packing`. How labels stand
 // in lent words is said in the crate `areas`. Every function answers for every two words, also such as pack no label.
+#![tactic(auto)]
+
 pub mod bags;
 pub mod packing;
 
@@ -17,14 +19,14 @@ pub const WORD_NAMES: u64 = 12;
 
 pub const WORD_END: u64 = 1152921504606846976;
 
-#[derive(Drop)]
+#[derive(Clone, Copy)]
 pub struct Label {
     pub lower: u64,
     pub upper: u64,
 }
 
 // The sum of two labels, or that it has over 31 actions.
-#[derive(Drop)]
+#[derive(Clone, Copy)]
 pub enum Sum {
     Over,
     Of(Label),

@@ -1,6 +1,8 @@
 // Where the sets of terms stand while they grow. They stand in one half of the work area in the order of the terms, with room
 // behind each, and stay where they are until one has no room behind it. Then all are laid anew in the other half, each with the
 // same room behind it. Where each stands is kept in a row of parts; the part after the last begins where the half ends.
+#![tactic(auto)]
+
 mod laying;
 mod weaving;
 

@@ -2,6 +2,8 @@
 // a store.
 //
 // As in `words`, what is lent is the rest of the text, and an answer says how many bytes it took.
+#![tactic(auto)]
+
 mod dotted;
 mod names;
 mod sides;
@@ -27,7 +29,7 @@ use words::literals::{is_rest, sign_at};
 
 // What an entry of a list or a part of a label says: its fault, the number by which it is ordered, as that of a label, since the number of a
 // label takes two words; and a second number.
-#[derive(Drop)]
+#[derive(Clone, Copy)]
 pub struct Said {
     pub fault: Found,
     pub first: Label,
@@ -35,14 +37,14 @@ pub struct Said {
 }
 
 // An entry that was read and how many bytes it took; or after how many bytes the reading was stuck.
-#[derive(Drop)]
+#[derive(Clone, Copy)]
 pub enum SaidStep {
     To(Said, usize),
     Stuck(usize),
 }
 
 // What a list is of.
-#[derive(Drop)]
+#[derive(Clone, Copy)]
 pub enum ListKind {
     Names,
     Pairs,

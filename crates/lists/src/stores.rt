@@ -18,7 +18,7 @@ fn put(store: &mut [u64], at: usize, word: u64)
 }
 
 // How many words an entry has, what it weighs and how much a list may weigh: only rules and labels have a maximum.
-#[derive(Drop)]
+#[derive(Clone, Copy)]
 pub struct Shape {
     pub size: usize,
     pub weight: u64,

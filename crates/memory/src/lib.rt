@@ -1,6 +1,8 @@
 // States whose labels a set has already: of another state with the same label, and no more left of what rules take, nothing new
 // comes. The memory is a lent row of labels, three for a state: its label, what is left of it, and, as a label's number, the place
 // before which rules were applied. It forgets a state when another takes its place.
+#![tactic(auto)]
+
 ghost use Rattle.std.specs.Prelude.{◌≡◌, ◌+◌, ◌*◌, ◌<◌};
 ghost use Rattle.areas.specs.Rows.{held};
 ghost use Rattle.labels.specs.Packing.{code};

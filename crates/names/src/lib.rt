@@ -1,5 +1,7 @@
 // What is made of the names of a packed label: how often one occurs, lists of names hidden or blocked, renaming. Every function
 // answers for every two words, also such as pack no label.
+#![tactic(auto)]
+
 ghost use Rattle.std.specs.Prelude.{◌≡◌, [], ◌∷◌, ◌+◌, ◌≤◌, ◌%◌, ◌^◌, get_or};
 ghost use Rattle.meaning.specs.Labels.{number, count, label_of, clear, without, renamed, renamed_from};
 ghost use Rattle.labels.specs.Packing.{code, packed};

@@ -1,4 +1,6 @@
 // Numbers in decimal, and lines of a key and a number, written into an area that is lent for them: whole, or not at all.
+#![tactic(auto)]
+
 pub mod lines;
 
 ghost use Rattle.std.specs.Prelude.{◌≡◌, ◌≤◌, leb, length};

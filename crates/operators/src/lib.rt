@@ -1,4 +1,6 @@
 // Labels through an operator of a description, with its list from the terms' lists, into a set at the start of words of its own.
+#![tactic(auto)]
+
 mod exchanging;
 
 ghost use Rattle.std.specs.Prelude.{◌≡◌, ◌≤◌};

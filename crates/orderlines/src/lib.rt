@@ -1,4 +1,6 @@
 // The order's line, which is the last of its text. Its labels go to words of their own.
+#![tactic(auto)]
+
 ghost use Rattle.std.specs.Prelude.{◌≤◌, map, ◌≡◌, length, drop};
 ghost use Rattle.table.specs.Decoded.{name_of};
 ghost use Rattle.grammar.specs.Forms.{order_line};
@@ -18,14 +20,14 @@ use words::{Step, stuck_at};
 const LARGEST: usize = 0xffffffffffffffff;
 
 // The order is all where a line is bad.
-#[derive(Drop)]
+#[derive(Clone, Copy)]
 pub struct Ordered {
     pub progress: Progress,
     pub order: Order,
 }
 
 // What a line says: the order, the fault of its labels and how many bytes the line took; or after how many bytes the line was stuck.
-#[derive(Drop)]
+#[derive(Clone, Copy)]
 enum OrderStep {
     To(Order, Found, usize),
     Stuck(usize),

@@ -2,6 +2,8 @@
 //
 // Whether it fits is worked out first, so that a text that does not fit leaves the area as it was; then each line is written
 // into the rest of the area behind the lines before it.
+#![tactic(auto)]
+
 mod lines;
 
 ghost use Rattle.std.specs.Prelude.{◌≡◌, map, ◌≤◌, leb, length};

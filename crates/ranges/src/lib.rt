@@ -1,4 +1,6 @@
 // The numbers of a term: whether they are in range, and where each that is not begins.
+#![tactic(auto)]
+
 ghost use Rattle.std.specs.Prelude.{◌≡◌, ◌-◌, length};
 ghost use Rattle.table.specs.Terms.{bare_term};
 ghost use Rattle.grammar.specs.Faults.{number_fault};
@@ -9,14 +11,14 @@ use faults::{Fault, Found, found_unless, worse_of};
 use slots::Term;
 
 // What the numbers of a term are held to: references to the number of equations, operands to the term's own.
-#[derive(Drop)]
+#[derive(Clone, Copy)]
 pub struct Bounds {
     pub equations: usize,
     pub term: usize,
 }
 
 // Where the numbers of a term begin, the first twice where there is one.
-#[derive(Drop)]
+#[derive(Clone, Copy)]
 pub struct Places {
     pub first: usize,
     pub second: usize,

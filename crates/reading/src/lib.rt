@@ -1,4 +1,6 @@
 // Bytes to a table and its lists, or the refusal with its number, line and column.
+#![tactic(auto)]
+
 mod whole;
 
 ghost use Rattle.reading.specs.Stored.{too_much, Stored};
@@ -14,7 +16,7 @@ pub const TEXT_BYTES: usize = 8192;
 
 // Read; the lists have no room for so many terms; the text is too long, or the table or the order's words are too few; or the first bad
 // line, by its fault with its column, and its number.
-#[derive(Drop)]
+#[derive(Clone, Copy)]
 pub enum Answer {
     Fine,
     NoRoom,
@@ -23,7 +25,7 @@ pub enum Answer {
 }
 
 // What is read of a text besides its table: its order, whose labels are in words of their own. It is all after a refusal.
-#[derive(Drop)]
+#[derive(Clone, Copy)]
 pub struct Read {
     pub answer: Answer,
     pub order: Order,

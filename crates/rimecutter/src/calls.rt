@@ -12,7 +12,7 @@ use rounds::{ANSWER_WORDS, WORK_WORDS};
 use table::{LIST_WORDS, LISTS_WORDS, NAMES, TABLE_WORDS, names_by_value};
 
 // What is answered, with the names of the description, packed in words.
-#[derive(Drop)]
+#[derive(Clone, Copy)]
 pub struct Response {
     pub answer: Answer,
     pub names: [u64; NAMES],

@@ -1,4 +1,6 @@
 // The alphabet of a description: one call over its bytes and two lent areas, and the text of its answer.
+#![tactic(auto)]
+
 mod calls;
 
 ghost use Rattle.std.specs.Prelude.{length};
@@ -16,7 +18,7 @@ use rounds::ANSWER_WORDS;
 use rounds::few::FEW_WORDS;
 
 // Listed with the rounds and the number of labels; or refused: with 1; with the fault of a line, its column and the line's number; or with 7.
-#[derive(Drop)]
+#[derive(Clone, Copy)]
 pub enum Answer {
     Listed(usize, usize),
     TooLong,

@@ -1,4 +1,6 @@
 // The calls for C programs, which include/rimecutter.h declares.
+#![tactic(auto)]
+
 ghost use Rattle.std.specs.Prelude.{[], ◌∷◌};
 ghost use Rattle.grammar.specs.Areas.{Printed};
 ghost use Rattle.conversions.specs.Conversions.{widened, lowers, Converted, widen_answer, narrow_answer};

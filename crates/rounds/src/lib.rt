@@ -1,4 +1,6 @@
 // The alphabet of a table: the root's set, worked out round by round in a lent work area, cut to the order.
+#![tactic(auto)]
+
 pub mod few;
 mod listing;
 pub mod own;
@@ -20,7 +22,7 @@ pub const WORK_WORDS: usize = stability::WORK_WORDS;
 pub const ANSWER_WORDS: usize = 2048;
 
 // A limit is passed; or the round count, and how many labels are listed.
-#[derive(Drop)]
+#[derive(Clone, Copy)]
 pub enum Answer {
     TooLarge,
     Listed(usize, usize),

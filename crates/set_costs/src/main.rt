@@ -1,5 +1,7 @@
 // Runs the two sets whose costs docs/COSTS.md bounds, and writes how many labels they have: the product
 // of 164 by 164 labels (sixteen dies out of eight and eight), and a label of 31 actions under 8 rules that overlap.
+#![tactic(auto)]
+
 use extents::{at_start, labels_of};
 use images::Way;
 use images::imaging::add_image;

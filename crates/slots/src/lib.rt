@@ -2,17 +2,19 @@
 //
 // A term is an enum; the five operators with a list are an inner enum, each with the place of its list among the lists that stand
 // beside the table.
+#![tactic(auto)]
+
 pub mod packing;
 
 // Where a list stands: it is the list of the term with this number, and has so many entries.
-#[derive(Drop)]
+#[derive(Clone, Copy)]
 pub struct Place {
     pub at: usize,
     pub entries: usize,
 }
 
 // The operators with a list, each with the place of its list.
-#[derive(Drop)]
+#[derive(Clone, Copy)]
 pub enum Operator {
     Block(Place),
     Hide(Place),
@@ -22,7 +24,7 @@ pub enum Operator {
 }
 
 // A term of each kind: the number of a name or an equation, or those of its operands, which are earlier terms.
-#[derive(Drop)]
+#[derive(Clone, Copy)]
 pub enum Term {
     Delta,
     Tau,

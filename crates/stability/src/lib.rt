@@ -1,5 +1,7 @@
 // The rounds of a description: the sets of all terms grow in lent areas, round after round, until nothing is new in the bodies of
 // equations or a limit is passed.
+#![tactic(auto)]
+
 pub mod running;
 mod settling;
 mod stages;
@@ -27,14 +29,14 @@ pub const TOTAL_LABELS: usize = 2048;
 const TOTAL_WORDS: usize = 4096;
 
 // What the rounds come to: a limit is passed; or the number of the stable round.
-#[derive(Drop)]
+#[derive(Clone, Copy)]
 pub enum Last {
     TooLarge,
     Stable(usize),
 }
 
 // A limit is passed; or the number of the stable round, and how many labels the root's set has.
-#[derive(Drop)]
+#[derive(Clone, Copy)]
 pub enum Found {
     TooLarge,
     At(usize, usize),

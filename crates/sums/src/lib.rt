@@ -1,5 +1,7 @@
 // Every sum of a label of one row and a label of another, put into a set that stands at the start of words of its own. Most sums of two
 // long rows come several times: those that the set is known to have are passed over.
+#![tactic(auto)]
+
 ghost use Rattle.std.specs.Prelude.{◌≡◌, ◌+◌, ◌-◌, ◌≤◌, true};
 ghost use Rattle.areas.specs.Rows.{held};
 ghost use Rattle.labels.specs.Bags.{size_of, sum_of};

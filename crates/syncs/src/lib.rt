@@ -2,6 +2,8 @@
 // of multi-actions alone has its own. So before the rounds every sync of whole processes becomes a merge, in one pass over the slots.
 // Operands come first, so that in the slots before a term what is built of act, tau, delta and sync only is known by its kind: a sync
 // that is anything else is a merge by then.
+#![tactic(auto)]
+
 ghost use Rattle.std.specs.Prelude.{◌≡◌, length};
 ghost use Rattle.syncs.specs.Merging.{multi_at, merge_in, merged_to};
 

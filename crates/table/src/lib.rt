@@ -3,6 +3,8 @@
 // A table is a lent slice of words, and its lists are another: docs/FORMAT.md has the layout, the constants below give it. Words that are
 // not used may be anything. A name is at most eight bytes, packed in a word, the first byte lowest. A term is packed in a word as the
 // crate `slots` says. The order is kept in words of its own.
+#![tactic(auto)]
+
 pub mod lists;
 
 ghost use Rattle.std.specs.Prelude.{◌≡◌, min};
@@ -46,7 +48,7 @@ pub const LISTS_WORDS: usize = 6144;
 pub const RULE_WORDS: usize = 3;
 
 // What is asked for: all labels, or only those of a list.
-#[derive(Drop)]
+#[derive(Clone, Copy)]
 pub enum Order {
     All,
     Only(Place),

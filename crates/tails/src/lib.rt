@@ -1,6 +1,8 @@
 // The tails of term lines: what follows the word of a kind, with the LF that ends the line.
 //
 // As in `words`, what is lent is the rest of the text, and an answer says how many bytes it took or after how many it is stuck.
+#![tactic(auto)]
+
 mod plains;
 mod wraps;
 
@@ -14,7 +16,7 @@ use slots::Term;
 use table::NAMES;
 
 // A term with the fault of its line and how many bytes that took, the LF included; or after how many bytes the line was stuck.
-#[derive(Drop)]
+#[derive(Clone, Copy)]
 pub enum TermStep {
     To(Term, Found, usize),
     Stuck(usize),

@@ -1,4 +1,6 @@
 // One running tally that every description adds to, each by the verdict that its call gave.
+#![tactic(auto)]
+
 mod figures;
 mod verdicts;
 
@@ -10,7 +12,7 @@ use crate::figures::{counting, has_room};
 use crate::verdicts::is_given;
 
 // What a call said, as far as it is counted: the number of its refusal, 0 for an answer; its rounds and how many labels it listed.
-#[derive(Drop)]
+#[derive(Clone, Copy)]
 pub struct Verdict {
     pub reason: usize,
     pub rounds: usize,
@@ -21,7 +23,7 @@ pub struct Verdict {
 pub const REFUSALS: usize = 7;
 
 // The figures. No figure of 32 bits can pass 4,294,967,295.
-#[derive(Drop)]
+#[derive(Clone, Copy)]
 pub struct Tally {
     pub descriptions: u32,
     pub answered: u32,
@@ -31,7 +33,7 @@ pub struct Tally {
 }
 
 // What becomes of a verdict: it is taken in; or it is left out, with 18 where no call gives it and with 17 where a figure is full.
-#[derive(Drop)]
+#[derive(Clone, Copy)]
 pub enum Answer {
     TakenIn,
     NoVerdict,
@@ -39,7 +41,7 @@ pub enum Answer {
 }
 
 // The tally afterwards, with what became of the verdict. One that is left out leaves the tally as it was.
-#[derive(Drop)]
+#[derive(Clone, Copy)]
 pub struct Addition {
     pub tally: Tally,
     pub answer: Answer,

@@ -1,5 +1,7 @@
 // Adds the description in each file that an argument names to one tally, and writes the tally to standard output. What goes wrong with
 // a file, and how far it is, is told on standard error.
+#![tactic(auto)]
+
 mod verdicts;
 
 ghost use Rattle.std.specs.Prelude.{◌≡◌};

@@ -1,6 +1,8 @@
 // The text of a tally, written into an area that is lent for it.
 //
 // It is written to a scratch area that holds every tally's text, line behind line, and copied from there where it fits.
+#![tactic(auto)]
+
 ghost use Rattle.std.specs.Prelude.{◌≡◌, ◌++◌, ◌+◌, ◌≤◌, length, take};
 ghost use Rattle.meaning.specs.Labels.{size};
 ghost use Rattle.grammar.specs.Marks.{decimal};

@@ -4,6 +4,8 @@
 // descriptions, answered ones, refusals 1, 2, 3, 4, 5, 7 and 10, labels, rounds. After any other first byte the figures are passed over
 // and the tally runs on; before the first record it is empty. Then come the number, the rounds and the labels of a verdict, in eight
 // bytes each. The lower bytes of a number stand first. What is left of a record at the end of the input is dropped.
+#![tactic(auto)]
+
 ghost use Rattle.std.specs.Prelude.{◌≡◌, ◌+◌, ◌*◌, ◌≤◌};
 ghost use Rattle.tally.specs.Additions.{Adds};
 
@@ -115,7 +117,7 @@ fn write_addition(addition: Addition) {
 }
 
 // What a turn leaves: the running tally, and whether there was one more whole record.
-#[derive(Drop)]
+#[derive(Clone, Copy)]
 struct Turn {
     tally: Tally,
     goes_on: bool,

@@ -1,4 +1,6 @@
 // What a tally counts of what a call says.
+#![tactic(auto)]
+
 ghost use Rattle.std.specs.Prelude.{◌≡◌};
 ghost use Rattle.rimecutter.specs.Answers.{verdict_for};
 ghost use Rattle.tally_verdicts.specs.Verdicts.{counted};

@@ -1,4 +1,6 @@
 // The lines of terms: each goes to its word of the table, and its list to its words of the lists.
+#![tactic(auto)]
+
 ghost use Rattle.std.specs.Prelude.{◌≤◌, length};
 ghost use Rattle.termlines.specs.Terms.{TermRead, TermsRoom, TermsRead, TermsGiven};
 

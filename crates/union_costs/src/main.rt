@@ -1,5 +1,7 @@
 // Joins two interleaved sets of 512 labels, insertion by insertion and by the walk of the union, and writes how many labels each way
 // moves, draws and reads. docs/COSTS.md tells what they say.
+#![tactic(auto)]
+
 ghost use Rattle.std.specs.Prelude.{◌≤◌};
 
 use areas::rows::{read_label, write_label};
@@ -56,7 +58,7 @@ fn moved_by_insertions(words: &mut [u64], at: usize) -> usize {
 }
 
 // What a walk took: the labels that were drawn, each of which is written once, and those that were read.
-#[derive(Drop)]
+#[derive(Clone, Copy)]
 struct Cost {
     drawn: usize,
     read: usize,

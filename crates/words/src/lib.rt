@@ -2,6 +2,8 @@
 //
 // A form is read from the start of what is lent, the rest of the text. The answer says what was read and how many bytes it took, or
 // after how many bytes nothing that is due there goes on.
+#![tactic(auto)]
+
 pub mod literals;
 pub mod names;
 pub mod numbers;
@@ -10,7 +12,7 @@ ghost use Rattle.std.specs.Prelude.{◌&&◌, ◌≡◌, leb};
 ghost use Rattle.words.specs.Steps.{step_place};
 
 // What was read, a number or a packed name, and how many bytes it took; or after how many bytes the reading was stuck.
-#[derive(Drop)]
+#[derive(Clone, Copy)]
 pub enum Step {
     To(u64, usize),
     Stuck(usize),
