@@ -1,0 +1,28 @@
+-- `conversions::narrow_all` meets its contract: it is refused, or the lower words are laid. Assumes nothing.
+use mathlib.Core.Path.{sym, ◌∙◌}
+use mathlib.Core.Bool.{true, false}
+use mathlib.Core.Logic.{⊎_elim, inl, inr}
+use native.Mathlib.Omega.{arith}
+use borrow.Author.Tests.{ltb-true, ltb-false}
+use Rattle.conversions.proofs.Answers.{made, refused, narrow_short, narrow-looked}
+use Rattle.conversions.proofs.narrow_all.Goals as goal
+
+pub returns-then-words-ne0 : goal.returns-then-words-ne0
+returns-then-words-ne0 c =
+    let a = c.args in
+    refused (narrow_short a.words.now a.numbers.now (⊎_elim (λ w. inl w.taken) (λ w. inr (ltb-true _ _ w.1.taken)) c.then-words-ne0.branch))
+
+pub returns-then-is_in_use : goal.returns-then-is_in_use
+returns-then-is_in_use c =
+    let a = c.args in
+    refused
+    (narrow-looked a.words.now a.numbers.now (omega arith) (omega (arith, ltb-false)) true
+    (sym c.if-is_in_use.true ∙ c.is_in_use.ensures))
+
+pub returns : goal.returns
+returns c =
+    let a = c.args in
+    made
+    (narrow-looked a.words.now a.numbers.now (omega arith) (omega (arith, ltb-false)) false
+    (sym c.if-is_in_use.false ∙ c.is_in_use.ensures))
+    c.lay_lowers.ensures

@@ -1,0 +1,38 @@
+-- `faults::worse_of` meets its contract: by which of the two is a fault, and then by their numbers.
+-- Assumes nothing.
+use native.Mathlib.Omega.{arith}
+use borrow.Author.Tests.{le-leb, lt-leb}
+use Rattle.meaning.specs.Answers.{fault_number}
+use Rattle.faults.specs.CodedFaults.{fault_of}
+use Rattle.faults.proofs.worse_of.Goals as goal
+
+pub enum_known-a : goal.enum_known-a
+enum_known-a c = c.in-Faulty.keys1
+
+pub enum_told-1 : goal.enum_told-1
+enum_told-1 c = c.in_default.keys2
+
+pub enum_known-b : goal.enum_known-b
+enum_known-b c = c.in-Faulty-b.keys1
+
+pub enum_told-in_default-b : goal.enum_told-in_default-b
+enum_told-in_default-b c = c.in_default-b.keys2
+
+pub returns-in_default-b : goal.returns-in_default-b
+returns-in_default-b c = rw (c.in-Faulty.is, c.in_default-b.is)
+
+pub returns-then-number_of : goal.returns-then-number_of
+returns-then-number_of c =
+    let h = c.number_of-2.ensures in
+    let g = c.number_of.ensures in
+    let a = c.a-1.given in
+    let b = c.b-1.given in
+    rw (a.1, b.1, le-leb (fault_number (fault_of a.0.0)) (fault_number (fault_of b.0.0)) (omega arith))
+
+pub returns : goal.returns
+returns c =
+    let h = c.number_of-2.ensures in
+    let g = c.number_of.ensures in
+    let a = c.a-1.given in
+    let b = c.b-1.given in
+    rw (a.1, b.1, lt-leb (fault_number (fault_of a.0.0)) (fault_number (fault_of b.0.0)) (omega arith))

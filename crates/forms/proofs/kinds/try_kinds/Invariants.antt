@@ -1,0 +1,11 @@
+-- `forms::kinds::try_kinds` meets its contract: one kind after the other, from the last to the first, the farthest place kept.
+-- Assumes nothing.
+use Prim.Native.Nat.{◌-◌}
+use Rattle.forms.proofs.Kinded.{Sought}
+use Rattle.forms.proofs.kinds.try_kinds.Given as goal
+
+abbrev pub invariant-loop-k : goal.invariant-loop-k
+invariant-loop-k l = Sought l.text l.at l.far l.k
+
+abbrev pub decreases-loop-k : goal.decreases-loop-k
+decreases-loop-k l = l.k

@@ -1,0 +1,48 @@
+use mathlib.Core.Path.{refl, ◌∙◌}
+use Prim.Native.Nat.{◌-◌}
+use native.Mathlib.Omega.{arith}
+use Rattle.extents.proofs.RowWalks.{row-start, row-length, row-end, row-holds, row-large}
+use Rattle.images.specs.Imaging.{taken_by}
+use Rattle.images.proofs.Images.{steady-offered, taken_made, lower-small}
+use Rattle.images.proofs.imaging.add_offered.Goals as goal
+
+pub loop-i-init : goal.loop-i-init
+loop-i-init c = (row-start c.reach-count.ensures c.labels_in-end.ensures, refl)
+
+pub made-offer-requires : goal.made-offer-requires
+made-offer-requires c = (c.requires, lower-small _ c.read_label-label.ensures)
+
+pub take-step-requires : goal.take-step-requires
+take-step-requires c = (row-length c.loop-i.invariant.0).1
+
+pub shape_of-out-in_default : goal.shape_of-out-in_default
+shape_of-out-in_default c =
+    c.take-step.auto.out ∙ c.loop-i.invariant.1
+
+pub returns-in_default : goal.returns-in_default
+returns-in_default c =
+    let a = c.args in
+    let list = taken_by a.way a.list.now in
+    row-large c.loop-i.invariant.0 (λ room. steady-offered room a.way list) c.loop-i-test.true c.read_label-label.ensures
+    (taken_made a.way list c.read_label-label.result c.made-offer.ensures c.take-step.ensures) c.in_default.is
+
+pub overflow_add-i : goal.overflow_add-i
+overflow_add-i c = omega arith
+
+pub loop-i-smaller : goal.loop-i-smaller
+loop-i-smaller c = omega arith
+
+pub loop-i-preserved : goal.loop-i-preserved
+loop-i-preserved c =
+    let a = c.args in
+    let list = taken_by a.way a.list.now in (
+      row-holds c.loop-i.invariant.0 (λ room. steady-offered room a.way list) c.loop-i-test.true c.read_label-label.ensures
+          (taken_made a.way list c.read_label-label.result c.made-offer.ensures c.take-step.ensures) c.in-Holds.is,
+      c.take-step.auto.out ∙ c.loop-i.invariant.1,
+    )
+
+pub shape_of-out : goal.shape_of-out
+shape_of-out c = c.loop-i.invariant.1
+
+pub returns : goal.returns
+returns c = row-end c.loop-i.invariant.0 c.loop-i-test.false

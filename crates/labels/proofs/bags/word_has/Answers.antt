@@ -1,0 +1,24 @@
+use Rattle.std.proofs.Common.{refl, inl, inr, arith, ltb-false, ltb-true}
+use Rattle.labels.proofs.Words.{compared-end, compared-fail, compared-step, compared-skip}
+use Rattle.labels.proofs.bags.word_has.Goals as goal
+
+pub loop-names-init : goal.loop-names-init
+loop-names-init c = record { digits = 13; holds = omega arith; equal = refl }
+
+pub returns-then-b-a : goal.returns-then-b-a
+returns-then-b-a c =
+    compared-fail c.loop-names.invariant c.loop-names-test.true c.if-names-ne0.true
+    (ltb-true _ _ c.if-b-a.true-raw)
+
+pub loop-names-smaller : goal.loop-names-smaller
+loop-names-smaller c = let n = c.loop-names-test.true in omega arith
+
+pub loop-names-preserved : goal.loop-names-preserved
+loop-names-preserved c =
+    elim c.else-names-ne0.branch [
+      | inl w ↦ compared-step c.loop-names.invariant c.loop-names-test.true (ltb-false _ _ w.1.left)
+      | inr w ↦ compared-skip c.loop-names.invariant c.loop-names-test.true w.left
+    ]
+
+pub returns : goal.returns
+returns c = compared-end (rw c.loop-names-test.false at c.loop-names.invariant)

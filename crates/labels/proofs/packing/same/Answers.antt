@@ -1,0 +1,19 @@
+-- `labels::packing::same` meets its contract: labels are the same if both their words are. Assumes nothing.
+use Rattle.std.proofs.Common.{◌%◌, ◌^◌, arith}
+use Rattle.labels.specs.Packing.{code}
+use Rattle.labels.proofs.Codes.{eqb-alike}
+use Rattle.labels.proofs.packing.same.Goals as goal
+
+pub returns-then-a-b : goal.returns-then-a-b
+unfolding code
+returns-then-a-b c =
+    let a = c.args.a in
+    let b = c.args.b in
+    eqb-alike a.upper b.upper (code a) (code b) (omega arith)
+
+pub returns-else-a-b : goal.returns-else-a-b
+unfolding code
+returns-else-a-b c =
+    let a = c.args.a in
+    let b = c.args.b in
+    eqb-alike (a.lower % 2 ^ 60) (b.lower % 2 ^ 60) (code a) (code b) (omega arith)

@@ -1,0 +1,24 @@
+-- `layout::laying::gap_behind` meets its contract. Assumes nothing.
+use mathlib.Core.Path.{refl}
+use mathlib.Core.Logic.{⊎_elim}
+use Prim.Native.Nat.{◌-◌}
+use native.Mathlib.Nat.{div-le_self}
+use native.Mathlib.Omega.{arith}
+use borrow.Author.Tests.{eqb-true, eqb-false}
+use Rattle.layout.proofs.laying.gap_behind.Goals as goal
+
+pub returns-then-half-total : goal.returns-then-half-total
+returns-then-half-total c =
+    let a = c.args in
+    record {
+      small = omega arith;
+      share = λ h k. absurd (⊎_elim (λ w. omega (arith, w.taken)) (λ w. omega (arith, eqb-true a.terms 0 w.1.taken)) c.then-half-total.branch);
+    }
+
+pub nonzero_div-result : goal.nonzero_div-result
+nonzero_div-result c = omega (arith, eqb-false c.args.terms 0 c.if-terms-eq0.false-raw)
+
+pub returns : goal.returns
+returns c =
+    let a = c.args in
+    record { small = omega (arith, div-le_self (a.half - a.total) a.terms); share = λ h k. refl }

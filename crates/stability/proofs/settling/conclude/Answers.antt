@@ -1,0 +1,29 @@
+-- `stability::settling::conclude` meets its contract: 0 alone, or the root's set.
+-- Assumes nothing.
+use mathlib.Core.Path.{refl, ap}
+use Rattle.stability.specs.declared.Found.TheVariants.{At}
+use Rattle.stability.proofs.settling.conclude.Goals as goal
+
+pub enum_known-last : goal.enum_known-last
+enum_known-last c = c.in-Stable.keys1
+
+pub enum_told-1 : goal.enum_told-1
+enum_told-1 c = c.in_default.keys2
+
+pub clear-requires : goal.clear-requires
+clear-requires c = tt
+
+pub returns-in_default : goal.returns-in_default
+returns-in_default c = rw c.in_default.is (refl, c.clear.ensures)
+
+pub part_at-requires : goal.part_at-requires
+part_at-requires c = tt
+
+pub settle-requires : goal.settle-requires
+settle-requires c = tt
+
+pub returns : goal.returns
+returns c =
+    let stable = c.last-1.given in
+    let kept = rw c.part_at.ensures at c.settle.ensures in
+    rw stable.1 (λ end. let settled = kept.within c.requires end in (ap (At stable.0.0) settled.0, settled.1))

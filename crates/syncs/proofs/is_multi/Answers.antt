@@ -1,0 +1,17 @@
+-- `syncs::is_multi` meets its contract: the kind of the term in the slot.
+-- Assumes nothing.
+use mathlib.Core.Path.{ap, ◌∙◌}
+use Rattle.syncs.specs.Merging.{multi_kind}
+use Rattle.slots.specs.Packing.{word_term}
+use Rattle.syncs.proofs.ByKind.{is-kind, no_kind}
+use Rattle.syncs.proofs.is_multi.Goals as goal
+
+pub returns-in-Delta : goal.returns-in-Delta
+returns-in-Delta c =
+    is-kind c.unpack.result c.in-Delta.keys1
+    ∙ ap multi_kind (c.unpack.ensures ∙ ap (word_term 0) c.word_at.ensures)
+
+pub returns-in_default : goal.returns-in_default
+returns-in_default c =
+    no_kind c.unpack.result c.in_default.keys2
+    ∙ ap multi_kind (c.unpack.ensures ∙ ap (word_term 0) c.word_at.ensures)

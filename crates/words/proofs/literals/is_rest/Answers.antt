@@ -1,0 +1,24 @@
+-- `words::literals::is_rest` meets its contract: the word is passed, and LF follows it.
+-- Assumes nothing.
+use mathlib.Core.Path.{ap, ◌∙◌}
+use Rattle.words.proofs.Steps.{steps-to, steps-stuck}
+use Rattle.words.proofs.Looked.{ends_there, rest-literal}
+use Rattle.words.proofs.literals.is_rest.Goals as goal
+
+pub enum_known-p : goal.enum_known-p
+enum_known-p c = c.in-To.keys1
+
+pub enum_told-1 : goal.enum_told-1
+enum_told-1 c = c.in_default.keys2
+
+pub returns-in_default : goal.returns-in_default
+returns-in_default c =
+    let a = c.args in
+    ap ends_there (steps-stuck c.read_literal-p.ensures.steps c.in_default.is).says ∙ rest-literal a.due.now a.rest.now
+
+pub returns : goal.returns
+returns c =
+    let a = c.args in
+    c.sign_at.ensures
+    ∙ ap ends_there (steps-to c.read_literal-p.ensures.steps c.in-To.is).says
+    ∙ rest-literal a.due.now a.rest.now
