@@ -199,6 +199,7 @@ pub known→in : (words : List Text) (w : Text) → name_number words w < length
 known→in words w h = subst (λ u. u ∈ words) (named words w h) (name_in words (name_number words w) h)
 
 pub in→known : (words : List Text) (w : Text) → w ∈ words → name_number words w < length words
+in→known [] w x' = elim x' [ ]
 in→known (v ∷ words) w (inl e) = let first = number-first v words w (sym e) in omega arith
 in→known (v ∷ words) w (inr m) =
     elim (same_or_not v w) [

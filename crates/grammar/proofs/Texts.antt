@@ -186,6 +186,7 @@ computed = (
 )
 
 each : (cs : List Case) → All cs → (c : Case) → c ∈ cs → Holds c
+each [] h c x'' = elim x'' [ ]
 each (b ∷ cs) h c (inl e) = subst⁻¹ Holds e h.0
 each (b ∷ cs) h c (inr m) = each cs h.1 c m
 

@@ -6,18 +6,6 @@ use Rattle.meaning.specs.Answers.{fault_number}
 use Rattle.faults.specs.CodedFaults.{fault_of}
 use Rattle.faults.proofs.worse_of.Goals as goal
 
-pub enum_known-a : goal.enum_known-a
-enum_known-a c = c.in-Faulty.keys1
-
-pub enum_told-1 : goal.enum_told-1
-enum_told-1 c = c.in_default.keys2
-
-pub enum_known-b : goal.enum_known-b
-enum_known-b c = c.in-Faulty-b.keys1
-
-pub enum_told-in_default-b : goal.enum_told-in_default-b
-enum_told-in_default-b c = c.in_default-b.keys2
-
 pub returns-in_default-b : goal.returns-in_default-b
 returns-in_default-b c = rw (c.in-Faulty.is, c.in_default-b.is)
 

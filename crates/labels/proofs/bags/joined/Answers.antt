@@ -18,4 +18,4 @@ module _ (a b : Label) where
 pub returns : goal.returns
 returns c =
     let args = c.args in
-    carried args.a args.b _ _ c.wrapping_add_u64-upper.ensures c.wrapping_add_u64.ensures
+    carried args.a args.b _ _ c.wrapping_add_u64-upper.ensures.value c.wrapping_add_u64.ensures.value

@@ -16,8 +16,8 @@ loop-names-smaller c = let n = c.loop-names-test.true in omega arith
 pub loop-names-preserved : goal.loop-names-preserved
 loop-names-preserved c =
     elim c.else-names-ne0.branch [
-      | inl w ↦ compared-step c.loop-names.invariant c.loop-names-test.true (ltb-false _ _ w.1.left)
-      | inr w ↦ compared-skip c.loop-names.invariant c.loop-names-test.true w.left
+      | goal.else-names-ne0-via-then-names-ne0+else-b-a w ↦ compared-step c.loop-names.invariant c.loop-names-test.true (ltb-false _ _ w.if-b-a.false-raw)
+      | goal.else-names-ne0-via-else-names-ne0 w ↦ compared-skip c.loop-names.invariant c.loop-names-test.true w.if-names-ne0.false
     ]
 
 pub returns : goal.returns

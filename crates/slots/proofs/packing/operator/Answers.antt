@@ -18,5 +18,5 @@ returns-in-15 c = rw c.in-15.is
 pub returns-in_default : goal.returns-in_default
 returns-in_default c =
     let k = c.args.k in
-    let r = c.in_default.rest in
+    let r = c.in_default.in_default-own.rest in
     rw (ne_eqb k 12 r.0.0.0.1, ne_eqb k 13 r.0.0.1, ne_eqb k 14 r.0.1, ne_eqb k 15 r.1)

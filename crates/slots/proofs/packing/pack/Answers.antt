@@ -3,74 +3,35 @@
 use native.Mathlib.Omega.{arith}
 use Rattle.slots.proofs.packing.pack.Goals as goal
 
-pub enum_told-1 : goal.enum_told-1
-enum_told-1 c = c.in-Delta.keys1
-
-pub enum_told-in-Tau : goal.enum_told-in-Tau
-enum_told-in-Tau c = c.in-Tau.keys2
-
-pub enum_known-x : goal.enum_known-x
-enum_known-x c = c.in-Act.keys3
-
 pub packed-requires : goal.packed-requires
 packed-requires c = omega arith
-
-pub enum_known-x-in-Ref-1 : goal.enum_known-x-in-Ref-1
-enum_known-x-in-Ref-1 c = c.in-Ref.keys4
 
 pub packed-requires-in-Ref : goal.packed-requires-in-Ref
 packed-requires-in-Ref c = omega arith
 
-pub enum_known-x-in-Sum-1 : goal.enum_known-x-in-Sum-1
-enum_known-x-in-Sum-1 c = c.in-Sum.keys5
-
 pub packed-requires-in-Sum : goal.packed-requires-in-Sum
 packed-requires-in-Sum c = omega arith
-
-pub enum_known-x-in-Cond-1 : goal.enum_known-x-in-Cond-1
-enum_known-x-in-Cond-1 c = c.in-Cond.keys6
 
 pub packed-requires-in-Cond : goal.packed-requires-in-Cond
 packed-requires-in-Cond c = omega arith
 
-pub enum_known-x-in-Choice-1 : goal.enum_known-x-in-Choice-1
-enum_known-x-in-Choice-1 c = c.in-Choice.keys7
-
 pub packed-requires-in-Choice : goal.packed-requires-in-Choice
 packed-requires-in-Choice c = omega arith
-
-pub enum_known-x-in-IfElse-1 : goal.enum_known-x-in-IfElse-1
-enum_known-x-in-IfElse-1 c = c.in-IfElse.keys8
 
 pub packed-requires-in-IfElse : goal.packed-requires-in-IfElse
 packed-requires-in-IfElse c = omega arith
 
-pub enum_known-x-in-Seq-1 : goal.enum_known-x-in-Seq-1
-enum_known-x-in-Seq-1 c = c.in-Seq.keys9
-
 pub packed-requires-in-Seq : goal.packed-requires-in-Seq
 packed-requires-in-Seq c = omega arith
-
-pub enum_known-x-in-Merge-1 : goal.enum_known-x-in-Merge-1
-enum_known-x-in-Merge-1 c = c.in-Merge.keys10
 
 pub packed-requires-in-Merge : goal.packed-requires-in-Merge
 packed-requires-in-Merge c = omega arith
 
-pub enum_known-x-in-LMerge-1 : goal.enum_known-x-in-LMerge-1
-enum_known-x-in-LMerge-1 c = c.in-LMerge.keys11
-
 pub packed-requires-in-LMerge : goal.packed-requires-in-LMerge
 packed-requires-in-LMerge c = omega arith
 
-pub enum_known-x-in-Sync-1 : goal.enum_known-x-in-Sync-1
-enum_known-x-in-Sync-1 c = c.in-Sync.keys12
-
 pub packed-requires-in-Sync : goal.packed-requires-in-Sync
 packed-requires-in-Sync c = omega arith
-
-pub enum_known-x-in-Wrap-1 : goal.enum_known-x-in-Wrap-1
-enum_known-x-in-Wrap-1 c = c.in-Wrap.keys13
 
 pub pack_operator-requires : goal.pack_operator-requires
 pack_operator-requires c = tt

@@ -3,32 +3,17 @@
 use native.Mathlib.Omega.{arith}
 use Rattle.slots.proofs.packing.pack_operator.Goals as goal
 
-pub enum_known-o : goal.enum_known-o
-enum_known-o c = c.in-Block.keys1
-
 pub packed-requires : goal.packed-requires
 packed-requires c = omega arith
-
-pub enum_known-o-in-Hide-1 : goal.enum_known-o-in-Hide-1
-enum_known-o-in-Hide-1 c = c.in-Hide.keys2
 
 pub packed-requires-in-Hide : goal.packed-requires-in-Hide
 packed-requires-in-Hide c = omega arith
 
-pub enum_known-o-in-Rename-1 : goal.enum_known-o-in-Rename-1
-enum_known-o-in-Rename-1 c = c.in-Rename.keys3
-
 pub packed-requires-in-Rename : goal.packed-requires-in-Rename
 packed-requires-in-Rename c = omega arith
 
-pub enum_known-o-in-Comm-1 : goal.enum_known-o-in-Comm-1
-enum_known-o-in-Comm-1 c = c.in-Comm.keys4
-
 pub packed-requires-in-Comm : goal.packed-requires-in-Comm
 packed-requires-in-Comm c = omega arith
-
-pub enum_known-o-in-Allow-1 : goal.enum_known-o-in-Allow-1
-enum_known-o-in-Allow-1 c = c.in-Allow.keys5
 
 pub packed-requires-in-Allow : goal.packed-requires-in-Allow
 packed-requires-in-Allow c = omega arith

@@ -39,7 +39,7 @@ returns-in-11 c = rw c.in-11.is
 pub returns-in_default : goal.returns-in_default
 returns-in_default c =
     let k = c.args.k in
-    let r = c.in_default.rest in
+    let r = c.in_default.in_default-own.rest in
     rw (
       ne_eqb k 1 r.0.0.0.0.0.0.0.0.0.0.1,
       ne_eqb k 2 r.0.0.0.0.0.0.0.0.0.1,

@@ -54,4 +54,4 @@ not-among n r =
     ) refl
 
 pub returns-in_default : goal.returns-in_default
-returns-in_default c = sym (place-behind c.args.reason refusal_numbers (not-among c.args.reason c.in_default.rest))
+returns-in_default c = sym (place-behind c.args.reason refusal_numbers (not-among c.args.reason c.in_default.in_default-own.rest))
