@@ -10,7 +10,7 @@ use Rattle.syncs.proofs.merge_in.Goals as goal
 pub returns-in_default : goal.returns-in_default
 returns-in_default c =
     let a = c.args in
-    stays a.slots.now a.slot c.unpack.result c.in_default.keys2
+    stays a.slots.now a.slot c.unpack.result c.in_default.in_default-own.keys2
     ∙ ap (merge_of a.slots.now a.slot) c.unpack.ensures
 
 pub returns-then-is_multi-2 : goal.returns-then-is_multi-2
