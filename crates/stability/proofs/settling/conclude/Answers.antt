@@ -4,12 +4,6 @@ use mathlib.Core.Path.{refl, ap}
 use Rattle.stability.specs.declared.Found.TheVariants.{At}
 use Rattle.stability.proofs.settling.conclude.Goals as goal
 
-pub enum_known-last : goal.enum_known-last
-enum_known-last c = c.in-Stable.keys1
-
-pub enum_told-1 : goal.enum_told-1
-enum_told-1 c = c.in_default.keys2
-
 pub clear-requires : goal.clear-requires
 clear-requires c = tt
 
