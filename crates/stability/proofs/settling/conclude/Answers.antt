@@ -18,6 +18,5 @@ settle-requires c = tt
 
 pub returns : goal.returns
 returns c =
-    let stable = c.last-1.given in
     let kept = rw c.part_at.ensures at c.settle.ensures in
-    rw stable.1 (λ end. let settled = kept.within c.requires end in (ap (At stable.0.0) settled.0, settled.1))
+    rw c.in-Stable.is (λ end. let settled = kept.within c.requires end in (ap (At c.in-Stable.rounds) settled.0, settled.1))
