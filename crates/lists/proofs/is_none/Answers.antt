@@ -11,9 +11,6 @@ use Rattle.lists.specs.Lists.{takes_none}
 use Rattle.lists.specs.contracts.ListKind.{the_type}
 use Rattle.lists.proofs.is_none.Goals as goal
 
-pub enum_told-1 : goal.enum_told-1
-enum_told-1 c = c.in-Labels.keys1
-
 pub returns-in-Labels : goal.returns-in-Labels
 returns-in-Labels c = rw c.in-Labels.is c.is_rest.ensures
 
@@ -22,6 +19,3 @@ no-labels Names b k = refl
 no-labels Pairs b k = refl
 no-labels Rules b k = refl
 no-labels Labels b k = absurd (miss (0 ∷ 1 ∷ 2 ∷ []) 3 tt k)
-
-pub returns-in_default : goal.returns-in_default
-returns-in_default c = no-labels c.args.kind _ c.in_default.keys2

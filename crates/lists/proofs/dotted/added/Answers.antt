@@ -10,12 +10,6 @@ use Rattle.labels.proofs.Words.{number-several}
 use Rattle.lists.proofs.dotted.added.Goals as goal
 use Rattle.lists.proofs.dotted.added.Goals.{In-Fine}
 
-pub enum_told-1 : goal.enum_told-1
-enum_told-1 c = c.in-Fine.keys1
-
-pub enum_told-in_default : goal.enum_told-in_default
-enum_told-in_default c = c.in_default.keys2
-
 pub returns-in_default : goal.returns-in_default
 returns-in_default c = rw c.in_default.is c.tau.ensures
 
@@ -27,7 +21,7 @@ room c = rw c.in-Fine.is at c.requires
 pub returns : goal.returns
 returns c =
     let a = c.args in
-    let r = room c.before.before.before in
+    let r = room (goal.at.returns c).In-Fine in
     let name : c.number_of.result ≡ code a.name = omega (arith, c.number_of.ensures) in
     let few : a.times % 32 ≡ a.times = omega arith in
     let part =

@@ -8,17 +8,10 @@ use Rattle.faults.specs.CodedFaults.{found_of}
 use Rattle.lists.proofs.Seen.{said_same}
 use Rattle.lists.proofs.sides.two_or_more.Goals as goal
 
-pub enum_known-label : goal.enum_known-label
-enum_known-label c = c.in-To.keys1
-
-pub enum_told-1 : goal.enum_told-1
-enum_told-1 c = c.in_default.keys2
-
 pub returns-in_default : goal.returns-in_default
 returns-in_default c = rw c.in_default.is (record { places = refl; says = λ line. refl })
 
 pub returns : goal.returns
 returns c =
-    let l = c.label-1.given in
-    let faults = c.worse_of.ensures ∙ ap (worse (found_of l.0.0.fault)) c.amount_unless.ensures in
-    rw l.1 (record { places = refl; says = λ line. ap (λ s. past s (drop l.0.1.0 line)) (said_same faults refl refl) })
+    let faults = c.worse_of.ensures ∙ ap (worse (found_of c.in-To.l.fault)) c.amount_unless.ensures in
+    rw c.in-To.is (record { places = refl; says = λ line. ap (λ s. past s (drop c.in-To.next line)) (said_same faults refl refl) })

@@ -9,28 +9,16 @@ use Rattle.lists.specs.Lists.{set_from}
 use Rattle.lists.proofs.stores.put_entry.Goals as goal
 use Rattle.lists.proofs.stores.put_entry.Goals.{In-Pairs}
 
-pub enum_told-1 : goal.enum_told-1
-enum_told-1 c = c.in-Names.keys1
-
-pub enum_told-in-Pairs : goal.enum_told-in-Pairs
-enum_told-in-Pairs c = c.in-Pairs.keys2
-
 fits : (c : In-Pairs)
     → let a = c.args in
     code a.first + 32 * a.second < 2 ^ 64
 fits c = rw c.in-Pairs.is at c.requires.1
 
 pub overflow_mul-second : goal.overflow_mul-second
-overflow_mul-second c = omega (arith, fits c.before.before)
+overflow_mul-second c = omega (arith, fits (goal.at.overflow_mul-second c).In-Pairs)
 
 pub overflow_add-number_of : goal.overflow_add-number_of
-overflow_add-number_of c = omega (arith, fits c.before.before, c.number_of-in-Pairs.ensures)
-
-pub enum_told-in-Rules : goal.enum_told-in-Rules
-enum_told-in-Rules c = c.in-Rules.keys3
-
-pub enum_told-in-Labels : goal.enum_told-in-Labels
-enum_told-in-Labels c = c.in-Labels.keys4
+overflow_add-number_of c = omega (arith, fits (goal.at.overflow_add-number_of c).In-Pairs, c.number_of-in-Pairs.ensures)
 
 pub returns-in-Names : goal.returns-in-Names
 unfolding set_from
@@ -45,7 +33,7 @@ unfolding set_from
 returns-in-Pairs c =
     let a = c.args in
     let number = c.number_of-in-Pairs in
-    let word : number.result + 32 * a.second ≡ code a.first + 32 * a.second = omega (arith, fits c.before.before.before.before.before, number.ensures) in
+    let word : number.result + 32 * a.second ≡ code a.first + 32 * a.second = omega (arith, fits (goal.at.returns-in-Pairs c).In-Pairs, number.ensures) in
     rw c.in-Pairs.is (c.put-in-Pairs.ensures ∙ ap (set a.store.now a.at) word)
 
 pub returns-in-Rules : goal.returns-in-Rules
