@@ -14,7 +14,7 @@ use Rattle.arrivals.proofs.arriving.of_two.Goals.{After-add_new_sums-made, After
 union : (c : After-joined-first) →
     let a = c.args in
     let news : ℕ → List ℕ = labels_of a.news.now (held a.log.now) in
-    GrownAt (at_start 0) (λ room. union_new room (news a.t) (news a.u)) (held a.out.now) (held c.joined-first.new.left.1.1.0)
+    GrownAt (at_start 0) (λ room. union_new room (news a.t) (news a.u)) (held a.out.now) (held c.joined-first.new.out)
     c.joined-first.result
 union c = rw (c.part_at.ensures, c.part_at-2.ensures) at c.joined-first.ensures
 
@@ -24,12 +24,12 @@ returns-in_default c =
     let news : ℕ → List ℕ = labels_of a.news.now (held a.log.now) in
     let sets : ℕ → List ℕ = labels_of a.sets.now (held a.work.now) in
     two-large (news a.t) (sets a.t) (news a.u) (sets a.u) (held a.out.now) _ a.sums
-    (rw c.in_default.is at (union c.before.before.before.before))
+    (rw c.in_default.is at (union (goal.at.returns-in_default c).After-joined-first))
 
 pub returns-then-not-sums : goal.returns-then-not-sums
 returns-then-not-sums c =
     let a = c.args in
-    rw (not-true a.sums c.if-not-sums.true-raw) (rw c.in-Holds.is at (union c.before.before.before.before.before.before))
+    rw (not-true a.sums c.if-not-sums.true-raw) (rw c.in-Holds.is at (union (goal.at.returns-then-not-sums c).After-joined-first))
 
 -- with the sums, whatever they answer
 both : (c : After-add_new_sums-made) →
@@ -37,17 +37,18 @@ both : (c : After-add_new_sums-made) →
     let news : ℕ → List ℕ = labels_of a.news.now (held a.log.now) in
     let sets : ℕ → List ℕ = labels_of a.sets.now (held a.work.now) in
     GrownAt (at_start 0) (λ room. two_new a.sums room (news a.t) (sets a.t) (news a.u) (sets a.u)) (held a.out.now)
-    (held c.add_new_sums-made.new.sets.1.1.1.1.1.0) c.add_new_sums-made.result
+    (held c.add_new_sums-made.new.out) c.add_new_sums-made.result
 both c =
     let a = c.args in
     let news : ℕ → List ℕ = labels_of a.news.now (held a.log.now) in
     let sets : ℕ → List ℕ = labels_of a.sets.now (held a.work.now) in
     rw (not-false a.sums c.if-not-sums.false-raw)
-    (two-last (news a.t) (sets a.t) (news a.u) (sets a.u) (held a.out.now) _ (rw c.in-Holds.is at (union c.before.before.before.before.before.before.before.before))
+    (two-last (news a.t) (sets a.t) (news a.u) (sets a.u) (held a.out.now) _ (rw c.in-Holds.is at
+    (rw (c.part_at.ensures, c.part_at-2.ensures) at c.joined-first.ensures))
     c.add_new_sums-made.ensures)
 
 pub returns-in_default-made : goal.returns-in_default-made
-returns-in_default-made c = rw c.in_default-made.is at (both c.before.before.before.before)
+returns-in_default-made c = rw c.in_default-made.is at (both (goal.at.returns-in_default-made c).After-add_new_sums-made)
 
 pub returns : goal.returns
-returns c = rw c.in-Holds-made.is at (both c.before.before.before.before.before)
+returns c = rw c.in-Holds-made.is at (both (goal.at.returns c).After-add_new_sums-made)
