@@ -42,12 +42,6 @@ pub take_term-step-requires : goal.take_term-step-requires
 take_term-step-requires c =
     rw c.names_of.ensures (names-few c.loop-n.table)
 
-pub enum_known-step : goal.enum_known-step
-enum_known-step c = c.in-To.keys1
-
-pub enum_told-1 : goal.enum_told-1
-enum_told-1 c = c.in_default.keys2
-
 pub shape_of-table-in_default : goal.shape_of-table-in_default
 shape_of-table-in_default c = terms-long c.loop-n.invariant
 
