@@ -24,7 +24,10 @@ returns-then-not-has_room c =
 
 pub counting-requires : goal.counting-requires
 counting-requires c =
-    (sym c.is_given.ensures ∙ not-false _ c.if-not-is_given.false-raw, sym c.has_room.ensures ∙ not-false _ c.if-not-has_room.false-raw)
+    record {
+      is_given = sym c.is_given.ensures ∙ not-false _ c.if-not-is_given.false-raw;
+      is_within = sym c.has_room.ensures ∙ not-false _ c.if-not-has_room.false-raw;
+    }
 
 pub returns : goal.returns
 returns c =
