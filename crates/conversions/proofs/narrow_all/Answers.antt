@@ -1,7 +1,7 @@
 -- `conversions::narrow_all` meets its contract: it is refused, or the lower words are laid. Assumes nothing.
 use mathlib.Core.Path.{sym, ◌∙◌}
 use mathlib.Core.Bool.{true, false}
-use mathlib.Core.Logic.{⊎_elim, inl, inr}
+use mathlib.Core.Logic.{inl, inr}
 use native.Mathlib.Omega.{arith}
 use borrow.Author.Tests.{ltb-true, ltb-false}
 use Rattle.conversions.proofs.Answers.{made, refused, narrow_short, narrow-looked}
@@ -10,7 +10,10 @@ use Rattle.conversions.proofs.narrow_all.Goals as goal
 pub returns-then-words-ne0 : goal.returns-then-words-ne0
 returns-then-words-ne0 c =
     let a = c.args in
-    refused (narrow_short a.words.now a.numbers.now (⊎_elim (λ w. inl w.taken) (λ w. inr (ltb-true _ _ w.1.taken)) c.then-words-ne0.branch))
+    refused (narrow_short a.words.now a.numbers.now (elim c.then-words-ne0.branch [
+      | goal.then-words-ne0-via-then-words-ne0 w ↦ inl w.if-words-ne0.true
+      | goal.then-words-ne0-via-else-words-ne0+then-numbers-words w ↦ inr w.if-numbers-words.true
+    ]))
 
 pub returns-then-is_in_use : goal.returns-then-is_in_use
 returns-then-is_in_use c =

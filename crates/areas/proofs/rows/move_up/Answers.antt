@@ -1,5 +1,4 @@
 -- `areas::rows::move_up` meets its contract. Assumes nothing.
-use mathlib.Core.Logic.{⊎_elim}
 use Prim.Native.Nat.{◌/◌}
 use native.Mathlib.Omega.{arith}
 use borrow.Author.Tests.{ltb-true, ltb-false}
@@ -34,7 +33,7 @@ pub returns-else-from-to : goal.returns-else-from-to
 returns-else-from-to c =
     let a = c.args in
     let ws = a.words.now in
-    ⊎_elim
-    (λ w. moved_up-past a.from a.to (held ws) (omega (arith, length-held ws, ltb-false a.to (length ws / 2) w.1.left)))
-    (λ w. moved_up-none a.from a.to (held ws) w.left)
-    c.else-from-to.branch
+    elim c.else-from-to.branch [
+      | goal.else-from-to-via-then-from-to+else-to-words w ↦ moved_up-past a.from a.to (held ws) (omega (arith, length-held ws, ltb-false a.to (length ws / 2) w.if-to-words.false-raw))
+      | goal.else-from-to-via-else-from-to w ↦ moved_up-none a.from a.to (held ws) w.if-from-to.false
+    ]
