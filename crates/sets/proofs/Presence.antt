@@ -37,11 +37,13 @@ in_insert w (x ∷ s) v = in-placed (compare w x) w x s (insert_number w s) v (c
 
 -- A member leaves an ascending list as it is, while an absent number makes it longer: so a member is found.
 rising-in : (x : ℕ) (s : List ℕ) (w : ℕ) → Rising (x ∷ s) → w ∈ s → x < w
+rising-in x [] w r x4 = elim x4 [ ]
 rising-in x (y ∷ s) w r (inl e) = rw e r.0
 rising-in x (y ∷ s) w r (inr m) = lt_trans r.0 (rising-in y s w r.1 m)
 
 insert-member : (s : List ℕ) (w : ℕ) → Rising s → w ∈ s → insert_number w s ≡ s
 unfolding insert_number
+insert-member [] w r x'' = elim x'' [ ]
 insert-member (x ∷ s) w r (inl e) = rw (compare-eq w x e)
 insert-member (x ∷ s) w r (inr m) = rw (compare-gt w x (rising-in x s w r m), insert-member s w r.1 m)
 
@@ -97,6 +99,7 @@ module _ (room : ℕ) where
 
   pub entered-has : (ws s : List ℕ) → Rising s → (each (enter room) ws s).whole ≡ true
       → (v : ℕ) → v ∈ ws → v ∈ (each (enter room) ws s).set
+  entered-has [] s r h v m = elim m [ ]
   entered-has (w ∷ ws) s r h v m = elim (first-in w ws s r) [
     | inl e ↦
         let k = ap (λ (b : Building). b.whole) (sym e) ∙ h in
