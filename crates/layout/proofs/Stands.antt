@@ -111,6 +111,7 @@ length-insert w (v ∷ s) n =
     length-placed (compare w v) w v s (insert_number w s) (compare-says w v) (λ e. n (inl e)) (length-insert w s (λ m. n (inr m)))
 
 rising-above : (x : ℕ) (s : List ℕ) (w : ℕ) → Rising (x ∷ s) → w ∈ s → x < w
+rising-above x [] w r x4 = elim x4 [ ]
 rising-above x (y ∷ s) w r (inl e) = rw e r.0
 rising-above x (y ∷ s) w r (inr m) = lt_trans r.0 (rising-above y s w r.1 m)
 

@@ -44,13 +44,13 @@ pub shape_of-news-in_default : goal.shape_of-news-in_default
 shape_of-news-in_default c = (returns c).kept.news_long
 
 pub shape_of-work-in_default : goal.shape_of-work-in_default
-shape_of-work-in_default c = (kept-words c.before.before.before.before.before.before.before.before.before.before.before.before).0
+shape_of-work-in_default c = (kept-words (goal.at.shape_of-work-in_default c).After-advance-step).0
 
 pub shape_of-log-in_default : goal.shape_of-log-in_default
-shape_of-log-in_default c = (kept-words c.before.before.before.before.before.before.before.before.before.before.before.before).1
+shape_of-log-in_default c = (kept-words (goal.at.shape_of-log-in_default c).After-advance-step).1
 
 pub shape_of-out-in_default : goal.shape_of-out-in_default
-shape_of-out-in_default c = (kept-words c.before.before.before.before.before.before.before.before.before.before.before.before).2
+shape_of-out-in_default c = (kept-words (goal.at.shape_of-out-in_default c).After-advance-step).2
 
 pub overflow_add-n : goal.overflow_add-n
 overflow_add-n c =
@@ -62,7 +62,7 @@ loop-n-smaller c =
 
 pub loop-n-preserved : goal.loop-n-preserved
 loop-n-preserved c =
-    let words = kept-words c.before.before.before.before.before.before.before.before.before.before.before.before.before in (
+    let words = kept-words (goal.at.loop-n-preserved c).After-advance-step in (
       coursing-step c.loop-n.invariant.0 c.loop-n-test.true (rw c.in-Holds.is at c.advance-step.ensures),
       words.0,
       words.1,

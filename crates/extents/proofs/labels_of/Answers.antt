@@ -40,16 +40,16 @@ returns-then-part c =
     held_none ∙ sym (words-none a.part (held a.words.now) (omega (arith, c.if-part.true)))
 
 pub overflow_mul-result : goal.overflow_mul-result
-overflow_mul-result c = omega (arith, ended c.before.before.before.before.before.before.before)
+overflow_mul-result c = omega (arith, ended (goal.at.overflow_mul-result c).After-labels_in-end)
 
 pub overflow_mul-result-then-part-end : goal.overflow_mul-result-then-part-end
-overflow_mul-result-then-part-end c = omega (arith, ended c.before.before.before.before.before.before.before.before)
+overflow_mul-result-then-part-end c = omega (arith, ended (goal.at.overflow_mul-result-then-part-end c).After-labels_in-end)
 
 pub offset_bounds-words-part : goal.offset_bounds-words-part
-offset_bounds-words-part c = omega (arith, ended c.before.before.before.before.before.before.before.before)
+offset_bounds-words-part c = omega (arith, ended (goal.at.offset_bounds-words-part c).After-labels_in-end)
 
 pub slice_bounds-result-end-then-part-end : goal.slice_bounds-result-end-then-part-end
-slice_bounds-result-end-then-part-end c = omega (arith, ended c.before.before.before.before.before.before.before.before)
+slice_bounds-result-end-then-part-end c = omega (arith, ended (goal.at.slice_bounds-result-end-then-part-end c).After-labels_in-end)
 
 pub returns-then-part-end : goal.returns-then-part-end
 returns-then-part-end c =
@@ -57,16 +57,16 @@ returns-then-part-end c =
     held_cut a.part a.words.now
 
 pub overflow_mul-result-2 : goal.overflow_mul-result-2
-overflow_mul-result-2 c = omega (arith, ended c.before.before.before.before.before.before.before)
+overflow_mul-result-2 c = omega (arith, ended (goal.at.overflow_mul-result-2 c).After-labels_in-end)
 
 pub offset_bounds-words-part-2 : goal.offset_bounds-words-part-2
-offset_bounds-words-part-2 c = omega (arith, ended c.before.before.before.before.before.before.before)
+offset_bounds-words-part-2 c = omega (arith, ended (goal.at.offset_bounds-words-part-2 c).After-labels_in-end)
 
 pub slice_bounds-result-count-2 : goal.slice_bounds-result-count-2
-slice_bounds-result-count-2 c = omega (arith, ended c.before.before.before.before.before.before.before)
+slice_bounds-result-count-2 c = omega (arith, ended (goal.at.slice_bounds-result-count-2 c).After-labels_in-end)
 
 pub slice_bounds-result-start-2 : goal.slice_bounds-result-start-2
-slice_bounds-result-start-2 c = omega (arith, ended c.before.before.before.before.before.before.before)
+slice_bounds-result-start-2 c = omega (arith, ended (goal.at.slice_bounds-result-start-2 c).After-labels_in-end)
 
 pub returns : goal.returns
 returns c =

@@ -30,5 +30,5 @@ returns c =
     let brought = c.bring in
     let cleared = c.clear-2.ensures in
     let u : Within a.set a.work.now = (record { room = omega arith; end = omega arith }) in
-    let left = length brought.new.0 - 2 * (a.set.to - a.set.from) in
-    settled-set u refl (omega arith) brought.ensures left cleared refl (omega (arith, brought.auto.0))
+    let left = length brought.new.work - 2 * (a.set.to - a.set.from) in
+    settled-set u refl (omega arith) brought.ensures left cleared refl (omega (arith, brought.auto.work))

@@ -35,7 +35,7 @@ made c =
     c.if-room_behind-count.branch
 
 pub returns : goal.returns
-returns c = grown (made c.before.before.before.before.before.before.before) c.weave_into.ensures
+returns c = grown (made (goal.at.returns c).Joined-room_behind-count) c.weave_into.ensures
 
 pub shape_of-work : goal.shape_of-work
 shape_of-work c =

@@ -55,12 +55,12 @@ fits c =
 
 pub put_between-requires : goal.put_between-requires
 put_between-requires c =
-    let f = fits c.before in
+    let f = fits (goal.at.put_between-requires c).Else-end-set-2 in
     (f.0, omega (arith, f.1, c.labels_in-count.ensures, c.labels_in-end.ensures))
 
 pub overflow_add-set : goal.overflow_add-set
 overflow_add-set c =
-    omega (arith, (fits c.before.before.before.before.before.before).1, c.labels_in-end.ensures, c.well_formed.0.0, length-held c.args.work.now)
+    omega (arith, (fits (goal.at.overflow_add-set c).Else-end-set-2).1, c.labels_in-end.ensures, c.well_formed.0.0, length-held c.args.work.now)
 
 pub set_part-requires : goal.set_part-requires
 set_part-requires c = tt

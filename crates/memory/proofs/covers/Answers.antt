@@ -26,7 +26,7 @@ much c =
 pub returns-then-not-as_much : goal.returns-then-not-as_much
 returns-then-not-as_much c =
     let a = c.args in
-    let less = sym (not-true c.as_much.result c.if-not-as_much.true-raw) ∙ much c.before in
+    let less = sym (not-true c.as_much.result c.if-not-as_much.true-raw) ∙ much (goal.at.returns-then-not-as_much c).After-as_much in
     covers-fails (held a.rules.now) (code a.a) (code a.b) c.loop-i.i (omega (arith, c.loop-i-test.true)) less
     ∙ sym c.loop-i.invariant
 
@@ -36,7 +36,7 @@ loop-i-smaller c = omega arith
 pub loop-i-preserved : goal.loop-i-preserved
 loop-i-preserved c =
     let a = c.args in
-    let more = sym (not-false c.as_much.result c.if-not-as_much.false-raw) ∙ much c.before in
+    let more = sym (not-false c.as_much.result c.if-not-as_much.false-raw) ∙ much (goal.at.loop-i-preserved c).After-as_much in
     c.loop-i.invariant ∙ covers-on (held a.rules.now) (code a.a) (code a.b) c.loop-i.i (omega (arith, c.loop-i-test.true)) more
 
 pub returns : goal.returns

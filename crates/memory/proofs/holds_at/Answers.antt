@@ -37,7 +37,7 @@ pub returns-then-not-label_is : goal.returns-then-not-label_is
 returns-then-not-label_is c =
     let a = c.args in
     another (held a.memory.now) (held a.rules.now) a.entry a.before (code a.state.rest) (code a.state.sum)
-    (sym (not-true c.label_is.result c.if-not-label_is.true-raw) ∙ looked c.before)
+    (sym (not-true c.label_is.result c.if-not-label_is.true-raw) ∙ looked (goal.at.returns-then-not-label_is c).After-label_is)
 
 pub returns-then-labels_in-at : goal.returns-then-labels_in-at
 returns-then-labels_in-at c =
@@ -49,17 +49,17 @@ pub returns-then-place-before : goal.returns-then-place-before
 returns-then-place-before c =
     let a = c.args in
     fewer-rules (held a.memory.now) (held a.rules.now) a.entry a.before (code a.state.rest) (code a.state.sum)
-    (stands c.before.before.before) (same-label c.before.before.before) (rw (placed c.before) at c.if-place-before.true)
+    (stands (goal.at.returns-then-place-before c).Else-labels_in-at) (same-label (goal.at.returns-then-place-before c).Else-labels_in-at) (rw (placed (goal.at.returns-then-place-before c).After-number_of-place) at c.if-place-before.true)
 
 pub returns-then-place-before-ne0 : goal.returns-then-place-before-ne0
 returns-then-place-before-ne0 c =
     let a = c.args in
     between-rules (held a.memory.now) (held a.rules.now) a.entry a.before (code a.state.rest) (code a.state.sum)
-    (stands c.before.before.before.before) (same-label c.before.before.before.before) (rw (placed c.before.before) at c.if-place-before.false) (rw (placed c.before.before) at c.if-place-before-ne0.true)
+    (stands (goal.at.returns-then-place-before-ne0 c).Else-labels_in-at) (same-label (goal.at.returns-then-place-before-ne0 c).Else-labels_in-at) (rw (placed (goal.at.returns-then-place-before-ne0 c).After-number_of-place) at c.if-place-before.false) (rw (placed (goal.at.returns-then-place-before-ne0 c).After-number_of-place) at c.if-place-before-ne0.true)
 
 pub returns : goal.returns
 returns c =
     let a = c.args in
     c.covers.ensures ∙ ap (covers_in (exchanges_before (held a.rules.now) a.before) (code a.state.rest)) (code_of c.read_label-2.ensures)
     ∙ decided (held a.memory.now) (held a.rules.now) a.entry a.before (code a.state.rest) (code a.state.sum)
-    (stands c.before.before.before.before.before.before) (same-label c.before.before.before.before.before.before) (rw (placed c.before.before.before.before) at c.if-place-before.false) (rw (placed c.before.before.before.before) at c.if-place-before-ne0.false)
+    (stands (goal.at.returns c).Else-labels_in-at) (same-label (goal.at.returns c).Else-labels_in-at) (rw (placed (goal.at.returns c).After-number_of-place) at c.if-place-before.false) (rw (placed (goal.at.returns c).After-number_of-place) at c.if-place-before-ne0.false)

@@ -25,7 +25,7 @@ pub returns-then-same : goal.returns-then-same
 returns-then-same c =
     let a = c.args in
     none-known (held a.memory.now) (held a.rules.now) a.before (code a.state.rest) (code a.state.sum)
-    (sym c.if-same.true ∙ empty c.before)
+    (sym c.if-same.true ∙ empty (goal.at.returns-then-same c).After-same)
 
 pub overflow_mul-first : goal.overflow_mul-first
 overflow_mul-first c = omega (arith, c.slot-first.ensures.1)
@@ -34,7 +34,7 @@ pub loop-way-init : goal.loop-way-init
 loop-way-init c =
     let a = c.args in
     by-slot (held a.memory.now) (held a.rules.now) c.slot-first.result a.before (code a.state.rest) (code a.state.sum)
-    (sym c.if-same.false ∙ empty c.before.before) c.slot-first.ensures.0
+    (sym c.if-same.false ∙ empty (goal.at.loop-way-init c).After-same) c.slot-first.ensures.0
 
 pub overflow_add-first : goal.overflow_add-first
 overflow_add-first c = omega (arith, c.slot-first.ensures.1)

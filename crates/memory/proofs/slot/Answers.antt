@@ -18,10 +18,10 @@ short-of : (c : After-residue-short) → c.residue-short.result < 1000003
 short-of c = rw c.residue-short.ensures (omega arith)
 
 pub overflow_add-short : goal.overflow_add-short
-overflow_add-short c = omega (arith, short-of c)
+overflow_add-short c = omega (arith, short-of (goal.at.overflow_add-short c).After-residue-short)
 
 pub overflow_mul-result : goal.overflow_mul-result
-overflow_mul-result c = omega (arith, square (c.residue-short.result + 1000) (omega (arith, short-of c)))
+overflow_mul-result c = omega (arith, square (c.residue-short.result + 1000) (omega (arith, short-of (goal.at.overflow_mul-result c).After-residue-short)))
 
 pub returns : goal.returns
 unfolding slot_of

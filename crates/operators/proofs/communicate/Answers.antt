@@ -19,23 +19,23 @@ few : (c : After-first_rules-first) â†’ length c.first_rules-first.result.now â‰
 few c = first-few c.args.rules.now c.first_rules-first.result.now c.first_rules-first.ensures
 
 pub overflow_mul-end : goal.overflow_mul-end
-overflow_mul-end c = omega (arith, few c)
+overflow_mul-end c = omega (arith, few (goal.at.overflow_mul-end c).After-first_rules-first)
 
 pub exchanges-requires : goal.exchanges-requires
-exchanges-requires c = few c
+exchanges-requires c = few (goal.at.exchanges-requires c).After-first_rules-first
 
 pub rules_for-list-requires : goal.rules_for-list-requires
-rules_for-list-requires c = omega (arith, few c.before)
+rules_for-list-requires c = omega (arith, few (goal.at.rules_for-list-requires c).After-first_rules-first)
 
 pub overflow_mul-list : goal.overflow_mul-list
-overflow_mul-list c = omega (arith, few c.before.before)
+overflow_mul-list c = omega (arith, few (goal.at.overflow_mul-list c).After-first_rules-first)
 
 pub slice_bounds-list-end : goal.slice_bounds-list-end
-slice_bounds-list-end c = omega (arith, few c.before.before)
+slice_bounds-list-end c = omega (arith, few (goal.at.slice_bounds-list-end c).After-first_rules-first)
 
 pub slice_bounds-close_each-end : goal.slice_bounds-close_each-end
 slice_bounds-close_each-end c =
-    omega (arith, few c.before.before.before, length-take (2 * (length c.first_rules-first.result.now / 3 * 2)) c.rules_for-list.result)
+    omega (arith, few (goal.at.slice_bounds-close_each-end c).After-first_rules-first, length-take (2 * (length c.first_rules-first.result.now / 3 * 2)) c.rules_for-list.result)
 
 pub close_each-closed-requires : goal.close_each-closed-requires
 close_each-closed-requires c = tt
@@ -52,7 +52,7 @@ passes c =
     at c.close_each-closed.ensures
 
 pub returns-in_default : goal.returns-in_default
-returns-in_default c = rw c.in_default.is at (passes c.before.before.before.before)
+returns-in_default c = rw c.in_default.is at (passes (goal.at.returns-in_default c).After-close_each-closed)
 
 pub returns : goal.returns
-returns c = rw c.in-Holds.is at (passes c.before.before.before.before.before)
+returns c = rw c.in-Holds.is at (passes (goal.at.returns c).After-close_each-closed)

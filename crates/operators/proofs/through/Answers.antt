@@ -82,13 +82,13 @@ passes c =
     ]
 
 pub shape_of-out-in_default-made : goal.shape_of-out-in_default-made
-shape_of-out-in_default-made c = same c.before.before
+shape_of-out-in_default-made c = same (goal.at.shape_of-out-in_default-made c).Joined-operator
 
 pub returns-in_default-made : goal.returns-in_default-made
-returns-in_default-made c = rw c.in_default-made.is at (passes c.before.before)
+returns-in_default-made c = rw c.in_default-made.is at (passes (goal.at.returns-in_default-made c).Joined-operator)
 
 pub shape_of-out : goal.shape_of-out
-shape_of-out c = same c.before.before.before
+shape_of-out c = same (goal.at.shape_of-out c).Joined-operator
 
 pub returns : goal.returns
-returns c = rw c.in-Holds.is at (passes c.before.before.before)
+returns c = rw c.in-Holds.is at (passes (goal.at.returns c).Joined-operator)

@@ -44,8 +44,8 @@ loop-i-preserved c =
     let kept = c.take_sum-step.auto in (
       table-holds c.loop-i.invariant.0 (λ room. steady-sum_in room (code label)) c.loop-i-test.true c.read_label.ensures
           (rw c.sum_of-result.ensures at c.take_sum-step.ensures) c.in-Holds.is,
-      kept.0 ∙ c.loop-i.invariant.1,
-      kept.1.0 ∙ c.loop-i.invariant.2,
+      kept.seen ∙ c.loop-i.invariant.1,
+      kept.out.0 ∙ c.loop-i.invariant.2,
     )
 
 pub shape_of-seen : goal.shape_of-seen

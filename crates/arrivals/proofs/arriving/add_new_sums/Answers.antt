@@ -27,7 +27,7 @@ returns-in_default c =
     let news : ℕ → List ℕ = labels_of a.news.now (held a.log.now) in
     let sets : ℕ → List ℕ = labels_of a.sets.now (held a.work.now) in
     sums-large (news a.t) (sets a.t) (news a.u) (sets a.u) a.len (held a.out.now) _
-    (rw c.in_default.is at (first c.before.before.before.before))
+    (rw c.in_default.is at (first (goal.at.returns-in_default c).After-add_sums-first))
 
 pub returns-then-labels_in : goal.returns-then-labels_in
 returns-then-labels_in c =
@@ -37,7 +37,7 @@ returns-then-labels_in c =
     let sets : ℕ → List ℕ = labels_of a.sets.now (held a.work.now) in
     sums-all (news a.t) (sets a.t) (news a.u) (sets a.u) a.len (held a.out.now) _
     (rw (c.labels_of-new.ensures, c.part_at.ensures, c.labels_of-all.ensures, c.part_at-2.ensures) at lengths)
-    (rw c.in-Holds.is at (first c.before.before.before.before.before.before.before.before))
+    (rw c.in-Holds.is at (first (goal.at.returns-then-labels_in c).After-add_sums-first))
 
 -- with the sums that have a new label of the second set, whatever they answer
 both : (c : After-add_sums-second) →
@@ -64,7 +64,7 @@ both c =
     c.add_sums-second.ensures)
 
 pub returns-in_default-second : goal.returns-in_default-second
-returns-in_default-second c = rw c.in_default-second.is at (both c.before.before.before.before)
+returns-in_default-second c = rw c.in_default-second.is at (both (goal.at.returns-in_default-second c).After-add_sums-second)
 
 pub returns : goal.returns
-returns c = rw c.in-Holds-second.is at (both c.before.before.before.before.before)
+returns c = rw c.in-Holds-second.is at (both (goal.at.returns c).After-add_sums-second)

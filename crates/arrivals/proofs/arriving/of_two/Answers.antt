@@ -24,12 +24,12 @@ returns-in_default c =
     let news : ℕ → List ℕ = labels_of a.news.now (held a.log.now) in
     let sets : ℕ → List ℕ = labels_of a.sets.now (held a.work.now) in
     two-large (news a.t) (sets a.t) (news a.u) (sets a.u) (held a.out.now) _ a.sums
-    (rw c.in_default.is at (union c.before.before.before.before))
+    (rw c.in_default.is at (union (goal.at.returns-in_default c).After-joined-first))
 
 pub returns-then-not-sums : goal.returns-then-not-sums
 returns-then-not-sums c =
     let a = c.args in
-    rw (not-true a.sums c.if-not-sums.true-raw) (rw c.in-Holds.is at (union c.before.before.before.before.before.before))
+    rw (not-true a.sums c.if-not-sums.true-raw) (rw c.in-Holds.is at (union (goal.at.returns-then-not-sums c).After-joined-first))
 
 -- with the sums, whatever they answer
 both : (c : After-add_new_sums-made) →
@@ -47,7 +47,7 @@ both c =
     c.add_new_sums-made.ensures)
 
 pub returns-in_default-made : goal.returns-in_default-made
-returns-in_default-made c = rw c.in_default-made.is at (both c.before.before.before.before)
+returns-in_default-made c = rw c.in_default-made.is at (both (goal.at.returns-in_default-made c).After-add_new_sums-made)
 
 pub returns : goal.returns
-returns c = rw c.in-Holds-made.is at (both c.before.before.before.before.before)
+returns c = rw c.in-Holds-made.is at (both (goal.at.returns c).After-add_new_sums-made)

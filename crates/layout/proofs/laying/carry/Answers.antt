@@ -32,7 +32,7 @@ pub loop-i-preserved : goal.loop-i-preserved
 loop-i-preserved c =
     let inv = c.loop-i.invariant in
     let wrote = c.write_label in
-    (carrying-step inv.0 c.loop-i-test.true c.read_label-label.ensures wrote.ensures, wrote.auto.0 ∙ inv.1)
+    (carrying-step inv.0 c.loop-i-test.true c.read_label-label.ensures wrote.ensures, wrote.auto.words ∙ inv.1)
 
 pub shape_of-work : goal.shape_of-work
 shape_of-work c = c.loop-i.invariant.1

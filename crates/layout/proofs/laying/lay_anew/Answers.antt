@@ -56,7 +56,7 @@ pub loop-t-preserved : goal.loop-t-preserved
 loop-t-preserved c =
     let inv = c.loop-t.invariant in
     let moved = c.move_set in
-    (anew-step inv.0 c.loop-t-test.true moved.ensures c.room_after.ensures, moved.auto.0 ∙ inv.1)
+    (anew-step inv.0 c.loop-t-test.true moved.ensures c.room_after.ensures, moved.auto.work ∙ inv.1)
 
 pub set_part-requires : goal.set_part-requires
 set_part-requires c = tt

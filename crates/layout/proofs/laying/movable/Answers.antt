@@ -32,12 +32,12 @@ movable c o =
     }
 
 pub returns-then-set-start : goal.returns-then-set-start
-returns-then-set-start c = let h = c.if-set-start.true in affirms (le-leb _ _ h) (movable c.before.before (inl h))
+returns-then-set-start c = let h = c.if-set-start.true in affirms (le-leb _ _ h) (movable (goal.at.returns-then-set-start c).Else-end-at-2 (inl h))
 
 pub returns-else-set-start : goal.returns-else-set-start
 returns-else-set-start c =
     let a = c.args in
     record {
-      yes = λ e. movable c.before.before.before (inr (leb-true a.end a.set.from e));
+      yes = λ e. movable (goal.at.returns-else-set-start c).Else-end-at-2 (inr (leb-true a.end a.set.from e));
       no = λ e m. ⊎_elim (λ o. omega (arith, c.if-set-start.false)) (λ o. omega (arith, leb-false a.end a.set.from e)) m.outside;
     }

@@ -33,18 +33,18 @@ moves : (c : Else-not-movable) → let a = c.args in
 moves c = c.movable.ensures.yes (not-false _ c.if-not-movable.false-raw)
 
 pub overflow_sub-to : goal.overflow_sub-to
-overflow_sub-to c = (moves c.before).upright
+overflow_sub-to c = (moves (goal.at.overflow_sub-to c).Else-not-movable).upright
 
 pub overflow_add-to : goal.overflow_add-to
-overflow_add-to c = omega (arith, (moves c.before).fits)
+overflow_add-to c = omega (arith, (moves (goal.at.overflow_add-to c).Else-not-movable).fits)
 
 pub overflow_sub-set : goal.overflow_sub-set
-overflow_sub-set c = (moves c.before.before.before).upright
+overflow_sub-set c = (moves (goal.at.overflow_sub-set c).Else-not-movable).upright
 
 pub carry-requires : goal.carry-requires
 carry-requires c =
     let p = c.requires in
-    copied (moves c.before.before.before) c.labels_in.ensures p.0 p.2
+    copied (moves (goal.at.carry-requires c).Else-not-movable) c.labels_in.ensures p.0 p.2
 
 pub set_part-requires : goal.set_part-requires
 set_part-requires c = tt
@@ -52,7 +52,7 @@ set_part-requires c = tt
 pub returns : goal.returns
 returns c =
     let p = c.requires in
-    moved-set c.part_at-set.ensures (moves c.before.before.before.before.before.before.before.before.before.before) p.0 p.2 c.carry.ensures c.set_part.ensures
+    moved-set c.part_at-set.ensures (moves (goal.at.returns c).Else-not-movable) p.0 p.2 c.carry.ensures c.set_part.ensures
 
 pub shape_of-work : goal.shape_of-work
 shape_of-work c = c.carry.auto.work

@@ -24,9 +24,9 @@ unfolding code
 takes-some left fits h e = rw (← e, lt-ltb (code left) (2 ^ 124) (omega arith))
 
 pub returns-then-same : goal.returns-then-same
-returns-then-same c = takes-nothing _ (sym c.if-same.true ∙ none c.before)
+returns-then-same c = takes-nothing _ (sym c.if-same.true ∙ none (goal.at.returns-then-same c).After-same)
 
 pub returns-else-same : goal.returns-else-same
 returns-else-same c =
     let left = c.args.left in
-    c.inside.ensures ∙ takes-some left _ (omega arith) (sym c.if-same.false ∙ none c.before.before)
+    c.inside.ensures ∙ takes-some left _ (omega arith) (sym c.if-same.false ∙ none (goal.at.returns-else-same c).After-same)

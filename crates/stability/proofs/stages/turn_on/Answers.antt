@@ -39,13 +39,13 @@ pub shape_of-news-in_default : goal.shape_of-news-in_default
 shape_of-news-in_default c = (returns c).kept.news_long
 
 pub shape_of-work-in_default : goal.shape_of-work-in_default
-shape_of-work-in_default c = (kept-words c.before.before.before.before.before.before.before.before.before.before.before.before).0
+shape_of-work-in_default c = (kept-words (goal.at.shape_of-work-in_default c).After-course-to).0
 
 pub shape_of-log-in_default : goal.shape_of-log-in_default
-shape_of-log-in_default c = (kept-words c.before.before.before.before.before.before.before.before.before.before.before.before).1
+shape_of-log-in_default c = (kept-words (goal.at.shape_of-log-in_default c).After-course-to).1
 
 pub shape_of-out-in_default : goal.shape_of-out-in_default
-shape_of-out-in_default c = (kept-words c.before.before.before.before.before.before.before.before.before.before.before.before).2
+shape_of-out-in_default c = (kept-words (goal.at.shape_of-out-in_default c).After-course-to).2
 
 pub overflow_add-k : goal.overflow_add-k
 overflow_add-k c = omega arith
@@ -66,22 +66,22 @@ shape_of-news-then-not-hand_on c = (returns-2 c).kept.news_long
 
 pub shape_of-work-then-not-hand_on : goal.shape_of-work-then-not-hand_on
 shape_of-work-then-not-hand_on c =
-    (kept-words c.before.before.before.before.before.before.before.before.before.before.before.before.before.before.before.before.before.before).0
+    (kept-words (goal.at.shape_of-work-then-not-hand_on c).After-course-to).0
 
 pub shape_of-log-then-not-hand_on : goal.shape_of-log-then-not-hand_on
 shape_of-log-then-not-hand_on c =
-    (kept-words c.before.before.before.before.before.before.before.before.before.before.before.before.before.before.before.before.before.before).1
+    (kept-words (goal.at.shape_of-log-then-not-hand_on c).After-course-to).1
 
 pub shape_of-out-then-not-hand_on : goal.shape_of-out-then-not-hand_on
 shape_of-out-then-not-hand_on c =
-    (kept-words c.before.before.before.before.before.before.before.before.before.before.before.before.before.before.before.before.before.before).2
+    (kept-words (goal.at.shape_of-out-then-not-hand_on c).After-course-to).2
 
 pub loop-k-smaller : goal.loop-k-smaller
 loop-k-smaller c = omega arith
 
 pub loop-k-preserved : goal.loop-k-preserved
 loop-k-preserved c =
-    let words = kept-words c.before.before.before.before.before.before.before.before.before.before.before.before.before.before.before.before.before.before in (
+    let words = kept-words (goal.at.loop-k-preserved c).After-course-to in (
       turned-step c.requires c.loop-k.invariant.0 (rw c.in-Holds.is at c.course-to.ensures)
           (rw (not-false c.hand_on.result c.if-not-hand_on.false-raw) at c.hand_on.ensures),
       words.0,

@@ -12,7 +12,7 @@ empty c =
     sym (c.same.ensures ∙ ap (eqb w) (code_of c.tau.ensures))
 
 pub returns-then-same : goal.returns-then-same
-returns-then-same c = rw (empty c.before, c.if-same.true)
+returns-then-same c = rw (empty (goal.at.returns-then-same c).After-same, c.if-same.true)
 
 pub returns : goal.returns
-returns c = rw (empty c.before.before, c.if-same.false) c.label_is.ensures
+returns c = rw (empty (goal.at.returns c).After-same, c.if-same.false) c.label_is.ensures
