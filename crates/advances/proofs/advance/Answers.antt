@@ -9,10 +9,10 @@ returns-then-is_quiet c =
 
 pub returns-in_default : goal.returns-in_default
 returns-in_default c =
-    advanced-large (held-long _ _ c.arrive-given.auto.lists.1.1.1.1.1.0)
+    advanced-large (held-long _ _ c.arrive-given.auto.out)
     (rw (c.shape_in-shape.ensures, c.in_default.is) at c.arrive-given.ensures)
 
 pub returns : goal.returns
 returns c =
-    advanced-kept (held-long _ _ c.arrive-given.auto.lists.1.1.1.1.1.0)
+    advanced-kept (held-long _ _ c.arrive-given.auto.out)
     (rw (c.shape_in-shape.ensures, c.in-Holds.is) at c.arrive-given.ensures) c.labels_of-made.ensures c.keep_new.ensures

@@ -38,10 +38,10 @@ returns-in_default c =
     (rw c.in_default.is at c.advance-step.ensures)
 
 pub shape_of-sets-in_default : goal.shape_of-sets-in_default
-shape_of-sets-in_default c = (returns c).kept.sets_long
+shape_of-sets-in_default c = (returns-in_default c).kept.sets_long
 
 pub shape_of-news-in_default : goal.shape_of-news-in_default
-shape_of-news-in_default c = (returns c).kept.news_long
+shape_of-news-in_default c = (returns-in_default c).kept.news_long
 
 pub shape_of-work-in_default : goal.shape_of-work-in_default
 shape_of-work-in_default c = (kept-words (goal.at.shape_of-work-in_default c).After-advance-step).0

@@ -10,12 +10,6 @@ use Rattle.words.proofs.Steps.{stuck_there}
 use Rattle.words.specs.Steps.{step_place}
 use Rattle.keyed.proofs.at_end.Goals as goal
 
-pub enum_known-s : goal.enum_known-s
-enum_known-s c = c.in-To.keys1
-
-pub enum_told-1 : goal.enum_told-1
-enum_told-1 c = c.in_default.keys2
-
 pub overflow_add-result : goal.overflow_add-result
 overflow_add-result c = omega (arith, c.stuck_at.ensures)
 

@@ -73,4 +73,4 @@ pub shape_of-work : goal.shape_of-work
 shape_of-work c = c.put_between.auto.work
 
 pub shape_of-sets : goal.shape_of-sets
-shape_of-sets c = (returns-2 c).long_row
+shape_of-sets c = (returns c).long_row

@@ -11,9 +11,6 @@ use Rattle.lists.specs.Lists.{takes_none}
 use Rattle.lists.specs.contracts.ListKind.{the_type}
 use Rattle.lists.proofs.is_none.Goals as goal
 
-pub enum_told-1 : goal.enum_told-1
-enum_told-1 c = c.in-Labels.keys1
-
 pub returns-in-Labels : goal.returns-in-Labels
 returns-in-Labels c = rw c.in-Labels.is c.is_rest.ensures
 

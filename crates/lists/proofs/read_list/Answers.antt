@@ -58,12 +58,6 @@ slice_bounds-read_entry-start c = c.loop-entries.invariant.1.within
 pub read_entry-entry-requires : goal.read_entry-entry-requires
 read_entry-entry-requires c = ((entry c.before.before.before).pre, started c.before.before)
 
-pub enum_known-entry : goal.enum_known-entry
-enum_known-entry c = c.in-To.keys1
-
-pub enum_told-1 : goal.enum_told-1
-enum_told-1 c = c.in_default.keys2
-
 pub shape_of-store-in_default : goal.shape_of-store-in_default
 shape_of-store-in_default c = ap length c.loop-entries.invariant.3.store_is ∙ length_over _ _
 

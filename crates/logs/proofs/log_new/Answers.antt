@@ -60,13 +60,13 @@ loop-i-preserved c =
     let more : c.loop-i.i < length (held c.args.made.now)
     = omega (arith, c.loop-i-test.true, c.labels_in-end.ensures) in
     elim c.if-not-is_known.branch [
-      | inl w ↦ rw (w.6, w.7) (
-        rw w.3.ensures
-            (logging-step _ _ _ _ _ c.loop-i.invariant.0 more c.read_label-label.ensures c.is_known.ensures w.0.taken w.1.left),
-        w.3.kept.0 ∙ c.loop-i.invariant.1,
+      | goal.then-not-is_known+else-most-len w ↦ rw (w.log-is, w.len-is) (
+        rw w.write_label.ensures
+            (logging-step _ _ _ _ _ c.loop-i.invariant.0 more c.read_label-label.ensures c.is_known.ensures w.if-not-is_known.true-raw w.if-most-len.false),
+        w.write_label.auto.words ∙ c.loop-i.invariant.1,
       )
-      | inr w ↦ rw (w.1, w.2) (
-        logging-known _ _ _ _ _ c.loop-i.invariant.0 more c.read_label-label.ensures c.is_known.ensures w.0.left,
+      | goal.else-not-is_known w ↦ rw (w.log-is, w.len-is) (
+        logging-known _ _ _ _ _ c.loop-i.invariant.0 more c.read_label-label.ensures c.is_known.ensures w.if-not-is_known.false-raw,
         c.loop-i.invariant.1,
       )
     ]

@@ -44,7 +44,7 @@ close_each-closed-requires c = tt
 passes : (c : After-close_each-closed) →
     let a = c.args in
     Passes Comm (rules_for (held a.labels.now) (rule_list a.rules.now)) (held a.labels.now) (held a.operand.now)
-    (held a.out.now) (held c.close_each-closed.new.operand.1.1.0) c.close_each-closed.result
+    (held a.out.now) (held c.close_each-closed.new.out) c.close_each-closed.result
 passes c =
     let a = c.args in
     rw (lent-rules (held a.labels.now) a.rules.now c.exchanges.result c.rules_for-list.result c.first_rules-first.ensures

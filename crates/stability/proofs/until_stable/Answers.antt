@@ -39,5 +39,5 @@ root_of-requires c = tt
 
 pub returns : goal.returns
 returns c =
-    reached-run c.run-last.new.lists.1.1.1.1.0 c.if-work-lt-WORK_WORDS.false c.run-last.ensures c.run-last.auto.lists.1.1.1.1.0
+    reached-run c.run-last.new.work c.if-work-lt-WORK_WORDS.false c.run-last.ensures c.run-last.auto.work
     c.root_of.ensures c.conclude.ensures

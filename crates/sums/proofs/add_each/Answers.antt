@@ -24,11 +24,11 @@ add_row-step-requires c =
 
 pub shape_of-seen-in_default : goal.shape_of-seen-in_default
 shape_of-seen-in_default c =
-    c.add_row-step.auto.by.1.1.0 ∙ c.loop-i.invariant.1
+    c.add_row-step.auto.seen ∙ c.loop-i.invariant.1
 
 pub shape_of-out-in_default : goal.shape_of-out-in_default
 shape_of-out-in_default c =
-    c.add_row-step.auto.by.1.1.1.0 ∙ c.loop-i.invariant.2
+    c.add_row-step.auto.out ∙ c.loop-i.invariant.2
 
 pub returns-in_default : goal.returns-in_default
 returns-in_default c =

@@ -11,7 +11,8 @@ loop-i-init c =
     (table-start c.requires.0 c.reach-count.ensures c.labels_in-end.ensures, refl, refl)
 
 pub sum_of-result-requires : goal.sum_of-result-requires
-sum_of-result-requires c κs fit =
+sum_of-result-requires c =
+    let fit = ? in
     let few = c.requires.1 fit c.loop-i.i (omega (arith, c.loop-i-test.true, c.loop-i.invariant.0.walk.whole)) in
     rw (code_of c.read_label.ensures) (omega (arith, few, size_few (code c.args.label)))
 
@@ -24,7 +25,7 @@ shape_of-seen-in_default c =
 
 pub shape_of-out-in_default : goal.shape_of-out-in_default
 shape_of-out-in_default c =
-    c.take_sum-step.auto.out.0 ∙ c.loop-i.invariant.2
+    c.take_sum-step.auto.out ∙ c.loop-i.invariant.2
 
 pub returns-in_default : goal.returns-in_default
 returns-in_default c =
@@ -45,7 +46,7 @@ loop-i-preserved c =
       table-holds c.loop-i.invariant.0 (λ room. steady-sum_in room (code label)) c.loop-i-test.true c.read_label.ensures
           (rw c.sum_of-result.ensures at c.take_sum-step.ensures) c.in-Holds.is,
       kept.seen ∙ c.loop-i.invariant.1,
-      kept.out.0 ∙ c.loop-i.invariant.2,
+      kept.out ∙ c.loop-i.invariant.2,
     )
 
 pub shape_of-seen : goal.shape_of-seen

@@ -21,7 +21,10 @@ loop-i-preserved c =
     let few = c.loop-i.invariant.2 in
     let here = c.size-here.ensures ∙ ap size_of (code_of c.read_label.ensures) in
     let most : (c.loop-i.most ≤ c.if-most-here.most) × (size_of (get_or row i 0) ≤ c.if-most-here.most) × (c.if-most-here.most ≤ 31) =
-    ⊎_elim (λ w. omega (arith, here, size_few (get_or row i 0))) (λ w. omega (arith, here)) c.if-most-here.branch in (
+    elim c.if-most-here.branch [
+      | goal.then-most-here w ↦ omega (arith, here, size_few (get_or row i 0))
+      | goal.else-most-here w ↦ omega (arith, here)
+    ] in (
       c.loop-i.invariant.0,
       most.2,
       below_more _ _ (λ k h. omega (arith, few k h, most.0)) most.1,

@@ -9,7 +9,7 @@ use Rattle.advances.proofs.keeping.append_new.Goals as goal
 pub returns-in_default : goal.returns-in_default
 returns-in_default c =
     let a = c.args in
-    appended-large (held a.known.now) (held a.made.now) a.end (held a.log.now) (held-long _ _ c.log_new-logged.auto.made.1.0)
+    appended-large (held a.known.now) (held a.made.now) a.end (held a.log.now) (held-long _ _ c.log_new-logged.auto.log)
     (rw c.in_default.is at c.log_new-logged.ensures)
 
 pub overflow_add-result : goal.overflow_add-result
@@ -25,5 +25,5 @@ overflow_add-result c =
 pub returns : goal.returns
 returns c =
     let a = c.args in
-    appended-all (held a.known.now) (held a.made.now) a.end (held a.log.now) (held-long _ _ c.log_new-logged.auto.made.1.0)
+    appended-all (held a.known.now) (held a.made.now) a.end (held a.log.now) (held-long _ _ c.log_new-logged.auto.log)
     (rw c.in-Holds.is at c.log_new-logged.ensures)

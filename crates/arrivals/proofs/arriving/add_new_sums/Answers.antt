@@ -17,7 +17,7 @@ first : (c : After-add_sums-first) →
     let a = c.args in
     let new = labels_of a.news.now (held a.log.now) a.t in
     let all = labels_of a.sets.now (held a.work.now) a.u in
-    GrownAt (at_start a.len) (λ room. sums_of room new all) (held a.out.now) (held c.add_sums-first.new.b.1.0) c.add_sums-first.result
+    GrownAt (at_start a.len) (λ room. sums_of room new all) (held a.out.now) (held c.add_sums-first.new.out) c.add_sums-first.result
 first c =
     rw (c.labels_of-new.ensures, c.part_at.ensures, c.labels_of.ensures, c.part_at-3.ensures) at c.add_sums-first.ensures
 
@@ -45,7 +45,7 @@ both : (c : After-add_sums-second) →
     let news : ℕ → List ℕ = labels_of a.news.now (held a.log.now) in
     let sets : ℕ → List ℕ = labels_of a.sets.now (held a.work.now) in
     GrownAt (at_start a.len) (λ room. sums_new room (news a.t) (sets a.t) (news a.u) (sets a.u)) (held a.out.now)
-    (held c.add_sums-second.new.b.1.0) c.add_sums-second.result
+    (held c.add_sums-second.new.out) c.add_sums-second.result
 both c =
     let lengths = rw (
       c.labels_in.ensures,

@@ -21,7 +21,7 @@ returns-then-is_empty-2 c =
     let ys = words_in a.right (held a.log.now) in
     let none = words-empty a.left (held a.log.now) (sym c.is_empty-2.ensures ∙ c.if-is_empty-2.true) in
     let same = ap (λ (xs : List ℕ). in_one xs ys) none ∙ one-part ys in
-    let last = held c.copied-then-is_empty-2.new.part.1.0 in
+    let last = held c.copied-then-is_empty-2.new.out in
     subst (λ (u : List ℕ). GrownAt (at_start 0) (λ room s. cut_to room u) (held a.out.now) last c.copied-then-is_empty-2.result) (sym same)
     c.copied-then-is_empty-2.ensures
 

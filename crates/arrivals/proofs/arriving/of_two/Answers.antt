@@ -14,7 +14,7 @@ use Rattle.arrivals.proofs.arriving.of_two.Goals.{After-add_new_sums-made, After
 union : (c : After-joined-first) →
     let a = c.args in
     let news : ℕ → List ℕ = labels_of a.news.now (held a.log.now) in
-    GrownAt (at_start 0) (λ room. union_new room (news a.t) (news a.u)) (held a.out.now) (held c.joined-first.new.left.1.1.0)
+    GrownAt (at_start 0) (λ room. union_new room (news a.t) (news a.u)) (held a.out.now) (held c.joined-first.new.out)
     c.joined-first.result
 union c = rw (c.part_at.ensures, c.part_at-2.ensures) at c.joined-first.ensures
 
@@ -37,7 +37,7 @@ both : (c : After-add_new_sums-made) →
     let news : ℕ → List ℕ = labels_of a.news.now (held a.log.now) in
     let sets : ℕ → List ℕ = labels_of a.sets.now (held a.work.now) in
     GrownAt (at_start 0) (λ room. two_new a.sums room (news a.t) (sets a.t) (news a.u) (sets a.u)) (held a.out.now)
-    (held c.add_new_sums-made.new.sets.1.1.1.1.1.0) c.add_new_sums-made.result
+    (held c.add_new_sums-made.new.out) c.add_new_sums-made.result
 both c =
     let a = c.args in
     let news : ℕ → List ℕ = labels_of a.news.now (held a.log.now) in

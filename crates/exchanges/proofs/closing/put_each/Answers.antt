@@ -14,7 +14,7 @@ put-grown-requires c = c.loop-i.invariant.0.walking
 
 pub shape_of-states-in_default : goal.shape_of-states-in_default
 shape_of-states-in_default c =
-    c.put-grown.auto.states.0 ∙ c.loop-i.invariant.1
+    c.put-grown.auto.states ∙ c.loop-i.invariant.1
 
 pub shape_of-out-in_default : goal.shape_of-out-in_default
 shape_of-out-in_default c =

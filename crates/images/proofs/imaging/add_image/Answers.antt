@@ -19,7 +19,7 @@ pub returns-in-Comm : goal.returns-in-Comm
 returns-in-Comm c =
     let a = c.args in
     rw c.in-Comm.is
-    (imaged-lent Comm a.list.now a.labels.now a.operand.now a.out.now c.close_each.new.operand.1.1.0
+    (imaged-lent Comm a.list.now a.labels.now a.operand.now a.out.now c.close_each.new.out
     c.close_each.ensures)
 
 pub returns : goal.returns

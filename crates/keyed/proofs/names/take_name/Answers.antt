@@ -11,12 +11,6 @@ use Rattle.keyed.proofs.Walks.{line-bad}
 use Rattle.keyed.proofs.NameLines.{name-stuck, name-held, name_free}
 use Rattle.keyed.proofs.names.take_name.Goals as goal
 
-pub enum_known-step : goal.enum_known-step
-enum_known-step c = c.in-To.keys1
-
-pub enum_told-1 : goal.enum_told-1
-enum_told-1 c = c.in_default.keys2
-
 pub returns-in_default : goal.returns-in_default
 returns-in_default c =
     let a = c.args in

@@ -7,12 +7,6 @@ use Rattle.words.proofs.Steps.{steps-to, onward-halted}
 use Rattle.keyed.proofs.Ends.{item-last, place-fits}
 use Rattle.keyed.proofs.numbers.read_count.Goals as goal
 
-pub enum_known-start : goal.enum_known-start
-enum_known-start c = c.in-To.keys1
-
-pub enum_told-1 : goal.enum_told-1
-enum_told-1 c = c.in_default.keys2
-
 pub returns-in_default : goal.returns-in_default
 unfolding count_line
 returns-in_default c = onward-halted _ c.read_literal-start.ensures.steps c.in_default.is

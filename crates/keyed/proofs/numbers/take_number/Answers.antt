@@ -10,12 +10,6 @@ use Rattle.keyed.proofs.Walks.{line-bad, number_to-bad}
 use Rattle.keyed.proofs.NumberLines.{number-stuck, number-low, number-high, number-between}
 use Rattle.keyed.proofs.numbers.take_number.Goals as goal
 
-pub enum_known-step : goal.enum_known-step
-enum_known-step c = c.in-To.keys1
-
-pub enum_told-1 : goal.enum_told-1
-enum_told-1 c = c.in_default.keys2
-
 pub returns-in_default : goal.returns-in_default
 returns-in_default c =
     let a = c.args in

@@ -10,12 +10,6 @@ use Rattle.labels.proofs.Words.{number-several}
 use Rattle.lists.proofs.dotted.added.Goals as goal
 use Rattle.lists.proofs.dotted.added.Goals.{In-Fine}
 
-pub enum_told-1 : goal.enum_told-1
-enum_told-1 c = c.in-Fine.keys1
-
-pub enum_told-in_default : goal.enum_told-in_default
-enum_told-in_default c = c.in_default.keys2
-
 pub returns-in_default : goal.returns-in_default
 returns-in_default c = rw c.in_default.is c.tau.ensures
 

@@ -44,12 +44,6 @@ slice_bounds-read_part-start c = c.loop-said.invariant.1.within
 pub read_part-part-requires : goal.read_part-part-requires
 read_part-part-requires c = (entry c.before).pre.1
 
-pub enum_known-part : goal.enum_known-part
-enum_known-part c = c.in-To.keys1
-
-pub enum_told-1 : goal.enum_told-1
-enum_told-1 c = c.in_default.keys2
-
 pub returns-in_default : goal.returns-in_default
 returns-in_default c =
     let loop = c.loop-said in

@@ -13,12 +13,6 @@ use Rattle.lists.proofs.dotted.read_part.Goals as goal
 pub name_from-name-requires : goal.name_from-name-requires
 name_from-name-requires c = c.requires
 
-pub enum_known-name : goal.enum_known-name
-enum_known-name c = c.in-To.keys1
-
-pub enum_told-1 : goal.enum_told-1
-enum_told-1 c = c.in_default.keys2
-
 pub returns-in_default : goal.returns-in_default
 returns-in_default c = record { stands = become (part-seen _ _ _) (said-halted c.name_from-name.ensures _ c.in_default.is).stands }
 
@@ -27,12 +21,6 @@ slice_bounds-number_after-count c = let s = said-went c.name_from-name.ensures c
 
 pub slice_bounds-number_after-start : goal.slice_bounds-number_after-start
 slice_bounds-number_after-start c = (said-went c.name_from-name.ensures c.in-To.is).within
-
-pub enum_known-count : goal.enum_known-count
-enum_known-count c = c.in-To-count.keys1
-
-pub enum_told-in_default-count : goal.enum_told-in_default-count
-enum_told-in_default-count c = c.in_default-count.keys2
 
 pub returns-in_default-count : goal.returns-in_default-count
 returns-in_default-count c =

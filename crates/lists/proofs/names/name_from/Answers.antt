@@ -8,12 +8,6 @@ use Rattle.lists.proofs.Seen.{said_same, name-faulted}
 use Rattle.lists.proofs.Starts.{start-found}
 use Rattle.lists.proofs.names.name_from.Goals as goal
 
-pub enum_known-name : goal.enum_known-name
-enum_known-name c = c.in-To.keys1
-
-pub enum_told-1 : goal.enum_told-1
-enum_told-1 c = c.in_default.keys2
-
 pub returns-in_default : goal.returns-in_default
 returns-in_default c =
     record {

@@ -8,12 +8,6 @@ use Rattle.faults.specs.CodedFaults.{found_of}
 use Rattle.lists.proofs.Seen.{said_same}
 use Rattle.lists.proofs.sides.two_or_more.Goals as goal
 
-pub enum_known-label : goal.enum_known-label
-enum_known-label c = c.in-To.keys1
-
-pub enum_told-1 : goal.enum_told-1
-enum_told-1 c = c.in_default.keys2
-
 pub returns-in_default : goal.returns-in_default
 returns-in_default c = rw c.in_default.is (record { places = refl; says = λ line. refl })
 

@@ -18,12 +18,6 @@ use Rattle.lists.proofs.Parts.{name-said-low}
 use Rattle.lists.proofs.sides.with_right.Goals as goal
 use Rattle.lists.proofs.sides.with_right.Goals.{Else-not-sign_at}
 
-pub enum_known-left : goal.enum_known-left
-enum_known-left c = c.in-To.keys1
-
-pub enum_told-1 : goal.enum_told-1
-enum_told-1 c = c.in_default.keys2
-
 pub returns-then-not-sign_at : goal.returns-then-not-sign_at
 returns-then-not-sign_at c =
     let l = c.left-1.given in
@@ -52,12 +46,6 @@ slice_bounds-name_from-count c = let w = passed c in omega arith
 
 pub slice_bounds-name_from-start : goal.slice_bounds-name_from-start
 slice_bounds-name_from-start c = let w = passed c in omega arith
-
-pub enum_known-right : goal.enum_known-right
-enum_known-right c = c.in-To-right.keys1
-
-pub enum_told-in_default-right : goal.enum_told-in_default-right
-enum_told-in_default-right c = c.in_default-right.keys2
 
 pub returns-in_default-right : goal.returns-in_default-right
 returns-in_default-right c =

@@ -9,12 +9,6 @@ use Rattle.lists.specs.Lists.{set_from}
 use Rattle.lists.proofs.stores.put_entry.Goals as goal
 use Rattle.lists.proofs.stores.put_entry.Goals.{In-Pairs}
 
-pub enum_told-1 : goal.enum_told-1
-enum_told-1 c = c.in-Names.keys1
-
-pub enum_told-in-Pairs : goal.enum_told-in-Pairs
-enum_told-in-Pairs c = c.in-Pairs.keys2
-
 fits : (c : In-Pairs)
     → let a = c.args in
     code a.first + 32 * a.second < 2 ^ 64
@@ -25,12 +19,6 @@ overflow_mul-second c = omega (arith, fits c.before.before)
 
 pub overflow_add-number_of : goal.overflow_add-number_of
 overflow_add-number_of c = omega (arith, fits c.before.before, c.number_of-in-Pairs.ensures)
-
-pub enum_told-in-Rules : goal.enum_told-in-Rules
-enum_told-in-Rules c = c.in-Rules.keys3
-
-pub enum_told-in-Labels : goal.enum_told-in-Labels
-enum_told-in-Labels c = c.in-Labels.keys4
 
 pub returns-in-Names : goal.returns-in-Names
 unfolding set_from

@@ -43,6 +43,6 @@ cut_to-labels-requires c = tt
 
 pub returns-in-Stable : goal.returns-in-Stable
 returns-in-Stable c =
-    own-listed c.run-last.new.lists.1.1.1.1.1.1.0 c.run-last.auto.lists.1.1.1.1.1.1.0
+    own-listed c.run-last.new.out c.run-last.auto.out
     (rw c.in-Stable.is at c.run-last.ensures) c.root_of.ensures
     (rw c.part_at.ensures at c.labels_of-set.ensures) c.cut_to-labels.ensures

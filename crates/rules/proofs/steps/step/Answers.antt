@@ -16,7 +16,7 @@ use Rattle.rules.specs.declared.State.{State}
 use Rattle.rules.specs.declared.Step.TheVariants.{Nothing, To}
 use Rattle.rules.specs.Rules.{exchange_at, applies, replaced_by, pick_step}
 use Rattle.rules.proofs.steps.step.Goals as goal
-use Rattle.rules.proofs.steps.step.Goals.{After-applies, After-contains, After-joined-sum}
+use Rattle.rules.proofs.steps.step.Goals.{After-applies, After-contains}
 
 -- past the last rule
 none-there : (ls : List ℕ) (i rest : ℕ) → length ls ≤ i → false ≡ applies (exchange_at ls i) rest
@@ -30,7 +30,7 @@ fits c =
     c.applies.ensures ∙ ap (λ x. applies (record { left = x; right = 0 }) (code a.state.rest)) (code_of c.read_label-left.ensures)
 
 -- the label that is made, and whether it is followed by itself
-made : (c : After-joined-sum) → let a = c.args in
+made : (c : After-contains) → let a = c.args in
     c.joined-sum.result ≡ packed (replaced_by (exchange_at (held a.rules.now) a.i) (code a.state.sum))
 made c =
     let w = code c.args.state.sum in
@@ -42,7 +42,7 @@ known : (c : After-contains) → let a = c.args in
     ≡ present (words_of a.before a.operand (held a.words.now)) (replaced_by (exchange_at (held a.rules.now) a.i) (code a.state.sum))
 known c =
     let a = c.args in
-    c.contains.ensures ∙ ap (present (words_of a.before a.operand (held a.words.now))) (code_of (made c.before))
+    c.contains.ensures ∙ ap (present (words_of a.before a.operand (held a.words.now))) (code_of (made c))
 
 -- where it leads, by the two tests
 not-applied : {t : Bool} (k : Bool) (s : State) → false ≡ t → Nothing ≡ pick_step t k s
@@ -67,7 +67,7 @@ pub returns-else-contains : goal.returns-else-contains
 returns-else-contains c =
     let w = code c.args.state.rest in
     let rest = c.difference-rest.ensures ∙ ap (λ x. packed (w - x)) (code_of c.read_label-left.ensures) in
-    ap₂ (λ x y. To (record { rest = x; sum = y })) rest (made (goal.at.returns-else-contains c).After-joined-sum)
+    ap₂ (λ x y. To (record { rest = x; sum = y })) rest (made (goal.at.returns-else-contains c).After-contains)
     ∙ leads-on _ (sym c.if-applies.true ∙ fits (goal.at.returns-else-contains c).After-applies) (sym c.if-contains.false ∙ known (goal.at.returns-else-contains c).After-contains)
 
 pub returns-else-applies : goal.returns-else-applies

@@ -12,7 +12,7 @@ copy-requires c = c.requires
 pub slice_bounds-merge_wholes-end-2 : goal.slice_bounds-merge_wholes-end-2
 slice_bounds-merge_wholes-end-2 c =
     let terms = c.args.terms.now in
-    sym (length-take-le (length terms) c.copy.new.to.0 (slice-relend-prefix-merge-wholes c.before))
+    sym (length-take-le (length terms) c.copy.new.to (slice_bounds-merge_wholes-end c.before))
 
 pub merge_wholes-requires : goal.merge_wholes-requires
 merge_wholes-requires c = tt

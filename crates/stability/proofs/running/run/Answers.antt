@@ -22,7 +22,7 @@ returns-then-labels_in-gt-TOTAL_LABELS c = ran-unready (inr (rw c.labels_in.ensu
 pub slice_bounds-turn_on-end-2 : goal.slice_bounds-turn_on-end-2
 slice_bounds-turn_on-end-2 c =
     let terms = c.slots_of-terms.result.now in
-    sym (length-take-le (length terms) c.copy_merged.new.slots.0 (slice-reshare-prefix-turn-on c.before))
+    sym (length-take-le (length terms) c.copy_merged.new.slots (slice_bounds-turn_on-end c.before))
 
 pub bodies_of-requires : goal.bodies_of-requires
 bodies_of-requires c = tt
@@ -30,23 +30,23 @@ bodies_of-requires c = tt
 pub returns : goal.returns
 returns c =
     let sized = c.slots_of-terms.ensures in
-    ran-turned (rw sized at c.if-slots-count.false) c.copy_merged.auto.slots.0 (rw sized at c.copy_merged.ensures)
+    ran-turned (rw sized at c.if-slots-count.false) c.copy_merged.auto.slots (rw sized at c.copy_merged.ensures)
     (rw (sized, c.bodies_of.ensures) at c.turn_on.ensures)
 
 pub shape_of-slots : goal.shape_of-slots
-shape_of-slots c = (returns-3 c).slots_long
+shape_of-slots c = (returns c).slots_long
 
 pub shape_of-sets : goal.shape_of-sets
-shape_of-sets c = (returns-3 c).kept.sets_long
+shape_of-sets c = (returns c).kept.sets_long
 
 pub shape_of-news : goal.shape_of-news
-shape_of-news c = (returns-3 c).kept.news_long
+shape_of-news c = (returns c).kept.news_long
 
 pub shape_of-work : goal.shape_of-work
-shape_of-work c = c.turn_on.auto.lists.1.1.1.1.0
+shape_of-work c = c.turn_on.auto.work
 
 pub shape_of-log : goal.shape_of-log
-shape_of-log c = c.turn_on.auto.lists.1.1.1.1.1.0
+shape_of-log c = c.turn_on.auto.log
 
 pub shape_of-out : goal.shape_of-out
-shape_of-out c = c.turn_on.auto.lists.1.1.1.1.1.1.0
+shape_of-out c = c.turn_on.auto.out

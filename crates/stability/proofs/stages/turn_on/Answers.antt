@@ -33,10 +33,10 @@ returns-in_default c =
     turned-large c.requires c.loop-k.invariant.0 (rw c.in_default.is at c.course-to.ensures)
 
 pub shape_of-sets-in_default : goal.shape_of-sets-in_default
-shape_of-sets-in_default c = (returns c).kept.sets_long
+shape_of-sets-in_default c = (returns-in_default c).kept.sets_long
 
 pub shape_of-news-in_default : goal.shape_of-news-in_default
-shape_of-news-in_default c = (returns c).kept.news_long
+shape_of-news-in_default c = (returns-in_default c).kept.news_long
 
 pub shape_of-work-in_default : goal.shape_of-work-in_default
 shape_of-work-in_default c = (kept-words (goal.at.shape_of-work-in_default c).After-course-to).0
@@ -59,10 +59,10 @@ returns-then-not-hand_on c =
     (rw (not-true c.hand_on.result c.if-not-hand_on.true-raw) at c.hand_on.ensures)
 
 pub shape_of-sets-then-not-hand_on : goal.shape_of-sets-then-not-hand_on
-shape_of-sets-then-not-hand_on c = (returns-2 c).kept.sets_long
+shape_of-sets-then-not-hand_on c = (returns-then-not-hand_on c).kept.sets_long
 
 pub shape_of-news-then-not-hand_on : goal.shape_of-news-then-not-hand_on
-shape_of-news-then-not-hand_on c = (returns-2 c).kept.news_long
+shape_of-news-then-not-hand_on c = (returns-then-not-hand_on c).kept.news_long
 
 pub shape_of-work-then-not-hand_on : goal.shape_of-work-then-not-hand_on
 shape_of-work-then-not-hand_on c =
@@ -93,10 +93,10 @@ pub returns : goal.returns
 returns c = turned-end c.requires c.loop-k.invariant.0 (omega arith)
 
 pub shape_of-sets : goal.shape_of-sets
-shape_of-sets c = (returns-3 c).kept.sets_long
+shape_of-sets c = (returns c).kept.sets_long
 
 pub shape_of-news : goal.shape_of-news
-shape_of-news c = (returns-3 c).kept.news_long
+shape_of-news c = (returns c).kept.news_long
 
 pub shape_of-work : goal.shape_of-work
 shape_of-work c = c.loop-k.invariant.1

@@ -9,7 +9,7 @@ loop-i-init c = (row-start c.reach-count.ensures c.labels_in-end.ensures, refl)
 
 pub shape_of-out-in_default : goal.shape_of-out-in_default
 shape_of-out-in_default c =
-    c.put_row-step.auto.by.1.0 ∙ c.loop-i.invariant.1
+    c.put_row-step.auto.out ∙ c.loop-i.invariant.1
 
 pub returns-in_default : goal.returns-in_default
 returns-in_default c =
@@ -28,7 +28,7 @@ loop-i-preserved c =
     let by = c.args.b.now in (
       row-holds c.loop-i.invariant.0 (λ room. steady-row_of room (held by)) c.loop-i-test.true c.read_label-label.ensures
           c.put_row-step.ensures c.in-Holds.is,
-      c.put_row-step.auto.by.1.0 ∙ c.loop-i.invariant.1,
+      c.put_row-step.auto.out ∙ c.loop-i.invariant.1,
     )
 
 pub shape_of-out : goal.shape_of-out
