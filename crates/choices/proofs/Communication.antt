@@ -195,6 +195,7 @@ module _ (names : ℕ) (few : names ≤ 24) (rs : List Rule) (legal : Each (Lega
         (either : (a : Label) → a ∈ N → ((b : Label) → b ∈ gives-by a → In b) ⊎ ((b : Label) → Communicates names rs a [] b → In b)) where
       none-missing : (most : ℕ) (a : Label) → size a < most → a ∈ N → (b : Label) → Communicates names rs a [] b → In b
       unfolding gives-by
+      none-missing zero a h m b c = elim h [ ]
       none-missing (suc most) a h m b c = elim (either a m) [
         | inr old ↦ old b c
         | inl new ↦ elim (complete names known rs legal (number a) qs of all a [] (itself a (packs a m)) (size_below a) b c) [

@@ -75,6 +75,7 @@ module _ (all : List ℕ) where
     each-covered : (rs : List Exchange) → Covers rs rest rest' → (sum w : ℕ) → w ∈ each_rule (comes_of all) all rs rest sum
         → w ∈ each_rule (comes_of all) all rs rest' sum
     unfolding each_rule
+    each-covered [] c sum w m = elim m [ ]
     each-covered (r ∷ rs) c sum w m =
         elim ((in-append w (after (comes_of all (r ∷ rs)) (step_of all r rest sum)) (each_rule (comes_of all) all rs rest sum)).0 m) [
           | inl k ↦ (in-append w (after (comes_of all (r ∷ rs)) (step_of all r rest' sum)) (each_rule (comes_of all) all rs rest' sum)).1
@@ -84,6 +85,7 @@ module _ (all : List ℕ) where
         ]
 
   covered-by : (most : ℕ) (rs : List Exchange) (rest rest' : ℕ) → rest < most → Covers rs rest rest' → (sum w : ℕ) → Gives rs rest rest' sum w
+  covered-by zero rs rest rest' h c sum w m = elim h [ ]
   covered-by (suc most) rs rest rest' h c sum w m =
       let k = subst (λ (l : List ℕ). w ∈ l) (comes-step all rs rest sum) m in
       subst (λ (l : List ℕ). w ∈ l) (sym (comes-step all rs rest' sum)) (elim k [

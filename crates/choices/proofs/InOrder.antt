@@ -68,6 +68,7 @@ module _ (names : ℕ) where
 
   alone : (rs : List Rule) (r : Rule) {rest aside rest' aside' : Label} → r ∈ rs → T (inside r.left rest)
       → rest' ≡ taken r rest → aside' ≡ given r aside → InOrder rs rest aside (plus rest' aside')
+  alone [] r {rest = rest} {aside = aside} x4 t f g = elim x4 [ ]
   alone (q ∷ rs) r (inl e) t f g = once_more e t f g ends
   alone (q ∷ rs) r (inr m) t f g = passes (alone rs r m t f g)
 
@@ -172,9 +173,12 @@ module _ (names : ℕ) (known : Label → Bool) (rs : List Rule) (legal : Each (
     pub packs : Packs names b
 
   in-unless : (t k : Bool) (l : List Label) (b : Label) → b ∈ unless names known t k l → (t ≡ true) × (b ∈ l)
+  in-unless false k l b m = elim m [ ]
+  in-unless true true l b m = elim m [ ]
   in-unless true false l b m = (refl, m)
 
   into-unless : (t k : Bool) (l : List Label) (b : Label) → T t → k ≡ false → b ∈ l → b ∈ unless names known t k l
+  into-unless false k l b t e m = elim t [ ]
   into-unless true k l b t e m = rw e m
 
   abbrev Sound : (List Rule → Label → Label → List Label) → Type 0
@@ -182,6 +186,7 @@ module _ (names : ℕ) (known : Label → Bool) (rs : List Rule) (legal : Each (
 
   each-sound : (more : List Rule → Label → Label → List Label) → Sound more → Sound (each_of names known more)
   unfolding each_of
+  each-sound more deep [] w rest aside p b m = elim m [ ]
   each-sound more deep (r ∷ later) w rest aside p b m =
       let found = more (r ∷ later) (taken r rest) (given names r aside) in
       elim ((in-append b (leads names known r rest aside found) (each_of names known more later rest aside)).0 m) [

@@ -21,6 +21,7 @@ backwards (x ∷ xs) = backwards xs ++ (x ∷ [])
 
 pub backwards-in : {A : Type 0} (xs : List A) (x : A) → x ∈ backwards xs → x ∈ xs
 unfolding backwards
+backwards-in {A = A} [] x m = elim m [ ]
 backwards-in (y ∷ xs) x m = elim ((in-append x (backwards xs) (y ∷ [])).0 m) [
   | inl k ↦ inr (backwards-in xs x k)
   | inr k ↦ elim k [ inl e ↦ inl e | inr j ↦ absurd j ]
@@ -28,6 +29,7 @@ backwards-in (y ∷ xs) x m = elim ((in-append x (backwards xs) (y ∷ [])).0 m)
 
 pub in-backwards : {A : Type 0} (xs : List A) (x : A) → x ∈ xs → x ∈ backwards xs
 unfolding backwards
+in-backwards {A = A} [] x x3 = elim x3 [ ]
 in-backwards (y ∷ xs) x (inl e) = (in-append x (backwards xs) (y ∷ [])).1 (inr (inl e))
 in-backwards (y ∷ xs) x (inr m) = (in-append x (backwards xs) (y ∷ [])).1 (inl (in-backwards xs x m))
 

@@ -82,6 +82,7 @@ eqb-zero m n h = elim (dec_lt 0 m) [
 
 -- the labels of a legal list pack
 pub listed-packs : (names : ℕ) (ls : List Label) → Each (LegalLabel names) ls → AllPack names ls
+listed-packs names [] h a x'' = elim x'' [ ]
 listed-packs names (b ∷ ls) h a (inl e) = subst (Packs names) (sym e) (record { wide = h.0.0; few = h.0.2 })
 listed-packs names (b ∷ ls) h a (inr m) = listed-packs names ls h.1 a m
 

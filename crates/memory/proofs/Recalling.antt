@@ -34,6 +34,7 @@ second-of false t e = absurd (false≢true e)
 -- Of what every rule takes, no less is left.
 covers→ : (rs : List Exchange) (a b : ℕ) → covers_in rs a b ≡ true → Covers rs a b
 unfolding covers_in
+covers→ [] a b e r x3 n h = elim x3 [ ]
 covers→ (q ∷ rs) a b e r (inl m) n h =
     let t = first_of (as_much (bag q.left) (bag a) (bag b)) (covers_in rs a b) e in
     as-much-counts q.left a b t n (subst (λ (x : Exchange). 0 < count (bag x.left) n) m h)

@@ -29,10 +29,10 @@ made : (c : Joined-room_behind-count) → let a = c.args in
 made c =
     let count = c.labels_in-count.ensures in
     let room = c.room_behind.ensures in
-    ⊎_elim
-    (λ w. made_as w.3.ensures count (ap held w.8) w.9)
-    (λ w. made_as (roomy (omega (arith, w.0.left))) refl (ap held w.1) w.2)
-    c.if-room_behind-count.branch
+    elim c.if-room_behind-count.branch [
+      | goal.then-room_behind-count w ↦ made_as w.lay_anew.ensures count (ap held w.work-is) w.sets-is
+      | goal.else-room_behind-count w ↦ made_as (roomy (omega (arith, w.if-room_behind-count.false))) refl (ap held w.work-is) w.sets-is
+    ]
 
 pub returns : goal.returns
 returns c = grown (made (goal.at.returns c).Joined-room_behind-count) c.weave_into.ensures
@@ -40,7 +40,10 @@ returns c = grown (made (goal.at.returns c).Joined-room_behind-count) c.weave_in
 pub shape_of-work : goal.shape_of-work
 shape_of-work c =
     c.weave_into.auto.work
-    ∙ ⊎_elim (λ w. ap length w.8 ∙ w.3.kept.0) (λ w. ap length w.1) c.if-room_behind-count.branch
+    ∙ elim c.if-room_behind-count.branch [
+      | goal.then-room_behind-count w ↦ ap length w.work-is ∙ w.lay_anew.auto.work
+      | goal.else-room_behind-count w ↦ ap length w.work-is
+    ]
 
 pub shape_of-sets : goal.shape_of-sets
 shape_of-sets c = (returns c).long_row

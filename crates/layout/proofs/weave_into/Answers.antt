@@ -34,12 +34,11 @@ returns-then-set c =
     let count = c.labels_in-count in
     let e = end.ensures in
     let k = count.ensures in
-    unwoven set.ensures (λ u f. ⊎_elim
-    (λ w. omega (arith, w.taken))
-    (⊎_elim
-    (λ w. omega (arith, ltb-true end.result set.result.to w.2.taken))
-    (λ w. omega (arith, ltb-true (end.result - set.result.to) count.result w.4.taken)))
-    c.then-set.branch)
+    unwoven set.ensures (λ u f. elim c.then-set.branch [
+      | goal.then-set-via-then-set w ↦ omega arith
+      | goal.then-set-via-else-set+then-end-set w ↦ omega arith
+      | goal.then-set-via-else-set+else-end-set+then-end-set-2 w ↦ omega arith
+    ])
 
 -- the set has room in the words
 fits : (c : Else-end-set-2) → let set = c.part_at-set.result in

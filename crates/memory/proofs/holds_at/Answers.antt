@@ -31,7 +31,7 @@ placed c = c.number_of-place.ensures ∙ ap (λ x. x % 2 ^ 64) (code_of c.read_l
 same-label : (c : Else-labels_in-at) → let a = c.args in
     true ≡ eqb (get_or (held a.memory.now) (3 * a.entry) 0) (code a.state.sum)
 same-label c =
-    sym (not-false c.label_is.result c.if-not-label_is.false-raw) ∙ looked c.before.before.before
+    sym (not-false c.label_is.result c.if-not-label_is.false-raw) ∙ c.label_is.ensures
 
 pub returns-then-not-label_is : goal.returns-then-not-label_is
 returns-then-not-label_is c =

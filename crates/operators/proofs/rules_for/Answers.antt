@@ -20,19 +20,19 @@ chosen labels list end e f =
 pub slice_bounds-many_choices-end : goal.slice_bounds-many_choices-end
 slice_bounds-many_choices-end c =
     let a = c.args in
-    omega (arith, length-take (2 * a.end) a.t2)
+    omega (arith, length-take (2 * a.end) a.list)
 
 pub slice_bounds-in_order-end : goal.slice_bounds-in_order-end
 slice_bounds-in_order-end c =
     let a = c.args in
-    omega (arith, length-take (2 * a.end) a.t2)
+    omega (arith, length-take (2 * a.end) a.list)
 
 pub returns-then-many_choices : goal.returns-then-many_choices
 returns-then-many_choices c =
     let a = c.args in
-    c.in_order.ensures ∙ chosen (held a.labels.now) a.t2 a.end c.many_choices.ensures c.if-many_choices.true
+    c.in_order.ensures ∙ chosen (held a.labels.now) a.list a.end c.many_choices.ensures c.if-many_choices.true
 
 pub returns : goal.returns
 returns c =
     let a = c.args in
-    chosen (held a.labels.now) a.t2 a.end c.many_choices.ensures c.if-many_choices.false
+    chosen (held a.labels.now) a.list a.end c.many_choices.ensures c.if-many_choices.false

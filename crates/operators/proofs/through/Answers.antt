@@ -6,6 +6,7 @@ use mathlib.Core.Logic.{inl, inr}
 use Prim.Native.Nat.{ℕ}
 use lib.ListN.{length}
 use types.Run.{OneOf, miss}
+use borrow.Enum.Refused.{opened}
 use denote.Enum.Declared.{tag_of}
 use Rattle.slots.specs.declared.Operator.{Operator}
 use Rattle.slots.specs.declared.Operator.TheVariants.{Block, Hide, Rename, Comm, Allow}
@@ -28,9 +29,6 @@ plain lists labels (Allow p) h = absurd (miss (0 ∷ 1 ∷ 2 ∷ []) 4 tt h)
 
 pub list_place-place-requires : goal.list_place-place-requires
 list_place-place-requires c = tt
-
-pub enum_told-1 : goal.enum_told-1
-enum_told-1 c = c.in-Comm.keys1
 
 pub rule_words_of-requires : goal.rule_words_of-requires
 rule_words_of-requires c = tt
@@ -56,9 +54,9 @@ add_image-made-requires-in_default c = tt
 -- whichever way an operator went: the words are as many, and what it makes of the labels is in the set
 same : (c : Joined-operator) → length c.match-operator.out ≡ length c.args.out.now
 same c = elim c.match-operator.branch [
-  | inl w ↦ ap length w.7 ∙ w.4.kept.1.1.1.0
-  | inr v ↦ elim v [ inl w ↦ ap length w.7 ∙ w.4.kept.1.1.1.1.0 | inr w ↦ ap length w.7 ∙ w.4.kept.1.1.1.1.0 ]
-
+  | goal.in-Comm w ↦ ap length w.out-is ∙ w.communicate-made.auto.out
+  | goal.in-Allow w ↦ ap length w.out-is ∙ w.add_image-made.auto.out
+  | goal.in_default w ↦ ap length w.out-is ∙ w.add_image-made-in_default.auto.out
 ]
 
 passes : (c : Joined-operator) →
@@ -69,16 +67,14 @@ passes c =
     let a = c.args in
     let at_place = c.list_place-place.ensures in
     elim c.match-operator.branch [
-      | inl w ↦ rw (w.7, w.8, w.1.given.1) (rw (w.2.ensures, at_place, w.1.given.1) at w.4.ensures)
-      | inr v ↦ elim v [
-        | inl w ↦ rw (w.7, w.8, w.1.given.1) (rw (w.2.ensures, at_place, w.1.given.1) at w.4.ensures)
-        | inr w ↦ rw (w.7, w.8) (rw (
-          w.1.ensures,
-          w.2.ensures,
-          at_place,
-          plain a.lists.now (held a.labels.now) a.operator w.0.keys3,
-        ) at w.4.ensures)
-      ]
+      | goal.in-Comm w ↦ rw (w.out-is, w.made-is, w.in-Comm.is) (rw (w.rule_words_of.ensures, at_place, w.in-Comm.is) at w.communicate-made.ensures)
+      | goal.in-Allow w ↦ rw (w.out-is, w.made-is, w.in-Allow.is) (rw (w.label_words_of.ensures, at_place, w.in-Allow.is) at w.add_image-made.ensures)
+      | goal.in_default w ↦ rw (w.out-is, w.made-is) (rw (
+        w.way_of.ensures,
+        w.words_of.ensures,
+        at_place,
+        plain a.lists.now (held a.labels.now) a.operator (opened w.in_default.in_default-own.keys3),
+      ) at w.add_image-made-in_default.ensures)
     ]
 
 pub shape_of-out-in_default-made : goal.shape_of-out-in_default-made

@@ -48,8 +48,8 @@ loop-i-preserved c =
     let kept = c.add_row-step.auto in (
       table-holds c.loop-i.invariant.0 (λ room. steady-row_of room (held by)) c.loop-i-test.true c.read_label-label.ensures
           c.add_row-step.ensures c.in-Holds.is,
-      kept.seen.1.1.0 ∙ c.loop-i.invariant.1,
-      kept.seen.1.1.1.0 ∙ c.loop-i.invariant.2,
+      kept.seen ∙ c.loop-i.invariant.1,
+      kept.out ∙ c.loop-i.invariant.2,
     )
 
 pub shape_of-seen : goal.shape_of-seen

@@ -11,8 +11,7 @@ loop-i-init c =
     (table-start c.requires.0 c.reach-count.ensures c.labels_in-end.ensures, refl, refl)
 
 pub sum_of-result-requires : goal.sum_of-result-requires
-sum_of-result-requires c =
-    let fit = ? in
+sum_of-result-requires c fit =
     let few = c.requires.1 fit c.loop-i.i (omega (arith, c.loop-i-test.true, c.loop-i.invariant.0.walk.whole)) in
     rw (code_of c.read_label.ensures) (omega (arith, few, size_few (code c.args.label)))
 

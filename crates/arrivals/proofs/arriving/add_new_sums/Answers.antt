@@ -59,7 +59,8 @@ both c =
     let news : ℕ → List ℕ = labels_of a.news.now (held a.log.now) in
     let sets : ℕ → List ℕ = labels_of a.sets.now (held a.work.now) in
     sums-last (news a.t) (sets a.t) (news a.u) (sets a.u) a.len (held a.out.now) _ lengths
-    (rw c.in-Holds.is at (first c.before.before.before.before.before.before.before.before.before.before.before.before))
+    (rw c.in-Holds.is at
+    (rw (c.labels_of-new.ensures, c.part_at.ensures, c.labels_of.ensures, c.part_at-3.ensures) at c.add_sums-first.ensures))
     (rw (c.labels_of-2.ensures, c.part_at-4.ensures, c.labels_of-all.ensures, c.part_at-2.ensures) at
     c.add_sums-second.ensures)
 

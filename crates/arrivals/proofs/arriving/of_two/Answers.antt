@@ -43,7 +43,8 @@ both c =
     let news : ℕ → List ℕ = labels_of a.news.now (held a.log.now) in
     let sets : ℕ → List ℕ = labels_of a.sets.now (held a.work.now) in
     rw (not-false a.sums c.if-not-sums.false-raw)
-    (two-last (news a.t) (sets a.t) (news a.u) (sets a.u) (held a.out.now) _ (rw c.in-Holds.is at (union c.before.before.before.before.before.before.before.before))
+    (two-last (news a.t) (sets a.t) (news a.u) (sets a.u) (held a.out.now) _ (rw c.in-Holds.is at
+    (rw (c.part_at.ensures, c.part_at-2.ensures) at c.joined-first.ensures))
     c.add_new_sums-made.ensures)
 
 pub returns-in_default-made : goal.returns-in_default-made

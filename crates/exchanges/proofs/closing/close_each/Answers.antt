@@ -26,24 +26,24 @@ module _ (c : After-reach-count) where
 
 pub returns-in_default : goal.returns-in_default
 returns-in_default c =
-    closed c.before.before.before.before.before.before.before.before.before c.if-count-eq0.true (rw c.in_default.is at c.put_each_long-many.ensures)
+    closed (goal.at.returns-in_default c).After-reach-count c.if-count-eq0.true (rw c.in_default.is at c.put_each_long-many.ensures)
 
 pub returns-then-count-eq0 : goal.returns-then-count-eq0
 returns-then-count-eq0 c =
-    closed c.before.before.before.before.before.before.before.before.before.before c.if-count-eq0.true (rw c.in-Holds.is at c.put_each_long-many.ensures)
+    closed (goal.at.returns-then-count-eq0 c).After-reach-count c.if-count-eq0.true (rw c.in-Holds.is at c.put_each_long-many.ensures)
 
 pub returns-in_default-many : goal.returns-in_default-many
 returns-in_default-many c =
-    closed c.before.before.before.before.before.before.before.before.before refl (rw c.in_default-many.is at c.put_each_long-many-then-many_choices.ensures)
+    closed (goal.at.returns-in_default-many c).After-reach-count refl (rw c.in_default-many.is at c.put_each_long-many-then-many_choices.ensures)
 
 pub returns-then-many_choices : goal.returns-then-many_choices
 returns-then-many_choices c =
-    closed c.before.before.before.before.before.before.before.before.before.before refl (rw c.in-Holds-many.is at c.put_each_long-many-then-many_choices.ensures)
+    closed (goal.at.returns-then-many_choices c).After-reach-count refl (rw c.in-Holds-many.is at c.put_each_long-many-then-many_choices.ensures)
 
 pub returns-in_default-few : goal.returns-in_default-few
 returns-in_default-few c =
-    closed c.before.before.before.before.before.before.before.before refl (rw c.in_default-few.is at c.put_each_short-few.ensures)
+    closed (goal.at.returns-in_default-few c).After-reach-count refl (rw c.in_default-few.is at c.put_each_short-few.ensures)
 
 pub returns : goal.returns
 returns c =
-    closed c.before.before.before.before.before.before.before.before.before refl (rw c.in-Holds-few.is at c.put_each_short-few.ensures)
+    closed (goal.at.returns c).After-reach-count refl (rw c.in-Holds-few.is at c.put_each_short-few.ensures)

@@ -35,9 +35,9 @@ pub loop-i-preserved : goal.loop-i-preserved
 loop-i-preserved c =
     let kept = c.put-grown.auto in (
       closing-holds c.loop-i.invariant.0 c.loop-i-test.true c.read_label-label.ensures c.labels_in-last.ensures
-          c.put-grown.ensures c.in-Holds.is (held-long _ _ kept.1.0),
-      kept.1.0 ∙ c.loop-i.invariant.1,
-      kept.0 ∙ c.loop-i.invariant.2,
+          c.put-grown.ensures c.in-Holds.is (held-long _ _ kept.states),
+      kept.states ∙ c.loop-i.invariant.1,
+      kept.out ∙ c.loop-i.invariant.2,
     )
 
 pub shape_of-states : goal.shape_of-states

@@ -2,6 +2,7 @@
 use mathlib.Core.Path.{◌≡◌, refl}
 use mathlib.Core.Logic.{inl, inr}
 use mathlib.Core.Bool.{false}
+use borrow.Enum.Refused.{opened}
 use Rattle.images.specs.declared.Way.TheVariants.{Comm}
 use Rattle.images.specs.Imaging.{follows_rules}
 use Rattle.images.proofs.Images.{imaged-lent, others}
@@ -11,8 +12,8 @@ pub add_offered-requires : goal.add_offered-requires
 add_offered-requires c =
     let a = c.args in
     elim c.match-way.branch [
-      | inl w ↦ rw (w.1.given.1, w.3) w.2.ensures
-      | inr w ↦ (others a.way w.0.keys3).1 a.list.now c.match-way.map
+      | goal.in-Rename w ↦ rw (w.in-Rename.is, w.map-is) w.renaming-map.ensures
+      | goal.in_default w ↦ (others a.way (opened w.in_default.in_default-own.keys3)).1 a.list.now c.match-way.map
     ]
 
 pub returns-in-Comm : goal.returns-in-Comm
@@ -26,7 +27,7 @@ pub returns : goal.returns
 returns c =
     let a = c.args in
     let none : follows_rules a.way ≡ false = elim c.match-way.branch [
-      | inl w ↦ rw w.1.given.1 refl
-      | inr w ↦ (others a.way w.0.keys3).0
+      | goal.in-Rename w ↦ rw w.in-Rename.is refl
+      | goal.in_default w ↦ (others a.way (opened w.in_default.in_default-own.keys3)).0
     ] in
     rw none c.add_offered.ensures

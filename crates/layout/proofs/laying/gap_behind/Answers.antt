@@ -12,7 +12,10 @@ returns-then-half-total c =
     let a = c.args in
     record {
       small = omega arith;
-      share = λ h k. absurd (⊎_elim (λ w. omega (arith, w.taken)) (λ w. omega (arith, eqb-true a.terms 0 w.1.taken)) c.then-half-total.branch);
+      share = λ h k. absurd (elim c.then-half-total.branch [
+        | goal.then-half-total-via-then-half-total w ↦ omega arith
+        | goal.then-half-total-via-else-half-total+then-terms-eq0 w ↦ omega arith
+      ]);
     }
 
 pub nonzero_div-result : goal.nonzero_div-result
