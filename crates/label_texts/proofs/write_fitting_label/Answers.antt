@@ -6,10 +6,9 @@ use Rattle.meaning.specs.Bytes.{Text}
 use Rattle.grammar.specs.Marks.{label_text}
 use Rattle.grammar.specs.Printed.{printed_label}
 use Rattle.label_texts.specs.Packed.{name_texts, counts_of}
-use Rattle.grammar.proofs.Underway.{copied→written}
 use Rattle.label_texts.proofs.Tau.{parts-written, tau-written, parts_within, tau-length}
 use Rattle.label_texts.proofs.write_fitting_label.Goals as goal
-use Rattle.label_texts.proofs.write_fitting_label.Goals.{After-write_parts-size, Start}
+use Rattle.label_texts.proofs.write_fitting_label.Goals.{Start}
 
 abbrev parts : Start → Text
 parts s = label_text (name_texts s.args.names) (counts_of (code s.args.label))
@@ -18,23 +17,19 @@ pub write_parts-size-requires : goal.write_parts-size-requires
 unfolding printed_label
 write_parts-size-requires c = omega (arith, parts_within (parts (goal.at.write_parts-size-requires c).Start))
 
--- where the parts are written, the entry is this far back
-abbrev entry : After-write_parts-size → Start
-entry c = c.before.before.before
-
 pub copy-requires : goal.copy-requires
 unfolding printed_label
 copy-requires c =
-    let s = entry (goal.at.copy-requires c).After-write_parts-size in
-    omega (arith, s.pre, tau-length (parts s) (omega arith))
+    let s = (goal.at.copy-requires c).Start in
+    omega (arith, s.requires, tau-length (parts s) (omega arith))
 
 pub returns-then-size-eq0 : goal.returns-then-size-eq0
 unfolding printed_label
 returns-then-size-eq0 c =
     let w = c.copy.ensures in
-    tau-written (parts (entry (goal.at.returns-then-size-eq0 c).After-write_parts-size)) c.write_parts-size.ensures c.if-size-eq0.true (copied→written w.0 w.1)
+    tau-written (parts (goal.at.returns-then-size-eq0 c).Start) c.write_parts-size.ensures c.if-size-eq0.true w
 
 pub returns : goal.returns
 unfolding printed_label
 returns c =
-    parts-written (parts (entry (goal.at.returns c).After-write_parts-size)) c.write_parts-size.ensures c.if-size-eq0.false
+    parts-written (parts (goal.at.returns c).Start) c.write_parts-size.ensures c.if-size-eq0.false

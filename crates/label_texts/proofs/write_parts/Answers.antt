@@ -20,7 +20,7 @@ first-digit a = omega arith
 
 pub loop-i-init : goal.loop-i-init
 loop-i-init c = (
-  underway-start (parts-start (part_texts (name_texts c.args.t2) (counts_of (code c.args.label))))
+  underway-start (parts-start (part_texts (name_texts c.args.names) (counts_of (code c.args.label))))
       c.requires,
   omega arith,
 
@@ -34,7 +34,7 @@ returns-then-same c =
     let l = c.loop-i in
     let none : code l.rest ≡ 0 =
     eqb-true _ _ (sym c.same.ensures ∙ c.if-same.true) ∙ code_of c.tau.ensures in
-    parts-early c.args.t2 l.i (code l.rest) l.invariant.0 none
+    parts-early c.args.names l.i (code l.rest) l.invariant.0 none
 
 pub slice_bounds-write_next-count : goal.slice_bounds-write_next-count
 slice_bounds-write_next-count c = omega (arith, underway-room c.loop-i.invariant.0)
@@ -55,18 +55,18 @@ pub write_next-at-requires : goal.write_next-at-requires
 write_next-at-requires c =
     let l = c.loop-i in
     rw (first-digit l.rest)
-    (parts-room c.args.t2 l.i (code l.rest) l.invariant.0 (omega arith) (omega arith))
+    (parts-room c.args.names l.i (code l.rest) l.invariant.0 (omega arith) (omega arith))
 
 -- what is written of the label behind the next part
 written : (c : After-slice_known-in-loop-i-1) → let l = c.loop-i in
     let a = c.args in
     let r = c.write_next-at.result in
-    Underway (label_text (name_texts a.t2) (counts_of (code a.label))) (to_come (l.at + r) (parts_from a.t2 (l.i + 1) (code l.rest / 32)))
+    Underway (label_text (name_texts a.names) (counts_of (code a.label))) (to_come (l.at + r) (parts_from a.names (l.i + 1) (code l.rest / 32)))
     a.text.now (back l.at l.text c.write_next-at.new.text) (l.at + r)
 written c =
     let l = c.loop-i in
     let wrote = c.write_next-at in
-    parts_again c.args.t2 l.i (code l.rest) l.invariant.0 (omega arith) (omega arith)
+    parts_again c.args.names l.i (code l.rest) l.invariant.0 (omega arith) (omega arith)
     (rw (first-digit l.rest) at wrote.ensures)
 
 pub loop-i-preserved : goal.loop-i-preserved
@@ -85,4 +85,4 @@ pub shape_of-text : goal.shape_of-text
 shape_of-text c = underway-kept c.loop-i.invariant.0
 
 pub returns : goal.returns
-returns c = parts-end c.args.t2 c.loop-i.i (code c.loop-i.rest) c.loop-i.invariant.0 (omega arith)
+returns c = parts-end c.args.names c.loop-i.i (code c.loop-i.rest) c.loop-i.invariant.0 (omega arith)
