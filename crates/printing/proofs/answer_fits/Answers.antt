@@ -11,7 +11,7 @@ use Rattle.printing.specs.Steps.{answer_head}
 use Rattle.printing.proofs.Answers.{packed_answer, length-answer-head, length-joined, answer-fits}
 use Rattle.printing.proofs.Lengths.{length-answer}
 use Rattle.printing.proofs.answer_fits.Goals as goal
-use Rattle.printing.proofs.answer_fits.Goals.{After-labels_in-count, After-write_answer_head-size}
+use Rattle.printing.proofs.answer_fits.Goals.{After-write_answer_head-size}
 
 pub returns-then-count-room : goal.returns-then-count-room
 returns-then-count-room c =
@@ -28,18 +28,13 @@ pub write_answer_head-size-requires : goal.write_answer_head-size-requires
 write_answer_head-size-requires c = length-answer-head c.args.rounds c.labels_in-count.result
 
 -- the head, by how many labels the row has
-abbrev counted : After-write_answer_head-size → After-labels_in-count
-counted c = c.before.before.before
-
-head-size : (c : After-write_answer_head-size) → let a = (counted c).before.before.args in
+head-size : (c : After-write_answer_head-size) → let a = c.args in
     c.write_answer_head-size.result ≡ length (answer_head a.rounds (length (held a.labels.now)))
-head-size c =
-    let a = (counted c).before.before.args in
-    c.write_answer_head-size.ensures.size ∙ ap (λ (n : ℕ). length (answer_head a.rounds n)) (counted c).labels_in.ensures
+head-size c = c.write_answer_head-size.ensures.size ∙ ap (λ (n : ℕ). length (answer_head c.args.rounds n)) c.labels_in-count.ensures
 
 pub returns-then-room-size : goal.returns-then-room-size
 returns-then-room-size c =
-    let a = (counted (goal.at.returns-then-room-size c).After-write_answer_head-size).before.before.args in
+    let a = c.args in
     let text = length (packed_answer a.names a.rounds (held a.labels.now)) in
     sym (lt-leb text a.room (omega (arith, head-size (goal.at.returns-then-room-size c).After-write_answer_head-size, c.if-room-size.true, length-joined a.names a.rounds (held a.labels.now))))
 
@@ -48,5 +43,5 @@ label_lines_fit-requires c = tt
 
 pub returns : goal.returns
 returns c =
-    let a = (counted (goal.at.returns c).After-write_answer_head-size).before.before.args in
+    let a = c.args in
     answer-fits a.names a.rounds (held a.labels.now) a.room (head-size (goal.at.returns c).After-write_answer_head-size) c.if-room-size.false c.label_lines_fit.ensures

@@ -2,49 +2,41 @@
 -- Assumes nothing.
 use mathlib.Core.Path.{refl}
 use mathlib.Core.List.{◌++◌}
-use Prim.Native.Nat.{◌+◌}
+use Prim.Native.Nat.{ℕ, ◌+◌, ◌≤◌}
 use native.Mathlib.Nat.{le_refl}
 use native.Mathlib.Omega.{arith}
-use lib.ListN.{length-append}
+use lib.ListN.{length, length-append}
 use Rattle.meaning.specs.Bytes.{Text}
 use Rattle.grammar.specs.Marks.{decimal}
 use Rattle.grammar.specs.Printed.{line}
 use Rattle.printing.specs.Steps.{head_text}
 use Rattle.grammar.proofs.Areas.{printed→written}
-use Rattle.grammar.proofs.Underway.{Underway, copied→written, underway-first, back, underway-step, underway-last, underway-kept}
+use Rattle.grammar.specs.Areas.{Written, Printed}
+use Rattle.grammar.proofs.Underway.{Underway, underway-first, lent, back, underway-step, underway-last, underway-kept}
 use Rattle.grammar.proofs.Underway.{underway-room, next-room, lent-room, written-within, written-length}
 use Rattle.printing.proofs.lines.write_head.Goals as goal
-use Rattle.printing.proofs.lines.write_head.Goals.{After-slice_known-2-1, After-slice_known-3-1, Start}
 
--- the two lines, and the whole head
-abbrev one : Start → Text
-one s = line s.args.key.now (decimal s.args.n)
+-- What is said, two lines, and the whole head.
+module _ (said key next : Text) (n m : ℕ) {before mid : Text} {k : ℕ} (fits : length (head_text said key n next m) ≤ length before)
+    (u : Written said before mid k) where
+  -- what is said is written, and the lines are to come
+  said-written : Underway (head_text said key n next m) (line key (decimal n) ++ line next (decimal m)) before mid k
+  said-written = underway-first {s = said} refl fits u
 
-abbrev two : Start → Text
-two s = line s.args.next-key.now (decimal s.args.m)
-
-abbrev head : Start → Text
-head s = head_text s.args.said.now s.args.key.now s.args.n s.args.next-key.now s.args.m
+  -- the first line is written too
+  line-written : {part : Text} {r : ℕ} → Printed (line key (decimal n)) (lent k mid) part r
+      → Underway (head_text said key n next m) (line next (decimal m)) before (back k mid part) (k + r)
+  line-written p = underway-step said-written (printed→written (next-room (line key (decimal n)) (line next (decimal m)) said-written) p)
 
 pub copy-first-requires : goal.copy-first-requires
 copy-first-requires c =
-    omega (arith, length-append c.args.said.now (one (goal.at.copy-first-requires c).Start ++ two (goal.at.copy-first-requires c).Start))
-
--- what is said is written, and the lines are to come
-abbrev entry : After-slice_known-2-1 → Start
-entry c = c.before.before.before.before.before.before.before.before
-
-said-written : (c : After-slice_known-2-1) →
-    let s = entry c in
-    let w = c.copy-first in
-    Underway (head s) (one s ++ two s) s.args.text.now w.new.text w.result
-said-written c =
-    let s = entry c in
-    let w = c.copy-first.ensures in
-    underway-first {s = s.args.said.now} refl s.pre (copied→written w.0 w.1)
+    let a = c.args in
+    omega (arith, length-append a.said.now (line a.key.now (decimal a.n) ++ line a.next_key.now (decimal a.m)))
 
 pub slice_bounds-write_count_line-count : goal.slice_bounds-write_count_line-count
-slice_bounds-write_count_line-count c = omega (arith, underway-room (said-written (goal.at.slice_bounds-write_count_line-count c).After-slice_known-2-1))
+slice_bounds-write_count_line-count c =
+    let a = c.args in
+    omega (arith, underway-room (said-written a.said.now a.key.now a.next_key.now a.n a.m c.requires c.copy-first.ensures))
 
 pub slice_bounds-write_count_line-start : goal.slice_bounds-write_count_line-start
 slice_bounds-write_count_line-start c = slice_bounds-write_count_line-count c
@@ -52,28 +44,16 @@ slice_bounds-write_count_line-start c = slice_bounds-write_count_line-count c
 pub slice_bounds-write_count_line-end : goal.slice_bounds-write_count_line-end
 slice_bounds-write_count_line-end c = le_refl _
 
-pub write_count_line-requires : goal.write_count_line-requires
-write_count_line-requires c = tt
-
--- the first line is written too
-abbrev said : After-slice_known-3-1 → After-slice_known-2-1
-said c = c.before.before.before.before
-
-line-written : (c : After-slice_known-3-1) →
-    let s = entry (said c) in
-    let w = (said c).before.before.copy in
-    let l = c.write_count_line in
-    Underway (head s) (two s) s.args.text.now (back w.result w.last.1.0 l.new.text) (w.result + l.result)
-line-written c =
-    let s = entry (said c) in
-    let w = said-written (said c) in
-    underway-step w (printed→written (next-room (one s) (two s) w) c.write_count_line.ensures)
-
 pub overflow_add-second : goal.overflow_add-second
-overflow_add-second c = omega (arith, underway-room (line-written (goal.at.overflow_add-second c).After-slice_known-3-1), underway-kept (line-written (goal.at.overflow_add-second c).After-slice_known-3-1))
+overflow_add-second c =
+    let a = c.args in
+    let w = line-written a.said.now a.key.now a.next_key.now a.n a.m c.requires c.copy-first.ensures c.write_count_line.ensures in
+    omega (arith, underway-room w, underway-kept w)
 
 pub slice_bounds-write_count_line-count-2 : goal.slice_bounds-write_count_line-count-2
-slice_bounds-write_count_line-count-2 c = omega (arith, underway-room (line-written (goal.at.slice_bounds-write_count_line-count-2 c).After-slice_known-3-1))
+slice_bounds-write_count_line-count-2 c =
+    let a = c.args in
+    omega (arith, underway-room (line-written a.said.now a.key.now a.next_key.now a.n a.m c.requires c.copy-first.ensures c.write_count_line.ensures))
 
 pub slice_bounds-write_count_line-start-2 : goal.slice_bounds-write_count_line-start-2
 slice_bounds-write_count_line-start-2 c = slice_bounds-write_count_line-count-2 c
@@ -81,16 +61,14 @@ slice_bounds-write_count_line-start-2 c = slice_bounds-write_count_line-count-2 
 pub slice_bounds-write_count_line-end-2 : goal.slice_bounds-write_count_line-end-2
 slice_bounds-write_count_line-end-2 c = le_refl _
 
-pub write_count_line-requires-2 : goal.write_count_line-requires-2
-write_count_line-requires-2 c = tt
-
 pub returns : goal.returns
 returns c =
-    let w = line-written (goal.at.returns c).After-slice_known-3-1 in
+    let a = c.args in
+    let w = line-written a.said.now a.key.now a.next_key.now a.n a.m c.requires c.copy-first.ensures c.write_count_line.ensures in
     underway-last w (printed→written (lent-room w) c.write_count_line-2.ensures)
 
 pub overflow_add-result : goal.overflow_add-result
-overflow_add-result c = omega (arith, written-within (entry (said (goal.at.overflow_add-result c).After-slice_known-3-1)).requires (returns c))
+overflow_add-result c = omega (arith, written-within c.requires (returns c))
 
 pub shape_of-text : goal.shape_of-text
-shape_of-text c = written-length (entry (said (goal.at.shape_of-text c).After-slice_known-3-1)).requires (returns c)
+shape_of-text c = written-length c.requires (returns c)

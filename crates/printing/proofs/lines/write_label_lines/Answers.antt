@@ -42,7 +42,7 @@ loop-i-preserved c =
     )
 
 pub overflow_add-at : goal.overflow_add-at
-overflow_add-at c = omega (arith, underway-room (loop-again c).0, underway-kept (loop-again c).0)
+overflow_add-at c = omega (arith, underway-room (loop-i-preserved c).0, underway-kept (loop-i-preserved c).0)
 
 pub overflow_add-i : goal.overflow_add-i
 overflow_add-i c = omega arith
