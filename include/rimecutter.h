@@ -9,8 +9,8 @@
  *
  * prints answer=ok, rounds=1, labels=1 and label=a:1, on a line each.
  *
- * Link with librimecutter_c.a, which `rt staticlib rimecutter_c` writes to
- * target/staticlib. The archive holds code for x86-64 Linux alone: on another
+ * Link with librimecutter_c.a, which `rt lib` in crates/rimecutter_c writes to
+ * out/ there. The archive holds code for x86-64 Linux alone: on another
  * processor it links into programs for x86-64 that run under an emulator
  * (examples/README.md has the lines for arm64).
  *

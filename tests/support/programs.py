@@ -1,7 +1,7 @@
 """Building and running the reference and the generator.
 
 All that is built or generated goes below target-tests at the top of the
-repository, which git ignores: the gate empties target/ before it proves.
+repository, which git ignores.
 """
 
 import os

@@ -25,7 +25,8 @@ EMULATED = "GLIBC_TUNABLES=" + ":".join(
 )
 
 C_CALL = TESTS / "c_call"
-ARCHIVE = TOP / "target" / "staticlib" / "librimecutter_c.a"
+CRATES = TOP / "crates"
+ARCHIVE = CRATES / "rimecutter_c" / "out" / "librimecutter_c.a"
 NATIVE = platform.machine() == "x86_64"
 COMPILER = "cc" if NATIVE else "x86_64-linux-gnu-gcc"
 STRICT = ["-std=c99", "-pedantic", "-Wall", "-Wextra", "-Werror", "-O2"]
@@ -54,18 +55,39 @@ def command(program):
     return [str(part) for part in [*emulator, *loader, program]]
 
 
-def rt(*words):
-    """Runs the kit's `rt` at the top of the repository; its progress is shown."""
+def rt(verb, crate):
+    """Runs the kit's `rt` in the folder of a crate; its progress is shown. What it
+    runs has no input."""
     try:
-        subprocess.run([kit() / "bin" / "rt", *words], cwd=TOP, check=True)
+        subprocess.run([kit() / "bin" / "rt", verb], cwd=CRATES / crate, check=True, stdin=subprocess.DEVNULL)
     except subprocess.CalledProcessError as fault:
-        raise Failed(f"rt {' '.join(words)} ended with {fault.returncode}") from fault
+        raise Failed(f"rt {verb} of {crate} ended with {fault.returncode}") from fault
 
 
 def built_by_rt(name):
-    """How a program that is proved and built first is run here."""
-    rt("check", name)
-    return command(TOP / "target" / "bin" / name)
+    """How a program that is proved and built first is run here. What `rt ci` built
+    of the files as they are is not built again."""
+    program = CRATES / name / "out" / name
+    if not is_newest(program):
+        rt("run", name)
+        program.touch()
+    return command(program)
+
+
+def is_newest(program):
+    """Whether a program is there and no file that it is made of is newer."""
+    if not program.is_file():
+        return False
+    made = program.stat().st_mtime
+    return all(path.stat().st_mtime <= made for path in [TOP / "crates.txt", *sources()])
+
+
+def sources():
+    """All files of the crates but those that rt makes."""
+    for place, folders, files in os.walk(CRATES):
+        if "out" in folders:
+            folders.remove("out")
+        yield from (pathlib.Path(place) / name for name in files)
 
 
 def linked(source):
@@ -77,7 +99,7 @@ def linked(source):
 
 def build_archive():
     """The archive of the C call, proved and written."""
-    rt("staticlib", "rimecutter_c")
+    rt("lib", "rimecutter_c")
 
 
 def check_c_call(sample):

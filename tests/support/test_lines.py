@@ -22,7 +22,7 @@ class Lines(InFolder):
         return said.getvalue()
 
     def test_right_files_are_counted(self):
-        said = self.check('// why\n#[no_mangle]\npub extern "C" fn f() {}\nfn g() {}\n', "use " + "a" * 200)
+        said = self.check('// why\n#[unsafe(no_mangle)]\npub extern "C" fn f() {}\nfn g() {}\n', "use " + "a" * 200)
         self.assertIn("1 files", said)
 
     def test_what_is_wrong_is_told(self):

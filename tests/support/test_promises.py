@@ -11,7 +11,7 @@ LIBRARY = """mod hidden;
 pub mod shown;
 
 pub fn plain(a: u64) -> u64
-    ensures { λ r. ⌜ r ≡ a ⌝ }
+    ensures { result ≡ a }
 {
     a
 }
@@ -23,8 +23,8 @@ fn own() -> u64 {
 MODULE = """pub extern "C" fn asks(
     a: u64,
 ) -> u64
-    requires { ⌜ a < 9 ⌝ }
-    ensures { λ r. ⌜ r ≡ a ⌝ }
+    requires { a < 9 }
+    ensures { result ≡ a }
 {
     a
 }
