@@ -1,7 +1,6 @@
 -- `faults::joined` meets its contract: where both tests hold they have no fault to join.
 -- Assumes nothing.
 use mathlib.Core.Path.{◌≡◌, sym, ap₂, ◌∙◌}
-use mathlib.Core.Logic.{⊎_elim}
 use Rattle.meaning.specs.Answers.{amount}
 use Rattle.grammar.specs.Faults.{fault, worse, unless}
 use Rattle.faults.proofs.Ranks.{worse-fine, first-fails, second-fails}
@@ -20,8 +19,8 @@ amounts : (c : Joined-else-ordered)
 amounts c =
     let a = c.args in
     elim c.else-ordered.branch [
-      goal.else-ordered-via-then-ordered+else-within w ↦ rw w.if-within.false (second-fails a.ordered a.from)
-    | goal.else-ordered-via-else-ordered w ↦ rw w.if-ordered.false (first-fails a.within a.from)
+      | goal.else-ordered-via-then-ordered+else-within w ↦ rw w.if-within.false (second-fails a.ordered a.from)
+      | goal.else-ordered-via-else-ordered w ↦ rw w.if-ordered.false (first-fails a.within a.from)
     ]
 
 pub returns : goal.returns

@@ -1,4 +1,3 @@
-use Prim.Native.Nat.{◌-◌}
 use native.Mathlib.Omega.{arith}
 use Rattle.feet.proofs.BodyLines.{bodies-start, bodies-long, bodies-within, bodies-step, bodies-halt, bodies-end}
 use Rattle.feet.proofs.read_bodies.Goals as goal

@@ -2,7 +2,7 @@
 -- Assumes nothing.
 use native.Mathlib.Omega.{arith}
 use lib.ListN.{length-set}
-use Rattle.heads.proofs.HeadLines.{counts-bad, counts-within, counts-on, terms-bad, counts_end}
+use Rattle.heads.proofs.HeadLines.{counts-bad, counts-within, terms-bad, counts_end}
 use Rattle.heads.proofs.read_counts.Goals as goal
 
 pub overflow_add-named : goal.overflow_add-named

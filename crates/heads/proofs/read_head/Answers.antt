@@ -61,11 +61,10 @@ pub slice_bounds-read_counts-end : goal.slice_bounds-read_counts-end
 slice_bounds-read_counts-end c = omega arith
 
 pub read_counts-counts-requires : goal.read_counts-counts-requires
-read_counts-counts-requires c =
-    (
-      head_few c.args.table.now c.take_number-given.ensures c.in-To.is,
-      omega (arith, c.if-table-lt-TABLE_WORDS.false, c.read_names-names.ensures.tabled.long),
-    )
+read_counts-counts-requires c = (
+  head_few c.args.table.now c.take_number-given.ensures c.in-To.is,
+  omega (arith, c.if-table-lt-TABLE_WORDS.false, c.read_names-names.ensures.tabled.long),
+)
 
 pub shape_of-table-in_default-counts : goal.shape_of-table-in_default-counts
 shape_of-table-in_default-counts c =

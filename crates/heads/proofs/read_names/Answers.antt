@@ -1,4 +1,3 @@
-use Prim.Native.Nat.{◌-◌}
 use native.Mathlib.Omega.{arith}
 use Rattle.heads.proofs.NameLines.{names-start, names-long, names-within, names-step, names-halt, names-end}
 use Rattle.heads.proofs.read_names.Goals as goal

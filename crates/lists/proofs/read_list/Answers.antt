@@ -1,6 +1,6 @@
 use mathlib.Core.Path.{refl, sym, ap, subst, ◌∙◌}
 use mathlib.Core.List.{[], ◌∷◌, ◌++◌, map}
-use Prim.Native.Nat.{◌+◌, ◌-◌, ◌≤◌, ◌<◌, ◌^◌}
+use Prim.Native.Nat.{◌+◌, ◌≤◌, ◌<◌, ◌^◌}
 use native.Mathlib.Omega.{arith}
 use borrow.Author.Tests.{not-true, not-false}
 use lib.ListN.{length, drop, length-drop, length-map}
@@ -8,7 +8,6 @@ use Rattle.labels.specs.Packing.{code}
 use Rattle.labels.proofs.Codes.{code_of}
 use Rattle.table.specs.Decoded.{name_of}
 use Rattle.grammar.specs.Text.{past}
-use Rattle.grammar.specs.Forms.{comma}
 use Rattle.words.specs.Steps.{Stands}
 use Rattle.words.proofs.Steps.{otherwise}
 use Rattle.lists.specs.Tallies.{Said}
@@ -37,8 +36,8 @@ started : (c : Joined-entries-eq3) → Starting c.args.names.now c.if-entries-eq
 started c =
     let known = Starting c.args.names.now in
     elim c.if-entries-eq3.branch [
-      goal.then-entries-eq3 w ↦ subst known (sym w.starts-is) w.starts_of-starts.ensures
-    | goal.else-entries-eq3 w ↦ subst known (sym w.starts-is) c.loop-entries.invariant.8
+      | goal.then-entries-eq3 w ↦ subst known (sym w.starts-is) w.starts_of-starts.ensures
+      | goal.else-entries-eq3 w ↦ subst known (sym w.starts-is) c.loop-entries.invariant.8
     ]
 
 pub slice_bounds-read_entry-count : goal.slice_bounds-read_entry-count

@@ -1,4 +1,3 @@
-use Prim.Native.Nat.{◌-◌}
 use native.Mathlib.Omega.{arith}
 use Rattle.sections.proofs.Places.{names-few}
 use Rattle.termlines.proofs.StoredTerms.{terms-start, terms-long, terms-stored, terms-halt, terms-within, terms-step, terms-end}

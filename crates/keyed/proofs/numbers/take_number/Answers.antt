@@ -25,9 +25,9 @@ returns-then-n-low c =
     number_to-bad
     (line-bad a.line a.text.now c.flaw_after-then-n-low.ensures
     (elim c.then-n-low.branch [
-      goal.then-n-low-via-then-n-low w ↦ number-low a.key.now a.low a.below (fault_of a.fault) _ s.says w.if-n-low.true
-    | goal.then-n-low-via-else-n-low+then-below-n w ↦
-        number-high a.key.now a.low a.below (fault_of a.fault) _ s.says w.if-n-low.false (leb-true a.below n w.if-below-n.true-raw)
+      | goal.then-n-low-via-then-n-low w ↦ number-low a.key.now a.low a.below (fault_of a.fault) _ s.says w.if-n-low.true
+      | goal.then-n-low-via-else-n-low+then-below-n w ↦
+          number-high a.key.now a.low a.below (fault_of a.fault) _ s.says w.if-n-low.false (leb-true a.below n w.if-below-n.true-raw)
     ]))
 
 pub returns : goal.returns

@@ -1,19 +1,16 @@
 use mathlib.Core.Path.{◌≡◌, sym, ◌∙◌}
-use mathlib.Core.List.{List, [], ◌∷◌, ◌++◌, map}
-use Prim.Native.Nat.{ℕ, ◌+◌, ◌-◌}
+use mathlib.Core.List.{[], ◌∷◌, ◌++◌}
+use Prim.Native.Nat.{ℕ, ◌+◌}
 use native.Mathlib.Omega.{arith}
 use borrow.Author.Tests.{not-true, not-false}
 use lib.ListN.{length, drop, length-map}
-use Rattle.meaning.specs.Bytes.{Text}
 use Rattle.labels.specs.Packing.{code}
 use Rattle.labels.proofs.Codes.{code_of}
-use Rattle.table.specs.Decoded.{name_of}
-use Rattle.grammar.specs.Forms.{part, dot}
 use Rattle.words.specs.Steps.{Stands}
-use Rattle.grammar.specs.Text.{Past, past}
+use Rattle.grammar.specs.Text.{past}
 use Rattle.words.proofs.Steps.{otherwise, become}
 use Rattle.lists.specs.Tallies.{Said}
-use Rattle.lists.specs.Entries.{said_of, seen, part_said}
+use Rattle.lists.specs.Entries.{said_of}
 use Rattle.lists.proofs.Seen.{said-stuck-there, said-went-on, said-stays-on, said_same}
 use Rattle.lists.proofs.Tallied.{Tallied, tallied-none, tallied-more}
 use Rattle.lists.proofs.Gathered.{begun, list-stuck, list-ends, list-goes-on, ended-with, stuck-with}

@@ -1,7 +1,6 @@
 use mathlib.Core.Path.{refl, sym, ◌∙◌}
 use borrow.Author.Tests.{not-true, not-false}
 use native.Mathlib.Omega.{arith}
-use Prim.Native.Nat.{◌-◌}
 use lib.ListN.{drop_of_length-le}
 use Rattle.words.proofs.Rests.{rest-cons, spelled-other, spelled-more, spelled-all}
 use Rattle.words.proofs.literals.read_literal.Goals as goal
