@@ -3,6 +3,7 @@
 use mathlib.Core.Path.{refl, sym, ◌∙◌}
 use native.Mathlib.Omega.{arith}
 use lib.ListN.{length}
+use borrow.Enum.Refused.{opened}
 use Rattle.rimecutter.proofs.Arms.{told}
 use Rattle.rimecutter.proofs.Responses.{long-enough, short-responded, cleared-responded, long-responded}
 use Rattle.rimecutter.proofs.calls.respond.Goals as goal
@@ -12,9 +13,6 @@ returns-then-too_short c =
     let a = c.args in
     short-responded a.description.now a.work.now a.answer.now _ refl (sym c.too_short.ensures ∙ c.if-too_short.true)
 
-pub enum_told-1 : goal.enum_told-1
-enum_told-1 c = c.in-TooLarge.keys1
-
 pub returns-in_default : goal.returns-in_default
 returns-in_default c =
     let a = c.args in
@@ -22,7 +20,7 @@ returns-in_default c =
     let found = c.respond_few-tried in
     long-responded a.description.now long
     (cleared-responded a.work.now (long-enough (length a.work.now) (length a.answer.now) long).0 _ a.answer.now _
-    (found.ensures.told (told found.result.answer c.in_default.keys2)) c.cleared.ensures)
+    (found.ensures.told (told found.result.answer (opened c.in_default.in_default-own.keys2))) c.cleared.ensures)
 
 pub respond_full-requires : goal.respond_full-requires
 respond_full-requires c =

@@ -1,6 +1,7 @@
 -- `rimecutter::calls::respond_few` meets its contract: why the text was not read, or what the rounds found in small areas.
 -- Assumes nothing.
 use mathlib.Core.Path.{refl, sym}
+use borrow.Enum.Refused.{opened}
 use Rattle.reading.proofs.Stores.{not-fine}
 use Rattle.rimecutter.proofs.Readings.{fine-read, refused-read}
 use Rattle.rimecutter.proofs.Responses.{few-refused, few-worked}
@@ -15,14 +16,11 @@ slice_bounds-read_description-end-2 c = refl
 pub slice_bounds-read_description-end-3 : goal.slice_bounds-read_description-end-3
 slice_bounds-read_description-end-3 c = refl
 
-pub enum_told-1 : goal.enum_told-1
-enum_told-1 c = c.in-Fine.keys1
-
 pub returns-in_default : goal.returns-in_default
 returns-in_default c =
     let read = c.read_description-read in
     few-refused _ _ _ c.unread.result read.result.answer c.unread.ensures
-    (refused-read read.ensures refl refl (not-fine read.result.answer c.in_default.keys2))
+    (refused-read read.ensures refl refl (not-fine read.result.answer (opened c.in_default.in_default-own.keys2)))
 
 pub slice_bounds-alphabet_of_few-end : goal.slice_bounds-alphabet_of_few-end
 slice_bounds-alphabet_of_few-end c = sym c.read_description-read.auto.table

@@ -1,6 +1,7 @@
 -- `rimecutter::calls::respond_full` meets its contract: why the text was not read, or what the rounds found in areas that are enough.
 -- Assumes nothing.
 use mathlib.Core.Path.{refl, sym}
+use borrow.Enum.Refused.{opened}
 use Rattle.reading.proofs.Stores.{not-fine}
 use Rattle.rimecutter.proofs.Readings.{fine-read, refused-read}
 use Rattle.rimecutter.proofs.Responses.{roomy-refused, cleared-responded, full-worked}
@@ -15,16 +16,13 @@ slice_bounds-read_description-end-2 c = refl
 pub slice_bounds-read_description-end-3 : goal.slice_bounds-read_description-end-3
 slice_bounds-read_description-end-3 c = refl
 
-pub enum_told-1 : goal.enum_told-1
-enum_told-1 c = c.in-Fine.keys1
-
 pub returns-in_default : goal.returns-in_default
 returns-in_default c =
     let found = c.read_description-read in
     let unread = c.unread in
     cleared-responded c.args.work.now c.requires.0 _ c.args.answer.now _
     (roomy-refused _ _ _ unread.result found.result.answer unread.ensures
-    (refused-read found.ensures refl refl (not-fine found.result.answer c.in_default.keys2)) refl)
+    (refused-read found.ensures refl refl (not-fine found.result.answer (opened c.in_default.in_default-own.keys2))) refl)
     c.cleared.ensures
 
 pub slice_bounds-alphabet-end : goal.slice_bounds-alphabet-end

@@ -9,4 +9,4 @@ pub returns-in-Bad : goal.returns-in-Bad
 returns-in-Bad c = sym (ap refusal_for c.in-Bad.is)
 
 pub returns-in_default : goal.returns-in_default
-returns-in_default c = no_room c.args.said c.in_default.keys3
+returns-in_default c = no_room c.args.said c.in_default.in_default-own.keys3
