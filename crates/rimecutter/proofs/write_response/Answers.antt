@@ -22,8 +22,7 @@ slice_bounds-write_answer-end c =
 
 pub returns-else-labels_in-labels : goal.returns-else-labels_in-labels
 returns-else-labels_in-labels c =
-    let said = c.said-1 in
-    written (Listed _ _) said.given.1 (rw held-take at c.write_answer.ensures)
+    written (Listed _ _) c.in-Listed.is (rw held-take at c.write_answer.ensures)
 
 pub returns-in-TooLong : goal.returns-in-TooLong
 returns-in-TooLong c = written TooLong c.in-TooLong.is c.write_refusal.ensures
