@@ -1,31 +1,52 @@
 // Reads a description from standard input and writes its alphabet, or the refusal, to standard output.
 #![tactic(auto)]
 
-use libc::{STDIN_FILENO, STDOUT_FILENO};
+ghost use Rattle.std.specs.Prelude.{◌≤◌, length};
+
 use rimecutter::alphabet_text;
+use std::io;
+use std::io::Read;
 
 // One byte more than a description may have: so many are enough to tell that it is too long.
 const MOST: usize = 8193;
 
-// What is left of a description that is too long is read and dropped, so that whoever writes it is not cut off.
-fn drop_some() -> bool {
-    let mut rest = io::buffer();
-    let got = libc::read(STDIN_FILENO, &mut rest);
-    0 < got
+// Reads until the area is full, the input ends or a read fails: how many bytes stand at its start.
+fn read_full(input: &mut impl Read, area: &mut [u8]) -> usize
+    ensures { result ≤ length area.new }
+{
+    let mut size = 0;
+    while size < area.len() {
+        match input.read(&mut area[size..]) {
+            Ok(0) | Err(_) => break,
+            Ok(got) => size += got,
+        }
+    }
+    size
 }
 
-fn drop_rest() {
-    let mut turns = u64::MAX;
-    while turns > 0 && drop_some() {
-        turns -= 1;
+// What is left of a description that is too long is read and dropped, so that whoever writes it is not cut off.
+fn drop_some(input: &mut impl Read) -> bool {
+    let mut rest = [0u8; 4096];
+    match input.read(&mut rest) {
+        Ok(got) => 0 < got,
+        Err(_) => false,
     }
 }
 
-fn main() {
+fn drop_rest(input: &mut impl Read) {
+    for _ in 0..u64::MAX {
+        if !drop_some(input) {
+            break;
+        }
+    }
+}
+
+fn main(rt: HostRuntime) -> io::Result<()> {
+    let mut input = rt.stdin();
     let mut description = [0u8; MOST];
-    let size = io::read_full(STDIN_FILENO, &mut description);
-    drop_rest();
+    let size = read_full(&mut input, &mut description);
+    drop_rest(&mut input);
     let mut text = [0u8; 303104];
     let length = alphabet_text(&description[..size], &mut text);
-    io::write_all(STDOUT_FILENO, &text[..length]);
+    rt.write_all(&text[..length])
 }

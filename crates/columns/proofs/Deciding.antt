@@ -73,9 +73,9 @@ module _ {some more : Faults} (before : (x : Fault) (p q : ℕ) → some x p →
 abbrev pub Bounds : Type 0
 Bounds = Fault → ℕ
 
-infix 40 ◌down-to◌
-abbrev pub ◌down-to◌ : Bounds → Bounds → Type 0
-◌down-to◌ upper lower = (x : Fault) → lower x ≤ upper x
+infix 40 ◌down_to◌
+abbrev pub ◌down_to◌ : Bounds → Bounds → Type 0
+◌down_to◌ upper lower = (x : Fault) → lower x ≤ upper x
 
 pub record Told (faults : Faults) (found : Found) (upper lower : Bounds) : Type 0 where
   pub decides : Decides faults found

@@ -10,7 +10,7 @@ use lib.ListN.{length, length-append}
 use Rattle.meaning.specs.Answers.{Fault, amount}
 use Rattle.grammar.specs.Faults.{worse, unless, Item, items_from, items_fault}
 use Rattle.columns.specs.Leftmost.{Faults, none, ◌or◌, FaultIf, indeed, weights, out_of_order, entry_faults, list_faults}
-use Rattle.columns.proofs.Deciding.{Bounds, ◌down-to◌, Told, told_same, told_wider, told-worse, told-fine, told-unless}
+use Rattle.columns.proofs.Deciding.{Bounds, ◌down_to◌, Told, told_same, told_wider, told-worse, told-fine, told-unless}
 
 -- The last of a list.
 last-same : {A : Type 0} (s t : List A) (a b : A) → s ++ (a ∷ []) ≡ t ++ (b ∷ []) → a ≡ b

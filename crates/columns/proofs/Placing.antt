@@ -14,7 +14,7 @@ use Rattle.grammar.specs.Faults.{pair_item, pairs_fault, rule_fault, rule_item, 
 use Rattle.grammar.proofs.Onwards.{When, when-past, when-stuck, when-weaken, when-branch, onward→, literal→}
 use Rattle.columns.specs.Leftmost.{Faults, list_faults, name_faults, part_faults, label_faults, pair_faults, rule_faults, labels_faults}
 use Rattle.columns.proofs.Inside.{Over, number-inside, word-inside}
-use Rattle.columns.proofs.Deciding.{Bounds, ◌down-to◌, Told, told_wider, told-worse, told-unless-lt, told-unless-le}
+use Rattle.columns.proofs.Deciding.{Bounds, ◌down_to◌, Told, told_wider, told-worse, told-unless-lt, told-unless-le}
 use Rattle.columns.proofs.Falling.{Entry, Falling, list-told}
 
 -- A rest is not longer than its text.

@@ -11,7 +11,7 @@ use Rattle.meaning.specs.Bytes.{Text, ascii}
 use Rattle.meaning.specs.Descriptions.{Term, Description}
 use Rattle.meaning.specs.Answers.{form, range}
 use Rattle.meaning.specs.Answers as A
-use Rattle.grammar.specs.Faults.{fault, term_said, term_fault, order_said, order_fault}
+use Rattle.grammar.specs.Faults.{term_said, term_fault, order_said, order_fault}
 use Rattle.grammar.specs.Reading.{take_number, take_name, take_term, take_body, take_order, Flaw, Walk, reached, halted, from_order, from_root, from_bodies}
 use Rattle.grammar.specs.Reading.{from_terms, from_counts, from_names, is_free, Reading, overlong, bad_line, at_first, Whole, whole_text, described}
 use Rattle.grammar.specs.Reading.{read_text, names_in_range, equations_in_range, terms_in_range}

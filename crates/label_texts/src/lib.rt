@@ -13,7 +13,7 @@ ghost use Rattle.label_texts.specs.Packed.{name_texts, counts_of};
 
 use labels::packing::{same, tau};
 use labels::{Label, WORD_END};
-use numerals::write_number;
+use numerals::{copy, write_number};
 use table::NAMES;
 
 // What the first digit of an upper word counts where it goes down to a lower one: 2 to the power 55.
@@ -95,7 +95,7 @@ fn write_fitting_label(text: &mut [u8], names: [u64; NAMES], label: Label) -> us
 {
     let size = write_parts(text, names, label);
     if size == 0 {
-        return bytes::copy(b"tau", text);
+        return copy(b"tau", text);
     }
     size
 }

@@ -70,7 +70,7 @@ module _ {A : Type 0} (item : A → Item) (limit : ℕ) where
   items-fine floor total [] e = tt
   items-fine floor total (x ∷ xs) e =
       let p = worse-none (worse (item x).own (tested limit floor total (item x))) _ e in
-      ((worse-none (item x).own (tested limit floor total (item x)) p.0).0, items-fine _ _ xs p.1)
+      ((worse-none (item x).own (tested limit floor total (item x)) p.0).0, items-fine (suc (item x).key) (total + (item x).weight) xs p.1)
 
   pub items-within : (floor total : ℕ) (xs : List A) → total ≤ limit → items_from limit floor total (map item xs) ≡ fine
       → total + weight_of (λ x. (item x).weight) xs ≤ limit

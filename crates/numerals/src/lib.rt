@@ -7,6 +7,16 @@ ghost use Rattle.std.specs.Prelude.{◌≡◌, ◌≤◌, leb, length};
 ghost use Rattle.grammar.specs.Marks.{decimal};
 ghost use Rattle.grammar.specs.Areas.{Written, Printed};
 
+// A text written to the start of an area.
+pub fn copy(source: &[u8], text: &mut [u8]) -> usize
+    requires { length source.now ≤ length text.old }
+    ensures { Written source.now text.old text.new result }
+{
+    let size = source.len();
+    text[..size].copy_from_slice(source);
+    size
+}
+
 // The digits before the last are those of a tenth of the number.
 fn write_digits(text: &mut [u8], n: usize) -> usize
     requires { length (decimal n) ≤ length text.old }

@@ -4,7 +4,7 @@ ghost use Rattle.grammar.specs.Marks.{decimal};
 ghost use Rattle.grammar.specs.Printed.{line};
 ghost use Rattle.grammar.specs.Areas.{Printed};
 
-use crate::{number_fits, write_digits};
+use crate::{copy, number_fits, write_digits};
 
 // The number is held to what the key and the line's end leave.
 fn line_fits(key: &[u8], n: usize, room: usize) -> bool
@@ -22,7 +22,7 @@ pub fn write_count_line(text: &mut [u8], key: &[u8], n: usize) -> usize
     ensures { Printed (line key.now (decimal n)) text.old text.new result }
 {
     if line_fits(key, n, text.len()) {
-        let at = bytes::copy(key, text);
+        let at = copy(key, text);
         let end = at + write_digits(&mut text[at..], n);
         text[end] = b'\n';
         return end + 1;

@@ -11,6 +11,7 @@ ghost use Rattle.printing.specs.Steps.{head_text};
 use areas::rows::{labels_in, read_label};
 use label_texts::{label_length, write_label};
 use labels::Label;
+use numerals::copy;
 use numerals::lines::write_count_line;
 use table::NAMES;
 
@@ -26,7 +27,7 @@ pub(crate) fn write_head(
     requires { length (head_text said.now key.now n next_key.now m) ≤ length text.old }
     ensures { Written (head_text said.now key.now n next_key.now m) text.old text.new result }
 {
-    let first = bytes::copy(said, text);
+    let first = copy(said, text);
     let second = first + write_count_line(&mut text[first..], key, n);
     second + write_count_line(&mut text[second..], next_key, m)
 }
@@ -35,7 +36,7 @@ fn write_label_line(text: &mut [u8], names: [u64; NAMES], label: Label) -> usize
     requires { length (line (ascii "label=") (printed_label (name_texts names) (counts_of (code label)))) ≤ length text.old }
     ensures { Written (line (ascii "label=") (printed_label (name_texts names) (counts_of (code label)))) text.old text.new result }
 {
-    let at = bytes::copy(b"label=", text);
+    let at = copy(b"label=", text);
     let end = at + write_label(&mut text[at..], names, label);
     text[end] = b'\n';
     end + 1

@@ -6,11 +6,11 @@ use extents::{at_start, labels_of};
 use images::Way;
 use images::imaging::add_image;
 use labels::bags::single;
-use libc::STDOUT_FILENO;
 use merging::joining::union_of;
 use parts::{MOST_WORDS, Part};
 use sets::Built;
 use sets::inserting::insert;
+use std::io;
 use sums::add_sums;
 
 // How many labels a set holds; none if it would pass a limit.
@@ -30,30 +30,28 @@ fn merged(dies: &[u64], len: usize, both: &mut [u64]) -> usize {
 }
 
 // A line: what is counted, and how many.
-fn show(text: &[u8], n: usize) {
-    io::write_all(STDOUT_FILENO, text);
-    io::print_decimal(STDOUT_FILENO, n as u64);
-    io::write_all(STDOUT_FILENO, b"\n");
+fn show(output: &impl Print, text: &str, n: usize) -> io::Result<()> {
+    println!(output; "{text}{n}")
 }
 
 // The dies, from one that starts, is done or is busy up to sixteen.
-fn show_dies() {
+fn show_dies(output: &impl Print) -> io::Result<()> {
     let mut dies = [0u64; MOST_WORDS];
     let mut twice = [0u64; MOST_WORDS];
     insert(&mut dies, at_start(0), single(0));
     insert(&mut dies, at_start(1), single(1));
     insert(&mut dies, at_start(2), single(2));
     let two = merged(&dies, 3, &mut twice);
-    show(b"two=", two);
+    show(output, "two=", two)?;
     let four = merged(&twice, two, &mut dies);
-    show(b"four=", four);
+    show(output, "four=", four)?;
     let eight = merged(&dies, four, &mut twice);
-    show(b"eight=", eight);
-    show(b"sixteen=", merged(&twice, eight, &mut dies));
+    show(output, "eight=", eight)?;
+    show(output, "sixteen=", merged(&twice, eight, &mut dies))
 }
 
-fn main() {
-    show_dies();
+fn main(rt: HostRuntime) -> io::Result<()> {
+    show_dies(&rt)?;
     // a:2>a a:2>b a:3>a a:3>b a:1.b:1>a a:1.b:1>b b:2>a b:2>b on a:31
     // the words of a label, lower and upper, stand together
     let rules = [
@@ -63,5 +61,5 @@ fn main() {
     let operand = [31u64, 0];
     let mut set = [0u64; MOST_WORDS];
     let made = add_image(Way::Comm, &rules, &operand, &operand, &mut set, 0);
-    show(b"communicated=", count(made));
+    show(&rt, "communicated=", count(made))
 }

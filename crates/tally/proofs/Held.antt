@@ -1,8 +1,8 @@
 -- What the type of a tally says of its figures: there are seven of refusals, and no figure of 32 bits is past its most.
 -- Assumes nothing.
-use mathlib.Core.Path.{◌≡◌, refl, sym, ap, ◌∙◌}
+use mathlib.Core.Path.{◌≡◌, refl}
 use mathlib.Core.Bool.{true}
-use mathlib.Core.List.{List, [], ◌∷◌, map-id}
+use mathlib.Core.List.{List, [], ◌∷◌}
 use Prim.Native.Nat.{ℕ, ◌≤◌}
 use native.Mathlib.Omega.{arith}
 use borrow.Author.Tests.{le-leb}
@@ -30,15 +30,14 @@ each_fits [] us held = refl
 each_fits (n ∷ ns) [] held = absurd held
 each_fits (n ∷ ns) (u ∷ us) held = rw (le-leb n most (omega (arith, held.0.1)), each_fits ns us held.1) refl
 
--- The logic has the elements of an array through a map that changes none.
 pub held : (t : Tally) (vs : List Val) → Is row.the_row t vs → Held t
 held t vs is =
     let a = is.1.1 in
     record {
-      seven = sym (ap length (map-id t.refusals)) ∙ a.1.1.0.1.0.1;
+      seven = a.1.1.0.1.0.1;
       descriptions = omega (arith, a.0.1);
       answered = omega (arith, a.1.0.1);
       labels = omega (arith, a.1.1.1.0.1);
       rounds = omega (arith, a.1.1.1.1.0.1);
-      refusals = sym (ap all_fit (map-id t.refusals)) ∙ each_fits _ _ a.1.1.0.1.1;
+      refusals = each_fits _ _ a.1.1.0.1.1;
     }

@@ -64,8 +64,8 @@ fn greater(a: u32, b: u32) -> u32
 }
 
 pub(crate) fn counting(tally: Tally, verdict: Verdict) -> Tally
-    requires verdict_value { given verdict ≡ true }
-    requires verdict_value_2 { fits (after tally verdict) ≡ true }
+    requires is_given { given verdict ≡ true }
+    requires is_within { fits (after tally verdict) ≡ true }
     ensures { result ≡ after tally verdict }
 {
     let refusals = tally.refusals;

@@ -12,7 +12,7 @@ ghost use Rattle.tally.specs.Figures.{refusal_numbers};
 ghost use Rattle.tally_texts.specs.Texts.{reason_key, reason_lines, tally_text};
 
 use numerals::lines::write_count_line;
-use numerals::write_number;
+use numerals::{copy, write_number};
 use tally::{REFUSALS, Tally};
 
 // A function of its own, so that nothing is asked of a figure that is read from an array, and its range is known.
@@ -48,7 +48,7 @@ fn write_reason(text: &mut [u8], number: usize, n: usize) -> usize
     requires { length (line (reason_key number) (decimal n)) ≤ length text.old }
     ensures { Written (line (reason_key number) (decimal n)) text.old text.new result }
 {
-    let named = bytes::copy(b"reason", text);
+    let named = copy(b"reason", text);
     let numbered = named + write_number(&mut text[named..], number);
     add_line(text, numbered, b"=", n)
 }
@@ -97,5 +97,5 @@ pub fn write_tally(text: &mut [u8], tally: Tally) -> usize
     if text.len() < size {
         return 0;
     }
-    bytes::copy(&scratch[..size], text)
+    copy(&scratch[..size], text)
 }

@@ -6,10 +6,12 @@
 // bytes each. The lower bytes of a number stand first. What is left of a record at the end of the input is dropped.
 #![tactic(auto)]
 
-ghost use Rattle.std.specs.Prelude.{◌≡◌, ◌+◌, ◌*◌, ◌≤◌};
+ghost use Rattle.std.specs.Prelude.{◌≡◌, ◌+◌, ◌*◌, ◌≤◌, length};
 ghost use Rattle.tally.specs.Additions.{Adds};
 
-use libc::{STDIN_FILENO, STDOUT_FILENO};
+use numerals::copy;
+use std::io;
+use std::io::Read;
 use tally::{Addition, Answer, Tally, Verdict, add, empty};
 use tally_texts::{LONGEST_TALLY, write_tally};
 
@@ -95,25 +97,25 @@ fn begun(running: Tally, record: &[u8; RECORD]) -> Tally {
 
 // The line that says what became of a verdict. Its length is returned.
 fn write_said(text: &mut [u8], answer: Answer) -> usize
-    requires* { do ⌜ 8 ≤ (← ⟦text.len()⟧) ⌝ }
+    requires { 8 ≤ length text.old }
     ensures { result ≤ 8 }
 {
     match answer {
-        Answer::TakenIn => bytes::copy(b"said=0\n", text),
-        Answer::Full => bytes::copy(b"said=17\n", text),
-        Answer::NoVerdict => bytes::copy(b"said=18\n", text),
+        Answer::TakenIn => copy(b"said=0\n", text),
+        Answer::Full => copy(b"said=17\n", text),
+        Answer::NoVerdict => copy(b"said=18\n", text),
     }
 }
 
 // Many records are tried, so all that is said of one is written at once.
-fn write_addition(addition: Addition) {
+fn write_addition(output: &impl Print, addition: Addition) -> io::Result<()> {
     let answer = addition.answer;
     let after = addition.tally;
     let mut text = [0u8; TEXT];
     let at = write_said(&mut text, answer);
     let length = write_tally(&mut text[at..], after);
     let end = at + length;
-    io::write_all(STDOUT_FILENO, &text[..end]);
+    output.write_all(&text[..end])
 }
 
 // What a turn leaves: the running tally, and whether there was one more whole record.
@@ -134,36 +136,35 @@ fn in_place(before: Tally, verdict: Verdict) -> Addition
 }
 
 // One record is read, tried and told.
-fn after_record(running: Tally) -> Turn {
+fn after_record(input: &mut impl Read, output: &impl Print, running: Tally) -> io::Result<Turn> {
     let mut record = [0u8; RECORD];
-    let size = io::read_full(STDIN_FILENO, &mut record);
-    if size < RECORD {
-        return Turn {
+    // Where the input ends or cannot be read, no whole record is left.
+    if input.read_exact(&mut record).is_err() {
+        return Ok(Turn {
             tally: running,
             goes_on: false,
-        };
+        });
     }
     let before = begun(running, &record);
     let addition = in_place(before, verdict_in(&record));
-    write_addition(addition);
+    write_addition(output, addition)?;
     let after = addition.tally;
-    Turn {
+    Ok(Turn {
         tally: after,
         goes_on: true,
-    }
+    })
 }
 
-// Nothing says that an input ends, so the turns are counted down from a number that none uses up.
-fn main() {
+// Nothing says that an input ends, so the turns are bounded by a number that none uses up.
+fn main(rt: HostRuntime) -> io::Result<()> {
+    let mut input = rt.stdin();
     let mut running = empty();
-    let mut turns = u64::MAX;
-    while turns > 0 {
-        let next = after_record(running);
+    for _ in 0..u64::MAX {
+        let next = after_record(&mut input, &rt, running)?;
         if !next.goes_on {
-            return;
+            break;
         }
-        let after = next.tally;
-        running = after;
-        turns -= 1;
+        running = next.tally;
     }
+    Ok(())
 }

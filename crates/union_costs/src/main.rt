@@ -6,12 +6,12 @@ ghost use Rattle.std.specs.Prelude.{◌≤◌};
 
 use areas::rows::{read_label, write_label};
 use labels::packing::label_of;
-use libc::STDOUT_FILENO;
 use merging::joining::union_of;
 use merging::walking::{Drawn, Rest, draw, rest_of};
 use parts::{MOST_LABELS, Part, Target};
 use sets::Built;
 use sets::inserting::{insert, place};
+use std::io;
 
 // How many labels a set has, both have, and there is room for beside their union by insertions; and the words of both and of all.
 const SIZE: usize = 512;
@@ -95,13 +95,11 @@ fn walked(words: &[u64], part: Part, other: Part, at: usize) -> Cost {
 }
 
 // A line: what is counted, and how many.
-fn show(text: &[u8], n: usize) {
-    io::write_all(STDOUT_FILENO, text);
-    io::print_decimal(STDOUT_FILENO, n as u64);
-    io::write_all(STDOUT_FILENO, b"\n");
+fn show(output: &impl Print, text: &str, n: usize) -> io::Result<()> {
+    println!(output; "{text}{n}")
 }
 
-fn main() {
+fn main(rt: HostRuntime) -> io::Result<()> {
     let mut area = [0u64; ALL_WORDS];
     let evens = Part { from: 0, to: SIZE };
     let odds = Part {
@@ -109,13 +107,14 @@ fn main() {
         to: BOTH,
     };
     interleaved(&mut area);
-    show(b"moved=", moved_by_insertions(&mut area, BOTH));
+    show(&rt, "moved=", moved_by_insertions(&mut area, BOTH))?;
     let cost = walked(&area, evens, odds, BOTH);
-    show(b"drawn=", cost.drawn);
-    show(b"read=", cost.read);
+    show(&rt, "drawn=", cost.drawn)?;
+    show(&rt, "read=", cost.read)?;
     let mut both = [0u64; BOTH_WORDS];
     let joined = union_of(&area, evens, odds, &mut both);
     if let Built::Holds(labels) = joined {
-        show(b"union=", labels);
+        show(&rt, "union=", labels)?;
     }
+    Ok(())
 }

@@ -24,13 +24,13 @@ pub advance-step-requires : goal.advance-step-requires
 advance-step-requires c = tt
 
 -- the words of the areas after a term
-kept-words : (c : After-advance-step) → let last = c.advance-step.new.lists.1.1.1.1.1 in
+kept-words : (c : After-advance-step) → let last = c.advance-step.new in
     let a = c.args in
-    (length last.0 ≡ length a.work.now) × (length last.1.0 ≡ length a.log.now) × (length last.1.1.1.0 ≡ length a.out.now)
+    (length last.work ≡ length a.work.now) × (length last.log ≡ length a.log.now) × (length last.out ≡ length a.out.now)
 kept-words c =
     let inv = c.loop-n.invariant in
-    let kept = c.advance-step.auto.lists.1.1.1.1.1 in
-    (kept.0 ∙ inv.1, kept.1.0 ∙ inv.2, kept.1.1.1.0 ∙ inv.3)
+    let kept = c.advance-step.auto in
+    (kept.work ∙ inv.1, kept.log ∙ inv.2, kept.out ∙ inv.3)
 
 pub returns-in_default : goal.returns-in_default
 returns-in_default c =

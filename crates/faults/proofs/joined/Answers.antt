@@ -1,7 +1,6 @@
 -- `faults::joined` meets its contract: where both tests hold they have no fault to join.
 -- Assumes nothing.
 use mathlib.Core.Path.{◌≡◌, sym, ap₂, ◌∙◌}
-use mathlib.Core.Logic.{⊎_elim}
 use Rattle.meaning.specs.Answers.{amount}
 use Rattle.grammar.specs.Faults.{fault, worse, unless}
 use Rattle.faults.proofs.Ranks.{worse-fine, first-fails, second-fails}
@@ -19,7 +18,10 @@ amounts : (c : Joined-else-ordered)
     fault amount a.from ≡ worse (unless a.ordered amount a.from) (unless a.within amount a.from)
 amounts c =
     let a = c.args in
-    ⊎_elim (λ w. rw w.1.left (second-fails a.ordered a.from)) (λ w. rw w.left (first-fails a.within a.from)) c.else-ordered.branch
+    elim c.else-ordered.branch [
+      | goal.else-ordered-via-then-ordered+else-within w ↦ rw w.if-within.false (second-fails a.ordered a.from)
+      | goal.else-ordered-via-else-ordered w ↦ rw w.if-ordered.false (first-fails a.within a.from)
+    ]
 
 pub returns : goal.returns
 returns c = c.worse_of.ensures ∙ ap₂ worse c.worse_of-entries.ensures (amounts c.before)

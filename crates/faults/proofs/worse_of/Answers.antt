@@ -13,14 +13,10 @@ pub returns-then-number_of : goal.returns-then-number_of
 returns-then-number_of c =
     let h = c.number_of-2.ensures in
     let g = c.number_of.ensures in
-    let a = c.a-1.given in
-    let b = c.b-1.given in
-    rw (a.1, b.1, le-leb (fault_number (fault_of a.0.0)) (fault_number (fault_of b.0.0)) (omega arith))
+    rw (c.in-Faulty.is, c.in-Faulty-b.is, le-leb (fault_number (fault_of c.in-Faulty.x)) (fault_number (fault_of c.in-Faulty-b.y)) (omega arith))
 
 pub returns : goal.returns
 returns c =
     let h = c.number_of-2.ensures in
     let g = c.number_of.ensures in
-    let a = c.a-1.given in
-    let b = c.b-1.given in
-    rw (a.1, b.1, lt-leb (fault_number (fault_of a.0.0)) (fault_number (fault_of b.0.0)) (omega arith))
+    rw (c.in-Faulty.is, c.in-Faulty-b.is, lt-leb (fault_number (fault_of c.in-Faulty.x)) (fault_number (fault_of c.in-Faulty-b.y)) (omega arith))

@@ -1,4 +1,3 @@
-use Prim.Native.Nat.{◌-◌}
 use native.Mathlib.Omega.{arith}
 use Rattle.feet.proofs.BodyLines.{bodies-start, bodies-long, bodies-within, bodies-step, bodies-halt, bodies-end}
 use Rattle.feet.proofs.read_bodies.Goals as goal
@@ -17,12 +16,6 @@ slice_bounds-take_number-end c = omega arith
 
 pub overflow_add-line : goal.overflow_add-line
 overflow_add-line c = omega arith
-
-pub enum_known-step : goal.enum_known-step
-enum_known-step c = c.in-To.keys1
-
-pub enum_told-1 : goal.enum_told-1
-enum_told-1 c = c.in_default.keys2
 
 pub shape_of-table-in_default : goal.shape_of-table-in_default
 shape_of-table-in_default c = bodies-long c.loop-i.invariant

@@ -18,12 +18,6 @@ returns-then-not-has_room c =
 pub read_foot-foot-requires : goal.read_foot-foot-requires
 read_foot-foot-requires c = room-told c.has_room.result c.if-not-has_room.false-raw c.has_room.ensures
 
-pub enum_known-foot : goal.enum_known-foot
-enum_known-foot c = c.in-To.keys1
-
-pub enum_told-1 : goal.enum_told-1
-enum_told-1 c = c.in_default.keys2
-
 pub returns-in_default : goal.returns-in_default
 returns-in_default c =
     given-roomy (room-told c.has_room.result c.if-not-has_room.false-raw c.has_room.ensures)
@@ -33,7 +27,7 @@ pub slice_bounds-take_order-count : goal.slice_bounds-take_order-count
 slice_bounds-take_order-count c = foot-taken c.read_foot-foot.ensures c.in-To.is
 
 pub slice_bounds-take_order-start : goal.slice_bounds-take_order-start
-slice_bounds-take_order-start c = sub-take-order c
+slice_bounds-take_order-start c = slice_bounds-take_order-count c
 
 pub overflow_add-line : goal.overflow_add-line
 overflow_add-line c =
@@ -54,7 +48,6 @@ returns c =
     let a = c.args in
     let room : EndRoom a.line a.equations (length a.table.now) =
     room-told c.has_room.result c.if-not-has_room.false-raw c.has_room.ensures in
-    let to = c.foot-1.given in
     given-roomy room
-    (end_read c.read_foot-foot.ensures to.1 (omega (arith, room.0, room.1)) (rest-drop a.text.now to.0.1.0 (sub-take-order c.before.before.before.before.before.before.before))
+    (end_read c.read_foot-foot.ensures c.in-To.is (omega (arith, room.0, room.1)) (rest-drop a.text.now c.in-To.at (foot-taken c.read_foot-foot.ensures c.in-To.is))
     c.names_of.ensures c.take_order.ensures)

@@ -8,12 +8,6 @@ use Rattle.feet.proofs.read_foot.Goals as goal
 pub read_bodies-bodies-requires : goal.read_bodies-bodies-requires
 read_bodies-bodies-requires c = c.requires
 
-pub enum_known-bodies : goal.enum_known-bodies
-enum_known-bodies c = c.in-To.keys1
-
-pub enum_told-1 : goal.enum_told-1
-enum_told-1 c = c.in_default.keys2
-
 pub shape_of-table-in_default : goal.shape_of-table-in_default
 shape_of-table-in_default c = c.read_bodies-bodies.ensures.tabled.long
 
@@ -31,12 +25,6 @@ slice_bounds-take_number-end c = omega arith
 
 pub overflow_add-line : goal.overflow_add-line
 overflow_add-line c = omega arith
-
-pub enum_known-given : goal.enum_known-given
-enum_known-given c = c.in-To-given.keys1
-
-pub enum_told-in_default-given : goal.enum_told-in_default-given
-enum_told-in_default-given c = c.in_default-given.keys2
 
 pub shape_of-table-in_default-given : goal.shape_of-table-in_default-given
 shape_of-table-in_default-given c = c.read_bodies-bodies.ensures.tabled.long

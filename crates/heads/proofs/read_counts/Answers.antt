@@ -2,17 +2,11 @@
 -- Assumes nothing.
 use native.Mathlib.Omega.{arith}
 use lib.ListN.{length-set}
-use Rattle.heads.proofs.HeadLines.{counts-bad, counts-within, counts-on, terms-bad, counts_end}
+use Rattle.heads.proofs.HeadLines.{counts-bad, counts-within, terms-bad, counts_end}
 use Rattle.heads.proofs.read_counts.Goals as goal
 
 pub overflow_add-named : goal.overflow_add-named
 overflow_add-named c = omega arith
-
-pub enum_known-counted : goal.enum_known-counted
-enum_known-counted c = c.in-To.keys1
-
-pub enum_told-1 : goal.enum_told-1
-enum_told-1 c = c.in_default.keys2
 
 pub returns-in_default : goal.returns-in_default
 returns-in_default c = counts-bad _ _ c.take_number-counted.ensures c.in_default.is
@@ -31,12 +25,6 @@ slice_bounds-take_number-end-2 c = omega arith
 pub overflow_add-named-2 : goal.overflow_add-named-2
 overflow_add-named-2 c = omega arith
 
-pub enum_known-given : goal.enum_known-given
-enum_known-given c = c.in-To-given.keys1
-
-pub enum_told-in_default-given : goal.enum_told-in_default-given
-enum_told-in_default-given c = c.in_default-given.keys2
-
 pub returns-in_default-given : goal.returns-in_default-given
 returns-in_default-given c =
     terms-bad _ _ c.take_number-counted.ensures c.in-To.is c.take_number-given.ensures
@@ -53,17 +41,6 @@ bounds-table-1 c =
 pub bounds-table-2 : goal.bounds-table-2
 bounds-table-2 c =
     simp length-set (omega (arith, c.requires))
-
--- LOST add-t12
--- add-t12 : tie.Need-overflow-add-t12
--- add-t12 c =
---     let there = c.before.before.before.before.before.before in
---     let start = there.before.before.before.before.before.before.before in
---     omega (
---       arith,
---       counts-on start.args.table.now start.args.named there.before.before.before.take-number.ensures
---           there.before.counted.given.1 c.before.before.before.take-number2.ensures c.before.given.given.1,
---     )
 
 pub shape_of-table : goal.shape_of-table
 shape_of-table c = simp length-set

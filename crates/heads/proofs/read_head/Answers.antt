@@ -10,12 +10,6 @@ use Rattle.heads.proofs.read_head.Goals as goal
 pub returns-then-table-lt-TABLE_WORDS : goal.returns-then-table-lt-TABLE_WORDS
 returns-then-table-lt-TABLE_WORDS c = given-narrow (λ long. omega (arith, c.if-table-lt-TABLE_WORDS.true)) (bad-first c.first_flaw.ensures, refl)
 
-pub enum_known-given : goal.enum_known-given
-enum_known-given c = c.in-To.keys1
-
-pub enum_told-1 : goal.enum_told-1
-enum_told-1 c = c.in_default.keys2
-
 pub returns-in_default : goal.returns-in_default
 returns-in_default c =
     given-roomy c.if-table-lt-TABLE_WORDS.false (head-bad _ c.take_number-given.ensures c.in_default.is)
@@ -35,12 +29,6 @@ pub read_names-names-requires : goal.read_names-names-requires
 read_names-names-requires c =
     let table = c.args.table.now in
     (head_few table c.take_number-given.ensures c.in-To.is, c.if-table-lt-TABLE_WORDS.false)
-
-pub enum_known-names : goal.enum_known-names
-enum_known-names c = c.in-To-names.keys1
-
-pub enum_told-in_default-names : goal.enum_told-in_default-names
-enum_told-in_default-names c = c.in_default-names.keys2
 
 pub shape_of-table-in_default-names : goal.shape_of-table-in_default-names
 shape_of-table-in_default-names c = c.read_names-names.ensures.tabled.long
@@ -73,17 +61,10 @@ pub slice_bounds-read_counts-end : goal.slice_bounds-read_counts-end
 slice_bounds-read_counts-end c = omega arith
 
 pub read_counts-counts-requires : goal.read_counts-counts-requires
-read_counts-counts-requires c =
-    (
-      head_few c.args.table.now c.take_number-given.ensures c.in-To.is,
-      omega (arith, c.if-table-lt-TABLE_WORDS.false, c.read_names-names.ensures.tabled.long),
-    )
-
-pub enum_known-counts : goal.enum_known-counts
-enum_known-counts c = c.in-To-counts.keys1
-
-pub enum_told-in_default-counts : goal.enum_told-in_default-counts
-enum_told-in_default-counts c = c.in_default-counts.keys2
+read_counts-counts-requires c = (
+  head_few c.args.table.now c.take_number-given.ensures c.in-To.is,
+  omega (arith, c.if-table-lt-TABLE_WORDS.false, c.read_names-names.ensures.tabled.long),
+)
 
 pub shape_of-table-in_default-counts : goal.shape_of-table-in_default-counts
 shape_of-table-in_default-counts c =
@@ -96,18 +77,13 @@ returns-in_default-counts c =
     c.read_names-names.ensures c.in-To-names.is
     c.read_counts-counts.ensures c.in_default-counts.is)
 
--- LOST add-t14
--- add-t14 : tie.Need-overflow-add-t14
--- add-t14 c =
---     let two = c.before.before.before.before.before.before.before.before in
---     let one = two.before.before.before.before.before.before.before.before in
---     let start = one.before.before.before.before.before.before.before.before in
---     omega (
---       arith,
---       head-counts-within start.args.table.now one.before.before.before.take-number.ensures one.before.given.given.1
---           two.before.before.before.before.before.read_names.ensures two.before.names.given.1
---           c.before.before.before.before.before.read-counts.ensures c.before.counts.given.1,
---     )
+pub overflow_add-result : goal.overflow_add-result
+overflow_add-result c =
+    omega (
+      arith,
+      head-counts-within c.args.table.now c.take_number-given.ensures c.in-To.is c.read_names-names.ensures c.in-To-names.is
+          c.read_counts-counts.ensures c.in-To-counts.is,
+    )
 
 pub shape_of-table : goal.shape_of-table
 shape_of-table c =

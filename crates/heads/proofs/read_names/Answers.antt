@@ -1,4 +1,3 @@
-use Prim.Native.Nat.{◌-◌}
 use native.Mathlib.Omega.{arith}
 use Rattle.heads.proofs.NameLines.{names-start, names-long, names-within, names-step, names-halt, names-end}
 use Rattle.heads.proofs.read_names.Goals as goal
@@ -29,12 +28,6 @@ slice_bounds-take_name-start-in-loop-i c = omega arith
 
 pub slice_bounds-take_name-end-in-loop-i : goal.slice_bounds-take_name-end-in-loop-i
 slice_bounds-take_name-end-in-loop-i c = omega (arith, names-long c.loop-i.invariant, c.requires)
-
-pub enum_known-step : goal.enum_known-step
-enum_known-step c = c.in-To.keys1
-
-pub enum_told-1 : goal.enum_told-1
-enum_told-1 c = c.in_default.keys2
 
 pub shape_of-table-in_default : goal.shape_of-table-in_default
 shape_of-table-in_default c = names-long c.loop-i.invariant
@@ -69,7 +62,7 @@ loop-i-preserved c =
     let more = c.loop-i-test.true in
     let pre = c.requires in
     names-step c.loop-i.invariant pre.0 pre.1 more c.take_name-step.ensures c.in-To.is
-    (omega (arith, c.known_told-1.given))
+    (omega arith)
 
 pub shape_of-table : goal.shape_of-table
 shape_of-table c = names-long c.loop-i.invariant

@@ -21,17 +21,14 @@ overflow_add-next c = omega (arith, ap step_place c.in-To.is)
 
 pub returns-then-not-sign_at : goal.returns-then-not-sign_at
 returns-then-not-sign_at c =
-    let s = c.s-1.given in
-    rw (s.1, sym c.sign_at.ensures ∙ not-true _ c.if-not-sign_at.true-raw)
+    rw (c.in-To.is, sym c.sign_at.ensures ∙ not-true _ c.if-not-sign_at.true-raw)
 
 pub overflow_add-result-2 : goal.overflow_add-result-2
 overflow_add-result-2 c =
-    let s = c.s-1.given in
     let a = c.args in
-    let w = sign-within lf a.text.now (a.at + s.0.1.0) (sym c.sign_at.ensures ∙ not-false _ c.if-not-sign_at.false-raw) in
+    let w = sign-within lf a.text.now (a.at + c.in-To.bytes) (sym c.sign_at.ensures ∙ not-false _ c.if-not-sign_at.false-raw) in
     omega arith
 
 pub returns : goal.returns
 returns c =
-    let s = c.s-1.given in
-    rw (s.1, sym c.sign_at.ensures ∙ not-false _ c.if-not-sign_at.false-raw)
+    rw (c.in-To.is, sym c.sign_at.ensures ∙ not-false _ c.if-not-sign_at.false-raw)

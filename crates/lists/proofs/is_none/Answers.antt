@@ -19,6 +19,3 @@ no-labels Names b k = refl
 no-labels Pairs b k = refl
 no-labels Rules b k = refl
 no-labels Labels b k = absurd (miss (0 ∷ 1 ∷ 2 ∷ []) 3 tt k)
-
-pub returns-in_default : goal.returns-in_default
-returns-in_default c = no-labels c.args.kind _ c.in_default.keys2

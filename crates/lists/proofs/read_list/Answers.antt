@@ -1,7 +1,6 @@
-use mathlib.Core.Logic.{⊎_elim}
 use mathlib.Core.Path.{refl, sym, ap, subst, ◌∙◌}
 use mathlib.Core.List.{[], ◌∷◌, ◌++◌, map}
-use Prim.Native.Nat.{◌+◌, ◌-◌, ◌≤◌, ◌<◌, ◌^◌}
+use Prim.Native.Nat.{◌+◌, ◌≤◌, ◌<◌, ◌^◌}
 use native.Mathlib.Omega.{arith}
 use borrow.Author.Tests.{not-true, not-false}
 use lib.ListN.{length, drop, length-drop, length-map}
@@ -9,7 +8,6 @@ use Rattle.labels.specs.Packing.{code}
 use Rattle.labels.proofs.Codes.{code_of}
 use Rattle.table.specs.Decoded.{name_of}
 use Rattle.grammar.specs.Text.{past}
-use Rattle.grammar.specs.Forms.{comma}
 use Rattle.words.specs.Steps.{Stands}
 use Rattle.words.proofs.Steps.{otherwise}
 use Rattle.lists.specs.Tallies.{Said}
@@ -23,17 +21,7 @@ use Rattle.lists.proofs.Starts.{starts-alike}
 use Rattle.lists.proofs.Listed.{Filled, filled_none, filled_more, length_over, not-read, as_read}
 use Rattle.lists.proofs.Listed.{entry-small, entry-within, entry-longer, count_most, weight-most, limit-most}
 use Rattle.lists.proofs.read_list.Goals as goal
-use Rattle.lists.proofs.read_list.Goals.{After-counted-tally, After-put_entry, At-loop-entries, In-To, Joined-entries-eq3, Start}
-
--- where the starts are known, the turn in which an entry was read, and the start of the function
-abbrev begins : In-To → Joined-entries-eq3
-begins c = c.before.before.before.before.before.before
-
-abbrev turn : In-To → At-loop-entries
-turn c = (begins c).before
-
-abbrev entry : At-loop-entries → Start
-entry l = l.before.before.before.before.before.before
+use Rattle.lists.proofs.read_list.Goals.{After-counted-tally, After-put_entry, In-To, Joined-entries-eq3}
 
 pub loop-entries-init : goal.loop-entries-init
 loop-entries-init c =
@@ -41,13 +29,16 @@ loop-entries-init c =
     ([], begun _ _ _, tallied-none _ _ _ c.empty_tally-tally.ensures, filled_none _ _, omega arith, shape.0, shape.1, shape.2, starts-alike _ 0)
 
 pub starts_of-starts-requires : goal.starts_of-starts-requires
-starts_of-starts-requires c = (entry c.before).pre
+starts_of-starts-requires c = c.requires
 
 -- the starts, made anew for the fourth entry
-started : (c : Joined-entries-eq3) → Starting (entry c.before).args.names.now c.if-entries-eq3.starts
+started : (c : Joined-entries-eq3) → Starting c.args.names.now c.if-entries-eq3.starts
 started c =
-    let known = Starting (entry c.before).args.names.now in
-    ⊎_elim (λ w. subst known (sym w.2) w.1.ensures) (λ w. subst known (sym w.1) c.loop-entries.invariant.8) c.if-entries-eq3.branch
+    let known = Starting c.args.names.now in
+    elim c.if-entries-eq3.branch [
+      | goal.then-entries-eq3 w ↦ subst known (sym w.starts-is) w.starts_of-starts.ensures
+      | goal.else-entries-eq3 w ↦ subst known (sym w.starts-is) c.loop-entries.invariant.8
+    ]
 
 pub slice_bounds-read_entry-count : goal.slice_bounds-read_entry-count
 slice_bounds-read_entry-count c = omega (arith, c.loop-entries.invariant.1.within)
@@ -56,7 +47,7 @@ pub slice_bounds-read_entry-start : goal.slice_bounds-read_entry-start
 slice_bounds-read_entry-start c = c.loop-entries.invariant.1.within
 
 pub read_entry-entry-requires : goal.read_entry-entry-requires
-read_entry-entry-requires c = ((entry c.before.before.before).pre, started c.before.before)
+read_entry-entry-requires c = (c.requires, started (goal.at.read_entry-entry-requires c).Joined-entries-eq3)
 
 pub shape_of-store-in_default : goal.shape_of-store-in_default
 shape_of-store-in_default c = ap length c.loop-entries.invariant.3.store_is ∙ length_over _ _
@@ -64,111 +55,101 @@ shape_of-store-in_default c = ap length c.loop-entries.invariant.3.store_is ∙ 
 pub returns-in_default : goal.returns-in_default
 returns-in_default c =
     let loop = c.loop-entries in
-    let start = entry c.before.before.before.before.before.before.before in
-    let a = start.args in
+    let a = c.args in
     let s =
     list-stuck loop.invariant.1
     (said-stays-on (entry_of (map (name_of 8) a.names.now) a.kind) a.rest.now loop.from loop.invariant.1.within
     c.read_entry-entry.ensures
     (said-stuck-there c.in_default.is c.said_stuck_at.ensures)) in
-    record { c.before.before.before = record { stands = stuck-with (list_entry (length a.rest.now) a.kind) s }; stored = λ es p h. absurd (not-read s.says h) }
+    record { read = record { stands = stuck-with (list_entry (length a.rest.now) a.kind) s }; stored = λ es p h. absurd (not-read s.says h) }
 
 pub overflow_add-result : goal.overflow_add-result
-overflow_add-result c = let s = (returns c).read.stands.within in omega arith
+overflow_add-result c = let s = (returns-in_default c).read.stands.within in omega arith
 
 -- what the entry that was read says, and where it stands in the line
 abbrev told : In-To → Said
-told c = said_of (length (drop (turn c).loop.from (entry (turn c)).args.rest.now)) c.before.entry.given.0.0
+told c = said_of (length (drop c.loop-entries.from c.args.rest.now)) c.in-To.said
 
 went : (c : In-To)
-    → let from = (turn c).loop.from in
-    let a = (entry (turn c)).args in
+    → let from = c.loop-entries.from in
+    let a = c.args in
     let next = from + c.in-To.bytes in
     Stands a.rest.now next (past (told c) (drop next a.rest.now)) (entry_of (map (name_of 8) a.names.now) a.kind (drop from a.rest.now))
 went c =
-    let loop = (turn c).loop in
-    let a = (entry (turn c)).args in
-    said-went-on (entry_of (map (name_of 8) a.names.now) a.kind) a.rest.now loop.from loop.inv.1.within
+    let loop = c.loop-entries in
+    let a = c.args in
+    said-went-on (entry_of (map (name_of 8) a.names.now) a.kind) a.rest.now loop.from loop.invariant.1.within
     c.read_entry-entry.ensures c.in-To.is
 
 pub overflow_add-next : goal.overflow_add-next
 overflow_add-next c = let s = (went c).within in omega arith
 
 pub overflow_sub-rest : goal.overflow_sub-rest
-overflow_sub-rest c = omega (arith, (went c).within)
+overflow_sub-rest c = omega (arith, (went (goal.at.overflow_sub-rest c).In-To).within)
 
 entered : (c : In-To)
     → let e = c.in-To.said in
-    let a = (entry (turn c)).args in
+    let a = c.args in
     (code e.first < 2 ^ 120) × Short a.kind (code e.first) e.second
 entered c =
-    let start = entry (turn c) in
-    entry-small _ (rw length-map start.pre) start.args.kind _ (went c).says
+    entry-small _ (rw length-map c.requires) c.args.kind _ (went c).says
 
 tallied : (c : After-counted-tally)
-    → let l = turn c.before in
-    let kind = (entry l).args.kind in
-    Tallied (λ e. weight_for kind) (λ e. e.from) (limit_for kind) (l.loop.inv.0 ++ (told c.before ∷ [])) c.counted-tally.result
+    → let kind = c.args.kind in
+    Tallied (λ e. weight_for kind) (λ e. e.from) (limit_for kind) (c.loop-entries.invariant.0 ++ (told (goal.at.After-counted-tally c).In-To ∷ [])) c.counted-tally.result
 tallied c =
-    let l = turn c.before in
-    let kind = (entry l).args.kind in
-    let i = l.loop.inv in
+    let kind = c.args.kind in
+    let i = c.loop-entries.invariant in
     let w = weight-most kind in
     let m = limit-most kind in
-    tallied-more (λ e. weight_for kind) (λ e. e.from) (limit_for kind) (told c.before) i.2
-    (record { keys = (entered c.before).0; totals = omega (arith, i.2.totals); weights = omega arith; limits = omega arith })
-    (counted-as i.6 i.7 (sym (length-drop l.loop.from (entry l).args.rest.now)) c.counted-tally.ensures)
+    tallied-more (λ e. weight_for kind) (λ e. e.from) (limit_for kind) (told (goal.at.After-counted-tally c).In-To) i.2
+    (record { keys = (entered (goal.at.After-counted-tally c).In-To).0; totals = omega (arith, i.2.totals); weights = omega arith; limits = omega arith })
+    (counted-as i.6 i.7 (sym (length-drop c.loop-entries.from c.args.rest.now)) c.counted-tally.ensures)
 
 -- There are half as many entries before this one as bytes at most, so that three times as many words can be counted.
 counts : (c : In-To)
-    → let l = (turn c).loop in
+    → let l = c.loop-entries in
     (l.index + 6 ≤ 2 ^ 64) × (l.entries + 1 < 2 ^ 64)
 counts c =
-    let l = turn c in
-    let start = entry l in
-    let i = l.loop.inv in
-    let w = entry-within (map (name_of 8) start.args.names.now) start.args.kind start.args.rest.now l.loop.from (went c).says in
-    let g = start.good.1.0 in
+    let i = c.loop-entries.invariant in
+    let w = entry-within (map (name_of 8) c.args.names.now) c.args.kind c.args.rest.now c.loop-entries.from (went c).says in
+    let g = c.well_formed.1.0 in
     (omega (arith, i.3.index-most, i.4), omega (arith, i.4))
 
 pub put_entry-requires : goal.put_entry-requires
-put_entry-requires c = let n = counts c.before.before.before in (omega arith, (entered c.before.before.before).1)
+put_entry-requires c = let n = counts (goal.at.put_entry-requires c).In-To in (omega arith, (entered (goal.at.put_entry-requires c).In-To).1)
 
 filled : (c : After-put_entry)
-    → let l = turn c.before.before.before.before in
-    let a = (entry l).args in
-    Filled a.kind a.store.now (l.loop.inv.0 ++ (told c.before.before.before.before ∷ [])) (l.loop.entries + 1)
-    (l.loop.index + l.before.before.shape_of.result.size) c.put_entry.new.store.0
+    → let a = c.args in
+    Filled a.kind a.store.now (c.loop-entries.invariant.0 ++ (told (goal.at.After-put_entry c).In-To ∷ [])) (c.loop-entries.entries + 1)
+    (c.loop-entries.index + c.shape_of-shape.result.size) c.put_entry.new.store
 filled c =
-    let l = turn c.before.before.before.before in
-    let a = (entry l).args in
-    filled_more a.kind a.store.now (told c.before.before.before.before) l.loop.inv.3 l.loop.inv.5 c.put_entry.ensures
+    let a = c.args in
+    filled_more a.kind a.store.now (told (goal.at.After-put_entry c).In-To) c.loop-entries.invariant.3 c.loop-entries.invariant.5 c.put_entry.ensures
 
 pub overflow_add-index : goal.overflow_add-index
 overflow_add-index c =
-    let l = turn c.before.before.before.before.before.before.before in
-    let m = count_most (entry l).args.kind in
-    let n = counts c.before.before.before.before.before.before.before in
-    omega (arith, l.loop.inv.5)
+    let m = count_most c.args.kind in
+    let n = counts (goal.at.overflow_add-index c).In-To in
+    omega (arith, c.loop-entries.invariant.5)
 
 pub overflow_add-entries : goal.overflow_add-entries
-overflow_add-entries c = let n = counts c.before.before.before.before.before.before.before in omega arith
+overflow_add-entries c = let n = counts (goal.at.overflow_add-entries c).In-To in omega arith
 
 pub shape_of-store-then-not-sign_at : goal.shape_of-store-then-not-sign_at
-shape_of-store-then-not-sign_at c = ap length (filled c.before.before.before.before.before.before).store_is ∙ length_over _ _
+shape_of-store-then-not-sign_at c = ap length (filled (goal.at.shape_of-store-then-not-sign_at c).After-put_entry).store_is ∙ length_over _ _
 
 pub returns-then-not-sign_at : goal.returns-then-not-sign_at
 returns-then-not-sign_at c =
-    let l = turn c.before.before.before.before.before.before.before.before.before.before in
-    let a = (entry l).args in
-    let s = list-ends l.loop.inv.1 (went c.before.before.before.before.before.before.before.before.before.before) (sym c.sign_at.ensures ∙ not-true _ c.if-not-sign_at.true-raw) in
-    let f = filled c.before.before.before.before.before.before in
+    let a = c.args in
+    let s = list-ends c.loop-entries.invariant.1 (went (goal.at.returns-then-not-sign_at c).In-To) (sym c.sign_at.ensures ∙ not-true _ c.if-not-sign_at.true-raw) in
+    let f = filled (goal.at.returns-then-not-sign_at c).After-put_entry in
     record {
       read =
           record {
             stands =
                 otherwise (ended-with (list_entry (length a.rest.now) a.kind) s)
-                (said_same (tallied c.before.before.before.before.before.before.before.before.before).faults (code_of c.label_of.ensures ∙ f.entries-are) refl);
+                (said_same (tallied (goal.at.returns-then-not-sign_at c).After-counted-tally).faults (code_of c.label_of.ensures ∙ f.entries-are) refl);
           };
       stored = λ es p h. f.store_is ∙ ap (λ l. overlaid (list_words a.kind l) a.store.now) (as_read s.says h);
     }
@@ -176,29 +157,28 @@ returns-then-not-sign_at c =
 -- the comma lies in the line
 pub loop-entries-preserved : goal.loop-entries-preserved
 loop-entries-preserved c =
-    let l = (turn c.before.before.before.before.before.before.before.before.before).loop in
-    let i = l.inv in
+    let l = c.loop-entries in
+    let i = l.invariant in
     let sign = sym c.sign_at.ensures ∙ not-false _ c.if-not-sign_at.false-raw in
-    let a = (entry (turn c.before.before.before.before.before.before.before.before.before)).args in
+    let a = c.args in
     let next = l.from + c.in-To.bytes in
-    let longer = entry-longer (map (name_of 8) a.names.now) a.kind a.rest.now l.from next (went c.before.before.before.before.before.before.before.before.before).says (omega arith) sign in
-    let p = list-goes-on i.1 (went c.before.before.before.before.before.before.before.before.before) (omega arith) sign in (
-      i.0 ++ (told c.before.before.before.before.before.before.before.before.before ∷ []),
+    let longer = entry-longer (map (name_of 8) a.names.now) a.kind a.rest.now l.from next (went (goal.at.loop-entries-preserved c).In-To).says (omega arith) sign in
+    let p = list-goes-on i.1 (went (goal.at.loop-entries-preserved c).In-To) (omega arith) sign in (
+      i.0 ++ (told (goal.at.loop-entries-preserved c).In-To ∷ []),
       p,
-      tallied c.before.before.before.before.before.before.before.before,
-      filled c.before.before.before.before.before,
+      tallied (goal.at.loop-entries-preserved c).After-counted-tally,
+      filled (goal.at.loop-entries-preserved c).After-put_entry,
       omega (arith, i.4),
       i.5,
       i.6,
       i.7,
-      started (begins c.before.before.before.before.before.before.before.before.before),
+      started (goal.at.loop-entries-preserved c).Joined-entries-eq3,
     )
 
 pub overflow_add-from : goal.overflow_add-from
 overflow_add-from c =
-    let start = entry (turn c.before.before.before.before.before.before.before.before.before) in
-    let p = (loop-again c).1.within in
-    omega (arith, start.good.1.0)
+    let p = (loop-entries-preserved c).1.within in
+    omega (arith, c.well_formed.1.0)
 
 pub loop-entries-smaller : goal.loop-entries-smaller
-loop-entries-smaller c = let p = (loop-again c).1.within in omega arith
+loop-entries-smaller c = let p = (loop-entries-preserved c).1.within in omega arith

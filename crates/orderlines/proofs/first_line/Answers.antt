@@ -11,21 +11,12 @@ use Rattle.orderlines.proofs.first_line.Goals as goal
 pub read_order-step-requires : goal.read_order-step-requires
 read_order-step-requires c = c.requires
 
-pub enum_known-step : goal.enum_known-step
-enum_known-step c = c.in-To.keys1
-
-pub enum_told-1 : goal.enum_told-1
-enum_told-1 c = c.in_default.keys2
-
 pub returns-in_default : goal.returns-in_default
 returns-in_default c =
     let a = c.args in
     let k = rw (order-stuck-there c.in_default.is c.order_stuck_at.ensures) at c.read_order-step.ensures in
     refused-walked c.refused.ensures
     (line-bad a.line a.text.now c.flaw_after.ensures (order-formless (map (name_of 8) a.names.now) a.text.now k)) (omega arith)
-
-pub enum_known-found : goal.enum_known-found
-enum_known-found c = c.in-Faulty.keys1
 
 pub returns-in-Faulty : goal.returns-in-Faulty
 returns-in-Faulty c =
@@ -34,9 +25,6 @@ returns-in-Faulty c =
     refused-walked c.refused-in-Faulty.ensures
     (line-bad a.line a.text.now c.flaw_in.ensures
     (order-faulty (map (name_of 8) a.names.now) a.text.now k c.in-Faulty.is)) (omega arith)
-
-pub enum_told-in_default-found : goal.enum_told-in_default-found
-enum_told-in_default-found c = c.in_default-found.keys2
 
 pub returns : goal.returns
 returns c =

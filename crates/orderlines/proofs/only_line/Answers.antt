@@ -19,12 +19,6 @@ returns-then-line-ge-LARGEST c =
 pub first_line-last-requires : goal.first_line-last-requires
 first_line-last-requires c = c.if-names-gt-NAMES.false
 
-pub enum_known-progress : goal.enum_known-progress
-enum_known-progress c = c.in-To.keys1
-
-pub enum_told-1 : goal.enum_told-1
-enum_told-1 c = c.in_default.keys2
-
 pub returns-in_default : goal.returns-in_default
 returns-in_default c =
     let a = c.args in

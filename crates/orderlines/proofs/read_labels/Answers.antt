@@ -22,43 +22,37 @@ pub slice_bounds-read_whole-start : goal.slice_bounds-read_whole-start
 slice_bounds-read_whole-start c = c.requires.0
 
 pub slice_bounds-read_whole-count : goal.slice_bounds-read_whole-count
-slice_bounds-read_whole-count c = let w = part-read-whole-start c in omega arith
+slice_bounds-read_whole-count c = let w = slice_bounds-read_whole-start c in omega arith
 
 -- the list, at its place of the text
 listed : (c : After-read_whole-list)
     → let a = c.args in
     ListRead Labels (drop a.at a.text.now) (whole_list (map (name_of 8) a.names.now) Labels (drop a.at a.text.now)) a.listed.now
-    c.read_whole-list.new.rest.1.1.0 c.read_whole-list.result
+    c.read_whole-list.new.store c.read_whole-list.result
 listed c =
     let a = c.args in
     list-there a.names.now Labels a.text.now a.at c.requires.1 c.requires.0 c.read_whole-list.ensures
 
-pub enum_known-list : goal.enum_known-list
-enum_known-list c = c.in-To.keys1
-
-pub enum_told-1 : goal.enum_told-1
-enum_told-1 c = c.in_default.keys2
-
 pub overflow_add-result : goal.overflow_add-result
 overflow_add-result c =
-    let s = said-within c.args.text.now c.args.at c.requires.0 (listed c.before.before.before.before.before).read c.said_stuck_at.ensures in
+    let s = said-within c.args.text.now c.args.at c.requires.0 (listed (goal.at.overflow_add-result c).After-read_whole-list).read c.said_stuck_at.ensures in
     omega arith
 
 pub returns-in_default : goal.returns-in_default
 returns-in_default c =
     let a = c.args in
-    labels-stuck (map (name_of 8) a.names.now) a.text.now a.at c.requires.0 (listed c.before.before.before.before.before)
+    labels-stuck (map (name_of 8) a.names.now) a.text.now a.at c.requires.0 (listed (goal.at.returns-in_default c).After-read_whole-list)
     (said-stuck-there c.in_default.is c.said_stuck_at.ensures)
 
 pub overflow_add-next : goal.overflow_add-next
 overflow_add-next c =
-    let s = said-within c.args.text.now c.args.at c.requires.0 (listed c.before.before.before.before.before).read (sym (ap said_place c.in-To.is)) in
+    let s = said-within c.args.text.now c.args.at c.requires.0 (listed (goal.at.overflow_add-next c).After-read_whole-list).read (sym (ap said_place c.in-To.is)) in
     omega arith
 
 pub returns-then-not-sign_at : goal.returns-then-not-sign_at
 returns-then-not-sign_at c =
     let a = c.args in
-    labels-on (map (name_of 8) a.names.now) a.text.now a.at c.requires.0 (listed c.before.before.before.before.before.before.before) c.in-To.is
+    labels-on (map (name_of 8) a.names.now) a.text.now a.at c.requires.0 (listed (goal.at.returns-then-not-sign_at c).After-read_whole-list) c.in-To.is
     (sym c.sign_at.ensures ∙ not-true _ c.if-not-sign_at.true-raw)
 
 pub overflow_add-result-2 : goal.overflow_add-result-2
@@ -70,5 +64,5 @@ overflow_add-result-2 c =
 pub returns : goal.returns
 returns c =
     let a = c.args in
-    labels-taken (map (name_of 8) a.names.now) a.text.now a.at c.requires.0 (listed c.before.before.before.before.before.before.before.before.before) c.in-To.is
+    labels-taken (map (name_of 8) a.names.now) a.text.now a.at c.requires.0 (listed (goal.at.returns c).After-read_whole-list) c.in-To.is
     (omega (arith, c.well_formed.0)) c.number_of.ensures (sym c.sign_at.ensures ∙ not-false _ c.if-not-sign_at.false-raw)

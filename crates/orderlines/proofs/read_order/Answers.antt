@@ -17,12 +17,6 @@ use Rattle.orderlines.proofs.OrderForms.{all-within, all-taken, order-stuck, ord
 use Rattle.orderlines.proofs.read_order.Goals as goal
 use Rattle.orderlines.proofs.read_order.Goals.{After-is_rest}
 
-pub enum_known-key : goal.enum_known-key
-enum_known-key c = c.in-To.keys1
-
-pub enum_told-1 : goal.enum_told-1
-enum_told-1 c = c.in_default.keys2
-
 pub returns-in_default : goal.returns-in_default
 returns-in_default c =
     order-stuck c.args.text.now
@@ -32,7 +26,7 @@ pub slice_bounds-is_rest-start : goal.slice_bounds-is_rest-start
 slice_bounds-is_rest-start c = (steps-to c.read_literal-key.ensures.steps c.in-To.is).within
 
 pub slice_bounds-is_rest-count : goal.slice_bounds-is_rest-count
-slice_bounds-is_rest-count c = let w = part-is-rest-start c in omega arith
+slice_bounds-is_rest-count c = let w = slice_bounds-is_rest-start c in omega arith
 
 -- whether the order is `all`, at its place of the text
 tested : (c : After-is_rest)
@@ -46,7 +40,7 @@ tested c =
 pub overflow_add-result : goal.overflow_add-result
 overflow_add-result c =
     let text = c.args.text.now in
-    let w = all-within text c.in-To.at (sym (tested c.before) ∙ c.if-is_rest.true) in
+    let w = all-within text c.in-To.at (sym (tested (goal.at.overflow_add-result c).After-is_rest) ∙ c.if-is_rest.true) in
     omega arith
 
 pub returns-then-is_rest : goal.returns-then-is_rest
@@ -55,8 +49,8 @@ returns-then-is_rest c =
     let at = c.in-To.at in
     order-become (map (name_of 8) a.names.now) a.text.now _ a.listed.now a.listed.now (To All Fine (at + 4))
     (order-passed a.text.now true (steps-to c.read_literal-key.ensures.steps c.in-To.is).says
-    (sym c.if-is_rest.true ∙ tested c.before))
-    (all-taken a.text.now at (sym (tested c.before) ∙ c.if-is_rest.true) (map (name_of 8) a.names.now) a.listed.now)
+    (sym c.if-is_rest.true ∙ tested (goal.at.returns-then-is_rest c).After-is_rest))
+    (all-taken a.text.now at (sym (tested (goal.at.returns-then-is_rest c).After-is_rest) ∙ c.if-is_rest.true) (map (name_of 8) a.names.now) a.listed.now)
 
 pub read_labels-requires : goal.read_labels-requires
 read_labels-requires c =
@@ -65,7 +59,7 @@ read_labels-requires c =
 pub returns : goal.returns
 returns c =
     let a = c.args in
-    order-become (map (name_of 8) a.names.now) a.text.now _ a.listed.now c.read_labels.new.at.1.1.0 c.read_labels.result
+    order-become (map (name_of 8) a.names.now) a.text.now _ a.listed.now c.read_labels.new.listed c.read_labels.result
     (order-passed a.text.now false (steps-to c.read_literal-key.ensures.steps c.in-To.is).says
-    (sym c.if-is_rest.false ∙ tested c.before.before.before.before.before))
+    (sym c.if-is_rest.false ∙ tested (goal.at.returns c).After-is_rest))
     c.read_labels.ensures

@@ -1,7 +1,6 @@
 -- `ranges::range_fault` meets its contract: each kind has its numbers.
 -- Assumes nothing.
 use mathlib.Core.Path.{◌≡◌, refl}
-use mathlib.Core.Logic.{inl, inr}
 use mathlib.Core.List.{List, [], ◌∷◌}
 use Prim.Native.Nat.{ℕ}
 use types.Run.{OneOf, miss}
@@ -33,35 +32,7 @@ leaf-fine e n at (Sync t u) k = absurd (miss leaves 11 tt k)
 leaf-fine e n at (Wrap o t) k = absurd (miss leaves 12 tt k)
 
 pub returns-in-Delta : goal.returns-in-Delta
-returns-in-Delta c = let a = c.args in leaf-fine a.bounds.equations a.bounds.term _ a.x c.in-Delta.keys1
+returns-in-Delta c = let a = c.args in leaf-fine a.bounds.equations a.bounds.term _ a.x c.in-Delta.in-Delta-own.keys1
 
 pub returns-in-Ref : goal.returns-in-Ref
 returns-in-Ref c = rw c.in-Ref.is c.number_fault.ensures
-
-pub returns-in-Choice : goal.returns-in-Choice
-returns-in-Choice c =
-    let h = c.both_fault.ensures in
-    elim c.match-x.came [
-      | inl a ↦ rw (a.1.given.1, ← a.3, ← a.4) h
-      | inr b ↦ elim b [
-        | inl a ↦ rw (a.1.given.1, ← a.3, ← a.4) h
-        | inr b ↦ elim b [
-          | inl a ↦ rw (a.1.given.1, ← a.3, ← a.4) h
-          | inr b ↦ elim b [
-            | inl a ↦ rw (a.1.given.1, ← a.3, ← a.4) h
-            | inr b ↦ elim b [
-              | inl a ↦ rw (a.1.given.1, ← a.3, ← a.4) h
-              | inr a ↦ rw (a.1.given.1, ← a.3, ← a.4) h
-            ]
-          ]
-        ]
-      ]
-    ]
-
-pub returns-in-Sum : goal.returns-in-Sum
-returns-in-Sum c =
-    let h = c.number_fault-in-Sum.ensures in
-    elim c.match-x.came [
-      | inl a ↦ rw (a.1.given.1, ← a.3) h
-      | inr b ↦ elim b [ inl a ↦ rw (a.1.given.1, ← a.3) h | inr a ↦ rw (a.1.given.1, ← a.3) h ]
-    ]

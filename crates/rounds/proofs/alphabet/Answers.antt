@@ -24,7 +24,7 @@ labels_in-used-requires c = tt
 pub overflow_mul-used : goal.overflow_mul-used
 overflow_mul-used c =
     let set = c.labels_of-set in
-    omega (arith, c.labels_in-used.ensures, length-held set.result.now, set.type-inv.0)
+    omega (arith, c.labels_in-used.ensures, length-held set.result.now, set.type_inv.0)
 
 pub cut_to-labels-requires : goal.cut_to-labels-requires
 cut_to-labels-requires c = tt

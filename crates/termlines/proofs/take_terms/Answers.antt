@@ -1,4 +1,3 @@
-use Prim.Native.Nat.{◌-◌}
 use native.Mathlib.Omega.{arith}
 use Rattle.sections.proofs.Places.{names-few}
 use Rattle.termlines.proofs.StoredTerms.{terms-start, terms-long, terms-stored, terms-halt, terms-within, terms-step, terms-end}
@@ -41,12 +40,6 @@ slice_bounds-take_term-end-in-loop-n c =
 pub take_term-step-requires : goal.take_term-step-requires
 take_term-step-requires c =
     rw c.names_of.ensures (names-few c.loop-n.table)
-
-pub enum_known-step : goal.enum_known-step
-enum_known-step c = c.in-To.keys1
-
-pub enum_told-1 : goal.enum_told-1
-enum_told-1 c = c.in_default.keys2
 
 pub shape_of-table-in_default : goal.shape_of-table-in_default
 shape_of-table-in_default c = terms-long c.loop-n.invariant

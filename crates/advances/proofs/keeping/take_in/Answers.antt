@@ -6,7 +6,7 @@ use Rattle.advances.proofs.keeping.take_in.Goals as goal
 
 pub returns-then-not-is_empty : goal.returns-then-not-is_empty
 returns-then-not-is_empty c =
-    record { row = c.set_part.ensures; c.before.before.before.before = rw c.labels_of.ensures at c.grow.ensures }
+    record { row = c.set_part.ensures; grown = rw c.labels_of.ensures at c.grow.ensures }
 
 pub returns-else-not-is_empty : goal.returns-else-not-is_empty
 returns-else-not-is_empty c =

@@ -10,13 +10,7 @@ pub slice_bounds-read_word-start : goal.slice_bounds-read_word-start
 slice_bounds-read_word-start c = c.requires
 
 pub slice_bounds-read_word-count : goal.slice_bounds-read_word-count
-slice_bounds-read_word-count c = let w = part-read-word-start c in omega arith
-
-pub enum_known-letters : goal.enum_known-letters
-enum_known-letters c = c.in-To.keys1
-
-pub enum_told-1 : goal.enum_told-1
-enum_told-1 c = c.in_default.keys2
+slice_bounds-read_word-count c = let w = slice_bounds-read_word-start c in omega arith
 
 pub returns-in_default : goal.returns-in_default
 returns-in_default c = c.try_kinds.ensures
@@ -27,9 +21,8 @@ returns-then-k-ge17 c = c.try_kinds-then-k-ge17.ensures
 pub returns : goal.returns
 returns c =
     let a = c.args in
-    let letters = c.letters-1.given in
-    letters-found a.text.now a.at c.kind_number-k.result c.if-k-ge17.false letters.0.0
-    (went_on word a.text.now a.at c.requires c.read_word-letters.ensures letters.1) (c.kind_number-k.ensures c.if-k-ge17.false)
+    letters-found a.text.now a.at c.kind_number-k.result c.if-k-ge17.false c.in-To.word
+    (went_on word a.text.now a.at c.requires c.read_word-letters.ensures c.in-To.is) (c.kind_number-k.ensures c.if-k-ge17.false)
 
 pub overflow_add-result : goal.overflow_add-result
-overflow_add-result c = let s = (returns-3 c).within in omega arith
+overflow_add-result c = let s = (returns c).within in omega arith

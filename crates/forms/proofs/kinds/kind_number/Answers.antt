@@ -56,4 +56,4 @@ pub returns-in-512970484833 : goal.returns-in-512970484833
 returns-in-512970484833 c = numbered 16 c.in-512970484833.is
 
 pub returns-in_default : goal.returns-in_default
-returns-in_default c = absurd (omega arith)
+returns-in_default c h = absurd (omega arith)

@@ -20,7 +20,7 @@ pub slice_bounds-read_packed-start : goal.slice_bounds-read_packed-start
 slice_bounds-read_packed-start c = c.requires
 
 pub slice_bounds-read_packed-count : goal.slice_bounds-read_packed-count
-slice_bounds-read_packed-count c = let w = part-read-packed-start c in omega arith
+slice_bounds-read_packed-count c = let w = slice_bounds-read_packed-start c in omega arith
 
 pub offset_bounds-words-k : goal.offset_bounds-words-k
 offset_bounds-words-k c = omega arith
@@ -28,22 +28,19 @@ offset_bounds-words-k c = omega arith
 pub bounds-words-k : goal.bounds-words-k
 bounds-words-k c = omega arith
 
-pub enum_known-word : goal.enum_known-word
-enum_known-word c = c.in-To.keys1
-
 -- the kind that is looked at
 abbrev looked : In-loop-k → ℕ
-looked turn = turn.before.loop.k - 1
+looked turn = turn.loop-k.k - 1
 
 -- the kind's word that stands there, in the text
 found : (c : In-To)
     → let a = c.args in
     let next = a.at + c.in-To.bytes in
     Stands a.text.now next (past tt (drop next a.text.now))
-    (literal (name_of 8 (get_or packed_kinds (looked c.before.before.before.before.before) 0)) (drop a.at a.text.now))
+    (literal (name_of 8 (get_or packed_kinds (looked (goal.at.In-To c).In-loop-k) 0)) (drop a.at a.text.now))
 found c =
     let a = c.args in
-    went_on (literal (name_of 8 (get_or packed_kinds (looked c.before.before.before.before.before) 0))) a.text.now a.at c.requires c.read_packed-word.ensures.steps
+    went_on (literal (name_of 8 (get_or packed_kinds (looked (goal.at.In-To c).In-loop-k) 0))) a.text.now a.at c.requires c.read_packed-word.ensures.steps
     c.in-To.is
 
 pub overflow_add-result : goal.overflow_add-result
@@ -52,19 +49,16 @@ overflow_add-result c = let s = (found c).within in omega arith
 pub returns-in-To : goal.returns-in-To
 returns-in-To c =
     let a = c.args in
-    sought-found a.text.now a.at (looked c.before.before.before.before.before) (omega (arith, c.loop-k.invariant.few)) (found c)
-
-pub enum_told-1 : goal.enum_told-1
-enum_told-1 c = c.in_default.keys2
+    sought-found a.text.now a.at (looked (goal.at.returns-in-To c).In-loop-k) (omega (arith, c.loop-k.invariant.few)) (found c)
 
 -- the place where another word was stuck
 missed : (c : After-stuck_at)
     → let a = c.args in
     let p = a.at + c.stuck_at.result in
-    Stands a.text.now p (stuck (drop p a.text.now)) (literal (name_of 8 (get_or packed_kinds (looked c.before.before.before.before.before) 0)) (drop a.at a.text.now))
+    Stands a.text.now p (stuck (drop p a.text.now)) (literal (name_of 8 (get_or packed_kinds (looked (goal.at.After-stuck_at c).In-loop-k) 0)) (drop a.at a.text.now))
 missed c =
     let a = c.args in
-    stays_on (literal (name_of 8 (get_or packed_kinds (looked c.before.before.before.before.before) 0))) a.text.now a.at c.requires c.read_packed-word.ensures.steps
+    stays_on (literal (name_of 8 (get_or packed_kinds (looked (goal.at.After-stuck_at c).In-loop-k) 0))) a.text.now a.at c.requires c.read_packed-word.ensures.steps
     (stuck_there c.in_default.is c.stuck_at.ensures)
 
 pub overflow_add-at : goal.overflow_add-at
@@ -76,8 +70,8 @@ loop-k-smaller c = omega arith
 pub loop-k-preserved : goal.loop-k-preserved
 loop-k-preserved c =
     let a = c.args in
-    sought-more a.text.now a.at (looked c.before.before.before.before.before.before) (omega (arith, c.loop-k.invariant.few)) c.loop-k.invariant (omega arith)
-    (missed c.before) c.most-far.ensures
+    sought-more a.text.now a.at (looked (goal.at.loop-k-preserved c).In-loop-k) (omega (arith, c.loop-k.invariant.few)) c.loop-k.invariant (omega arith)
+    (missed (goal.at.loop-k-preserved c).After-stuck_at) c.most-far.ensures
 
 pub returns : goal.returns
 returns c = sought-all _ _ c.loop-k.invariant (omega arith)

@@ -1,6 +1,5 @@
 -- `forms::kinds::try_kinds` meets its contract: one kind after the other, from the last to the first, the farthest place kept.
 -- Assumes nothing.
-use Prim.Native.Nat.{◌-◌}
 use Rattle.forms.proofs.Kinded.{Sought}
 use Rattle.forms.proofs.kinds.try_kinds.Given as goal
 

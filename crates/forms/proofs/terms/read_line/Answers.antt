@@ -13,13 +13,7 @@ use Rattle.forms.specs.Kinds.{KindFound}
 use Rattle.forms.specs.Terms.{shifted_step}
 use Rattle.forms.proofs.Kinded.{kind-stuck-there, kind-to, kind-stays, line-there, tail_within}
 use Rattle.forms.proofs.terms.read_line.Goals as goal
-use Rattle.forms.proofs.terms.read_line.Goals.{After-find_kind-kind, In-To-kind, Start}
-
-pub enum_known-key : goal.enum_known-key
-enum_known-key c = c.in-To.keys1
-
-pub enum_told-1 : goal.enum_told-1
-enum_told-1 c = c.in_default.keys2
+use Rattle.forms.proofs.terms.read_line.Goals.{After-find_kind-kind, In-To-kind}
 
 pub returns-in_default : goal.returns-in_default
 unfolding term_line
@@ -30,32 +24,22 @@ returns-in_default c =
 pub find_kind-kind-requires : goal.find_kind-kind-requires
 find_kind-kind-requires c = (steps-to c.read_literal-key.ensures.steps c.in-To.is).within
 
-abbrev entry : After-find_kind-kind → Start
-entry c = c.before.before.before.before.before.before.before.before.before
-
 -- the rest of the text, after the key
 passed : (c : After-find_kind-kind)
-    → let text = (entry c).args.text.now in
+    → let text = c.args.text.now in
     of_kind kinds (drop c.in-To.at text) ≡ term_line text
 unfolding term_line
 passed c =
     ap (λ d. onward d (λ _ r. of_kind kinds r)) (steps-to c.read_literal-key.ensures.steps c.in-To.is).says
 
-pub enum_known-kind : goal.enum_known-kind
-enum_known-kind c = c.in-To-kind.keys1
-
-pub enum_told-in_default-kind : goal.enum_told-in_default-kind
-enum_told-in_default-kind c = c.in_default-kind.keys2
-
 found : (c : In-To-kind)
-    → let kind = c.kind-1.given.0 in
-    KindFound (entry c.before.before.before).args.text.now c.in-To.at kind.0 kind.1.0
+    → KindFound c.args.text.now c.in-To.at c.in-To-kind.k c.in-To-kind.next
 found c =
     kind-to c.in-To.at c.find_kind-kind.result c.find_kind-kind.ensures c.in-To-kind.is
 
 pub returns-in_default-kind : goal.returns-in_default-kind
 returns-in_default-kind c =
-    become (passed c.before.before.before)
+    become (passed (goal.at.returns-in_default-kind c).After-find_kind-kind)
     (kind-stays c.in-To.at c.find_kind-kind.result c.find_kind-kind.ensures
     (kind-stuck-there c.in_default-kind.is c.kind_stuck_at.ensures))
 
@@ -67,20 +51,18 @@ slice_bounds-read_tail-start c = (found c).within
 
 pub shifted-requires : goal.shifted-requires
 shifted-requires c =
-    let start = entry c.before.before.before.before.before.before.before.before in
-    let a = start.args in
+    let a = c.args in
     let w =
-    tail_within (found c.before.before.before.before.before) a.names.now a.bounds a.list.now c.read_tail.new.rest.1.1.1.0 c.read_tail.result
+    tail_within (found (goal.at.shifted-requires c).In-To-kind) a.names.now a.bounds a.list.now c.read_tail.new.store c.read_tail.result
     c.read_tail.ensures in
-    omega (arith, start.good.1.0)
+    omega (arith, c.well_formed.1.0)
 
 pub returns : goal.returns
 returns c =
-    let start = entry c.before.before.before.before.before.before.before.before.before in
-    let a = start.args in
-    let after = c.read_tail.new.rest.1.1.1.0 in
+    let a = c.args in
+    let after = c.read_tail.new.store in
     let next = c.in-To-kind.next in
     rw c.shifted.ensures
     (line-become (map (name_of 8) a.names.now) a.bounds a.text.now a.list.now after (shifted_step next c.read_tail.result)
-    (passed c.before.before.before.before.before.before.before.before.before)
-    (line-there (found c.before.before.before.before.before.before) a.names.now a.bounds a.list.now after c.read_tail.result c.read_tail.ensures start.pre))
+    (passed (goal.at.returns c).After-find_kind-kind)
+    (line-there (found (goal.at.returns c).In-To-kind) a.names.now a.bounds a.list.now after c.read_tail.result c.read_tail.ensures c.requires))

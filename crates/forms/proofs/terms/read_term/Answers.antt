@@ -16,7 +16,7 @@ returns-then-names-gt-NAMES c = rw (lt-leb (length c.args.names.now) 24 c.if-nam
 pub returns : goal.returns
 returns c =
     let a = c.args in
-    let after = c.read_line.new.names.1.1.0 in
+    let after = c.read_line.new.list in
     let l : length after ≡ length a.list.now = search rules in
     rw (le-leb (length a.names.now) 24 c.if-names-gt-NAMES.false)
     (line_taken (map (name_of 8) a.names.now) _ a.text.now (term_line a.text.now) a.list.now after c.read_line.result l

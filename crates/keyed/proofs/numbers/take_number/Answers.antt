@@ -1,7 +1,6 @@
 -- `keyed::numbers::take_number` meets its contract: the line, its number, and the test.
 -- Assumes nothing.
 use mathlib.Core.Path.{ap}
-use mathlib.Core.Logic.{⊎_elim}
 use borrow.Author.Tests.{leb-true, leb-false}
 use Rattle.grammar.specs.Reading.{after_line}
 use Rattle.faults.specs.CodedFaults.{fault_of}
@@ -25,9 +24,11 @@ returns-then-n-low c =
     let n = c.in-To.n in
     number_to-bad
     (line-bad a.line a.text.now c.flaw_after-then-n-low.ensures
-    (⊎_elim (λ w. number-low a.key.now a.low a.below (fault_of a.fault) _ s.says w.taken)
-    (λ w. number-high a.key.now a.low a.below (fault_of a.fault) _ s.says w.0.left (leb-true a.below n w.1.taken))
-    c.then-n-low.branch))
+    (elim c.then-n-low.branch [
+      | goal.then-n-low-via-then-n-low w ↦ number-low a.key.now a.low a.below (fault_of a.fault) _ s.says w.if-n-low.true
+      | goal.then-n-low-via-else-n-low+then-below-n w ↦
+          number-high a.key.now a.low a.below (fault_of a.fault) _ s.says w.if-n-low.false (leb-true a.below n w.if-below-n.true-raw)
+    ]))
 
 pub returns : goal.returns
 returns c =

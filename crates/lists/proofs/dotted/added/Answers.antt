@@ -21,7 +21,7 @@ room c = rw c.in-Fine.is at c.requires
 pub returns : goal.returns
 returns c =
     let a = c.args in
-    let r = room c.before.before.before in
+    let r = room (goal.at.returns c).In-Fine in
     let name : c.number_of.result ≡ code a.name = omega (arith, c.number_of.ensures) in
     let few : a.times % 32 ≡ a.times = omega arith in
     let part =

@@ -36,7 +36,7 @@ returns-in_default-count c =
     }
 
 pub overflow_add-result : goal.overflow_add-result
-overflow_add-result c = let s = (returns-2 c).stands.within in omega arith
+overflow_add-result c = let s = (returns-in_default-count c).stands.within in omega arith
 
 pub returns : goal.returns
 returns c =
@@ -56,4 +56,4 @@ returns c =
     }
 
 pub overflow_add-result-2 : goal.overflow_add-result-2
-overflow_add-result-2 c = let s = (returns-3 c).stands.within in omega arith
+overflow_add-result-2 c = let s = (returns c).stands.within in omega arith

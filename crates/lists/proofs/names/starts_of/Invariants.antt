@@ -1,7 +1,7 @@
 -- `lists::names::starts_of` meets its contract: from the last name down, each name is where its letter starts.
 -- Assumes nothing.
 use mathlib.Core.Path.{◌≡◌}
-use Prim.Native.Nat.{◌-◌, ◌≤◌}
+use Prim.Native.Nat.{◌≤◌}
 use lib.ListN.{length}
 use Rattle.lists.specs.Starts.{StartingAt}
 use Rattle.lists.proofs.names.starts_of.Given as goal

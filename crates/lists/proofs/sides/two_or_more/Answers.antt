@@ -13,6 +13,5 @@ returns-in_default c = rw c.in_default.is (record { places = refl; says = λ lin
 
 pub returns : goal.returns
 returns c =
-    let l = c.label-1.given in
-    let faults = c.worse_of.ensures ∙ ap (worse (found_of l.0.0.fault)) c.amount_unless.ensures in
-    rw l.1 (record { places = refl; says = λ line. ap (λ s. past s (drop l.0.1.0 line)) (said_same faults refl refl) })
+    let faults = c.worse_of.ensures ∙ ap (worse (found_of c.in-To.l.fault)) c.amount_unless.ensures in
+    rw c.in-To.is (record { places = refl; says = λ line. ap (λ s. past s (drop c.in-To.next line)) (said_same faults refl refl) })

@@ -20,13 +20,12 @@ use Rattle.lists.proofs.sides.with_right.Goals.{Else-not-sign_at}
 
 pub returns-then-not-sign_at : goal.returns-then-not-sign_at
 returns-then-not-sign_at c =
-    let l = c.left-1.given in
     record {
       stands =
-          rw l.1
-          (become (right-seen _ (said_of _ l.0.0) _)
-          (no_sign greater c.args.rest.now l.0.1.0 _ (sym c.sign_at.ensures ∙ not-true _ c.if-not-sign_at.true-raw)
-          (rw l.1 at c.requires.0)));
+          rw c.in-To.is
+          (become (right-seen _ (said_of _ c.in-To.l) _)
+          (no_sign greater c.args.rest.now c.in-To.after _ (sym c.sign_at.ensures ∙ not-true _ c.if-not-sign_at.true-raw)
+          (rw c.in-To.is at c.requires.0)));
     }
 
 -- a sign that stands there lies in the line
@@ -50,37 +49,35 @@ slice_bounds-name_from-start c = let w = passed c in omega arith
 pub returns-in_default-right : goal.returns-in_default-right
 returns-in_default-right c =
     let a = c.args in
-    let l = c.left-1.given in
     record {
       stands =
-          rw l.1
-          (become (right-seen _ (said_of _ l.0.0) _)
-          (past-sign greater a.rest.now l.0.1.0 _ (sym c.sign_at.ensures ∙ not-false _ c.if-not-sign_at.false-raw)
+          rw c.in-To.is
+          (become (right-seen _ (said_of _ c.in-To.l) _)
+          (past-sign greater a.rest.now c.in-To.after _ (sym c.sign_at.ensures ∙ not-false _ c.if-not-sign_at.false-raw)
           (stops _
-          (said-stays-on (seen (name_entry (map (name_of 8) a.names.now)) (placed word)) a.rest.now (l.0.1.0 + 1) (passed c.before.before.before.before.before)
+          (said-stays-on (seen (name_entry (map (name_of 8) a.names.now)) (placed word)) a.rest.now (c.in-To.after + 1) (passed (goal.at.returns-in_default-right c).Else-not-sign_at)
           c.name_from-right.ensures
           (said-stuck-there c.in_default-right.is c.said_stuck_at.ensures)))));
     }
 
 pub overflow_add-result : goal.overflow_add-result
-overflow_add-result c = let s = (returns-3 c).stands.within in omega arith
+overflow_add-result c = let s = (returns-in_default-right c).stands.within in omega arith
 
 pub returns : goal.returns
 returns c =
     let a = c.args in
-    let l = c.left-1.given in
     let s =
-    said-went-on (seen (name_entry (map (name_of 8) a.names.now)) (placed word)) a.rest.now (l.0.1.0 + 1) (passed c.before.before.before.before.before.before.before.before.before)
+    said-went-on (seen (name_entry (map (name_of 8) a.names.now)) (placed word)) a.rest.now (c.in-To.after + 1) (passed (goal.at.returns c).Else-not-sign_at)
     c.name_from-right.ensures c.in-To-right.is in
     let name = code c.in-To-right.n.first in
     let low : name % 2 ^ 64 ≡ name = omega (arith, name-said-low _ _ s.says, length-map a.names.now (name_of 8), c.well_formed.1.1.0) in
     record {
       stands =
-          rw l.1
-          (become (right-seen _ (said_of _ l.0.0) _)
-          (past-sign greater a.rest.now l.0.1.0 _ (sym c.sign_at.ensures ∙ not-false _ c.if-not-sign_at.false-raw)
+          rw c.in-To.is
+          (become (right-seen _ (said_of _ c.in-To.l) _)
+          (past-sign greater a.rest.now c.in-To.after _ (sym c.sign_at.ensures ∙ not-false _ c.if-not-sign_at.false-raw)
           (goes _ s (otherwise (arrived _ s.within) (said_same c.worse_of.ensures refl (c.number_of.ensures ∙ low))))));
     }
 
 pub overflow_add-result-2 : goal.overflow_add-result-2
-overflow_add-result-2 c = let s = (returns-4 c).stands.within in omega arith
+overflow_add-result-2 c = let s = (returns c).stands.within in omega arith

@@ -15,10 +15,10 @@ fits : (c : In-Pairs)
 fits c = rw c.in-Pairs.is at c.requires.1
 
 pub overflow_mul-second : goal.overflow_mul-second
-overflow_mul-second c = omega (arith, fits c.before.before)
+overflow_mul-second c = omega (arith, fits (goal.at.overflow_mul-second c).In-Pairs)
 
 pub overflow_add-number_of : goal.overflow_add-number_of
-overflow_add-number_of c = omega (arith, fits c.before.before, c.number_of-in-Pairs.ensures)
+overflow_add-number_of c = omega (arith, fits (goal.at.overflow_add-number_of c).In-Pairs, c.number_of-in-Pairs.ensures)
 
 pub returns-in-Names : goal.returns-in-Names
 unfolding set_from
@@ -33,7 +33,7 @@ unfolding set_from
 returns-in-Pairs c =
     let a = c.args in
     let number = c.number_of-in-Pairs in
-    let word : number.result + 32 * a.second ≡ code a.first + 32 * a.second = omega (arith, fits c.before.before.before.before.before, number.ensures) in
+    let word : number.result + 32 * a.second ≡ code a.first + 32 * a.second = omega (arith, fits (goal.at.returns-in-Pairs c).In-Pairs, number.ensures) in
     rw c.in-Pairs.is (c.put-in-Pairs.ensures ∙ ap (set a.store.now a.at) word)
 
 pub returns-in-Rules : goal.returns-in-Rules

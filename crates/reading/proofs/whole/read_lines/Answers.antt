@@ -5,12 +5,7 @@ use native.Mathlib.Omega.{arith}
 use Rattle.words.proofs.Steps.{rest-drop}
 use Rattle.reading.proofs.Sequels.{head-refused, head-within, head_few, head-long, head-crowded, head_read}
 use Rattle.reading.proofs.whole.read_lines.Goals as goal
-
-pub enum_known-head : goal.enum_known-head
-enum_known-head c = c.in-To.keys1
-
-pub enum_told-1 : goal.enum_told-1
-enum_told-1 c = c.in_default.keys2
+use Rattle.reading.proofs.whole.read_lines.Goals.{Else-lists-count}
 
 pub returns-in_default : goal.returns-in_default
 returns-in_default c =
@@ -28,7 +23,7 @@ slice_bounds-from_terms-count c =
     head-within c.requires.0 c.read_head-head.ensures c.in-To.is
 
 pub slice_bounds-from_terms-start : goal.slice_bounds-from_terms-start
-slice_bounds-from_terms-start c = sub-from-terms c
+slice_bounds-from_terms-start c = slice_bounds-from_terms-count c
 
 pub from_terms-last-requires : goal.from_terms-last-requires
 from_terms-last-requires c =
@@ -39,7 +34,6 @@ from_terms-last-requires c =
 pub returns : goal.returns
 returns c =
     let a = c.args in
-    let to = c.head-1.given in
-    head_read c.requires.0 c.read_head-head.ensures to.1 a.lists.now a.listed.now (omega (arith, c.if-lists-count.false))
-    (rest-drop a.text.now to.0.1.0 (sub-from-terms c.before.before.before.before.before.before.before.before.before.before.before.before)) c.from_terms-last.ensures
+    head_read c.requires.0 c.read_head-head.ensures c.in-To.is a.lists.now a.listed.now (omega (arith, c.if-lists-count.false))
+    (rest-drop a.text.now c.in-To.at (slice_bounds-from_terms-count (goal.at.returns c).Else-lists-count)) c.from_terms-last.ensures
     c.told-2.ensures

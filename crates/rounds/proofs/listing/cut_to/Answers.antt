@@ -14,8 +14,8 @@ cut-requires-in-Only c = tt
 
 pub returns-in-All : goal.returns-in-All
 returns-in-All c =
-    rw c.in-All.is (rw held_none at c.cut.ensures)
+    rw c.in-All.is (rw held_none at c.cut.ensures.words, rw held_none at c.cut.ensures.count)
 
 pub returns-in-Only : goal.returns-in-Only
 returns-in-Only c =
-    rw c.in-Only.is (rw c.label_words_of.ensures at c.cut-in-Only.ensures)
+    rw c.in-Only.is (rw c.label_words_of.ensures at c.cut-in-Only.ensures.words, rw c.label_words_of.ensures at c.cut-in-Only.ensures.count)

@@ -1,5 +1,6 @@
 -- `stability::running::copy_merged` meets its contract: copied, and gone through there.
 -- Assumes nothing.
+use borrow.Author.Rules.{rules}
 use mathlib.Core.Path.{sym}
 use lib.ListN.{length}
 use lib.Seq.{length-take-le}
@@ -12,7 +13,7 @@ copy-requires c = c.requires
 pub slice_bounds-merge_wholes-end-2 : goal.slice_bounds-merge_wholes-end-2
 slice_bounds-merge_wholes-end-2 c =
     let terms = c.args.terms.now in
-    sym (length-take-le (length terms) c.copy.new.to (slice_bounds-merge_wholes-end c.before))
+    sym (length-take-le (length terms) c.copy.new.to (search rules))
 
 pub merge_wholes-requires : goal.merge_wholes-requires
 merge_wholes-requires c = tt

@@ -1,5 +1,6 @@
 -- `stability::running::run` meets its contract: the tests of the areas, the terms with merges, and round after round.
 -- Assumes nothing.
+use borrow.Author.Rules.{rules}
 use mathlib.Core.Path.{sym}
 use mathlib.Core.Logic.{inl, inr}
 use lib.ListN.{length}
@@ -22,7 +23,7 @@ returns-then-labels_in-gt-TOTAL_LABELS c = ran-unready (inr (rw c.labels_in.ensu
 pub slice_bounds-turn_on-end-2 : goal.slice_bounds-turn_on-end-2
 slice_bounds-turn_on-end-2 c =
     let terms = c.slots_of-terms.result.now in
-    sym (length-take-le (length terms) c.copy_merged.new.slots (slice_bounds-turn_on-end c.before))
+    sym (length-take-le (length terms) c.copy_merged.new.slots (search rules))
 
 pub bodies_of-requires : goal.bodies_of-requires
 bodies_of-requires c = tt

@@ -4,12 +4,6 @@ use mathlib.Core.Path.{refl, ap}
 use Rattle.stability.specs.declared.Found.TheVariants.{At}
 use Rattle.stability.proofs.settling.conclude.Goals as goal
 
-pub enum_known-last : goal.enum_known-last
-enum_known-last c = c.in-Stable.keys1
-
-pub enum_told-1 : goal.enum_told-1
-enum_told-1 c = c.in_default.keys2
-
 pub clear-requires : goal.clear-requires
 clear-requires c = tt
 
@@ -24,6 +18,5 @@ settle-requires c = tt
 
 pub returns : goal.returns
 returns c =
-    let stable = c.last-1.given in
     let kept = rw c.part_at.ensures at c.settle.ensures in
-    rw stable.1 (λ end. let settled = kept.within c.requires end in (ap (At stable.0.0) settled.0, settled.1))
+    rw c.in-Stable.is (λ end. let settled = kept.within c.requires end in (ap (At c.in-Stable.rounds) settled.0, settled.1))

@@ -13,20 +13,14 @@ loop-k-init c = (turned-start, refl, refl, refl)
 pub course-to-requires : goal.course-to-requires
 course-to-requires c = tt
 
-pub enum_known-to : goal.enum_known-to
-enum_known-to c = c.in-Holds.keys1
-
-pub enum_told-1 : goal.enum_told-1
-enum_told-1 c = c.in_default.keys2
-
 -- the words of the areas after a round
-kept-words : (c : After-course-to) → let last = c.course-to.new.lists.1.1.1 in
+kept-words : (c : After-course-to) → let last = c.course-to.new in
     let a = c.args in
-    (length last.0 ≡ length a.work.now) × (length last.1.0 ≡ length a.log.now) × (length last.1.1.1.0 ≡ length a.out.now)
+    (length last.work ≡ length a.work.now) × (length last.log ≡ length a.log.now) × (length last.out ≡ length a.out.now)
 kept-words c =
     let inv = c.loop-k.invariant in
-    let kept = c.course-to.auto.lists.1.1.1 in
-    (kept.0 ∙ inv.1, kept.1.0 ∙ inv.2, kept.1.1.1.0 ∙ inv.3)
+    let kept = c.course-to.auto in
+    (kept.work ∙ inv.1, kept.log ∙ inv.2, kept.out ∙ inv.3)
 
 pub returns-in_default : goal.returns-in_default
 returns-in_default c =

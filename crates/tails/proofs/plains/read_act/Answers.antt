@@ -19,7 +19,7 @@ use Rattle.tails.proofs.plains.read_act.Goals as goal
 use Rattle.tails.proofs.plains.read_act.Goals.{After-said_stuck_at, Else-not-sign_at, In-To}
 
 pub returns-then-not-sign_at : goal.returns-then-not-sign_at
-returns-then-not-sign_at c =
+returns-then-not-sign_at c bounds store =
     let a = c.args in
     act-no-space (map (name_of 8) a.names.now) a.rest.now (sym c.sign_at.ensures ∙ not-true _ c.if-not-sign_at.true-raw)
 
@@ -36,12 +36,6 @@ slice_bounds-read_name-count c = let w = passed c in omega arith
 pub slice_bounds-read_name-start : goal.slice_bounds-read_name-start
 slice_bounds-read_name-start c = passed c
 
-pub enum_known-name : goal.enum_known-name
-enum_known-name c = c.in-To.keys1
-
-pub enum_told-1 : goal.enum_told-1
-enum_told-1 c = c.in_default.keys2
-
 -- the name that is not there, or is, in the line
 missed : (c : After-said_stuck_at)
     → let a = c.args in
@@ -49,43 +43,42 @@ missed : (c : After-said_stuck_at)
     Stands a.rest.now p (stuck (drop p a.rest.now)) (seen (name_entry (map (name_of 8) a.names.now)) (placed word) (drop 1 a.rest.now))
 missed c =
     let a = c.args in
-    said-stays-on (seen (name_entry (map (name_of 8) a.names.now)) (placed word)) a.rest.now 1 (passed c.before.before.before.before.before) c.read_name-name.ensures
+    said-stays-on (seen (name_entry (map (name_of 8) a.names.now)) (placed word)) a.rest.now 1 (passed (goal.at.After-said_stuck_at c).Else-not-sign_at) c.read_name-name.ensures
     (said-stuck-there c.in_default.is c.said_stuck_at.ensures)
 
 named : (c : In-To)
     → let a = c.args in
-    let e = c.name-1.given.0 in
-    let next = 1 + e.1.0 in
-    Stands a.rest.now next (past (said_of (length (drop 1 a.rest.now)) e.0) (drop next a.rest.now))
+    let next = 1 + c.in-To.bytes in
+    Stands a.rest.now next (past (said_of (length (drop 1 a.rest.now)) c.in-To.said) (drop next a.rest.now))
     (seen (name_entry (map (name_of 8) a.names.now)) (placed word) (drop 1 a.rest.now))
 named c =
     let a = c.args in
-    said-went-on (seen (name_entry (map (name_of 8) a.names.now)) (placed word)) a.rest.now 1 (passed c.before.before.before.before.before) c.read_name-name.ensures
+    said-went-on (seen (name_entry (map (name_of 8) a.names.now)) (placed word)) a.rest.now 1 (passed (goal.at.In-To c).Else-not-sign_at) c.read_name-name.ensures
     c.in-To.is
 
 pub overflow_add-result : goal.overflow_add-result
 overflow_add-result c = let s = (missed c).within in omega arith
 
 pub returns-in_default : goal.returns-in_default
-returns-in_default c =
+returns-in_default c bounds store =
     let a = c.args in
-    act-no-name (map (name_of 8) a.names.now) a.rest.now (spaced c.before.before.before.before.before) (missed c)
+    act-no-name (map (name_of 8) a.names.now) a.rest.now (spaced (goal.at.returns-in_default c).Else-not-sign_at) (missed c)
 
 pub overflow_add-next : goal.overflow_add-next
 overflow_add-next c = let s = (named c).within in omega arith
 
 pub returns-then-not-sign_at-2 : goal.returns-then-not-sign_at-2
-returns-then-not-sign_at-2 c =
+returns-then-not-sign_at-2 c bounds store =
     let a = c.args in
-    act-no-end (map (name_of 8) a.names.now) a.rest.now (spaced c.before.before.before.before.before.before.before) c.in-To.said (named c.before.before)
+    act-no-end (map (name_of 8) a.names.now) a.rest.now (spaced (goal.at.returns-then-not-sign_at-2 c).Else-not-sign_at) c.in-To.said (named (goal.at.returns-then-not-sign_at-2 c).In-To)
     (sym c.sign_at-2.ensures ∙ not-true _ c.if-not-sign_at-2.true-raw)
 
 pub returns : goal.returns
 returns c bounds store =
     let a = c.args in
-    act-line (map (name_of 8) a.names.now) a.rest.now (spaced c.before.before.before.before.before.before.before.before.before) c.in-To.said (named c.before.before.before.before) bounds store
+    act-line (map (name_of 8) a.names.now) a.rest.now (spaced (goal.at.returns c).Else-not-sign_at) c.in-To.said (named (goal.at.returns c).In-To) bounds store
     (omega (arith, c.well_formed.1.0, length-map a.names.now (name_of 8))) c.number_of.ensures
     (sym c.sign_at-2.ensures ∙ not-false _ c.if-not-sign_at-2.false-raw)
 
 pub overflow_add-result-2 : goal.overflow_add-result-2
-overflow_add-result-2 c = let s = (returns-4 c (record { equations = 0; term = 0 }) []).within in omega arith
+overflow_add-result-2 c = let s = (returns c (record { equations = 0; term = 0 }) []).within in omega arith

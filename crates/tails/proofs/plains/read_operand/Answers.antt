@@ -9,13 +9,7 @@ pub slice_bounds-number_after-start : goal.slice_bounds-number_after-start
 slice_bounds-number_after-start c = c.requires
 
 pub slice_bounds-number_after-count : goal.slice_bounds-number_after-count
-slice_bounds-number_after-count c = let w = part-number-after-start c in omega arith
-
-pub enum_known-read : goal.enum_known-read
-enum_known-read c = c.in-To.keys1
-
-pub enum_told-1 : goal.enum_told-1
-enum_told-1 c = c.in_default.keys2
+slice_bounds-number_after-count c = let w = slice_bounds-number_after-start c in omega arith
 
 pub returns-in_default : goal.returns-in_default
 returns-in_default c =
@@ -27,7 +21,7 @@ returns-in_default c =
     }
 
 pub overflow_add-result : goal.overflow_add-result
-overflow_add-result c = let s = (returns c).stands.within in omega arith
+overflow_add-result c = let s = (returns-in_default c).stands.within in omega arith
 
 pub returns : goal.returns
 returns c =
@@ -35,4 +29,4 @@ returns c =
     record { stands = went_on spaced a.rest.now a.at c.requires c.number_after-read.ensures c.in-To.is }
 
 pub overflow_add-result-2 : goal.overflow_add-result-2
-overflow_add-result-2 c = let s = (returns-2 c).stands.within in omega arith
+overflow_add-result-2 c = let s = (returns c).stands.within in omega arith

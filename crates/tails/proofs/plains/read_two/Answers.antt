@@ -10,13 +10,7 @@ use Rattle.words.proofs.Steps.{stuck_there, steps-to, steps-stuck, become}
 use Rattle.tails.specs.Plains.{made_of}
 use Rattle.tails.proofs.Operands.{plain-kind, alone-with, second_at, last-stuck, last-read, two-stuck, two-read, plain-become}
 use Rattle.tails.proofs.plains.read_two.Goals as goal
-use Rattle.tails.proofs.plains.read_two.Goals.{In-To, Start}
-
-pub enum_known-first : goal.enum_known-first
-enum_known-first c = c.in-To.keys1
-
-pub enum_told-1 : goal.enum_told-1
-enum_told-1 c = c.in_default.keys2
+use Rattle.tails.proofs.plains.read_two.Goals.{In-To}
 
 pub returns-in_default : goal.returns-in_default
 returns-in_default c =
@@ -24,60 +18,46 @@ returns-in_default c =
     two-stuck a.rest.now 0 (made_of a.k)
     (steps-stuck c.read_operand-first.ensures (stuck_there c.in_default.is c.stuck_at.ensures))
 
-abbrev entry : In-To → Start
-entry c = c.before.before.before.before.before
-
 -- where the first number ends, and what is due from there on, wherever that number begins
-passed : (c : In-To) → c.in-To.after ≤ length (entry c).args.rest.now
+passed : (c : In-To) → c.in-To.after ≤ length c.args.rest.now
 passed c = (steps-to c.read_operand-first.ensures c.in-To.is).within
 
 behind : (c : In-To) {from : ℕ}
-    → let a = (entry c).args in
-    let first = c.first-1.given.0 in
+    → let a = c.args in
     from ≡ length a.rest.now - 1
-    → of_last (made_of a.k first.0) (second_at from) (drop first.1.0 a.rest.now) ≡ of_two (made_of a.k) a.rest.now
+    → of_last (made_of a.k c.in-To.t) (second_at from) (drop c.in-To.after a.rest.now) ≡ of_two (made_of a.k) a.rest.now
 behind c e =
-    let a = (entry c).args in
+    let a = c.args in
     two-read a.rest.now 0 (made_of a.k) e (steps-to c.read_operand-first.ensures c.in-To.is).says
 
 pub read_operand-second-requires : goal.read_operand-second-requires
 read_operand-second-requires c = passed c
 
-pub enum_known-second : goal.enum_known-second
-enum_known-second c = c.in-To-second.keys1
-
-pub enum_told-in_default-second : goal.enum_told-in_default-second
-enum_told-in_default-second c = c.in_default-second.keys2
-
 pub returns-in_default-second : goal.returns-in_default-second
 returns-in_default-second c =
-    let a = (entry c.before.before.before.before).args in
-    let first = c.first-1.given.0 in
-    become (behind c.before.before.before.before refl)
-    (last-stuck a.rest.now first.1.0 (made_of a.k first.0) (second_at (length a.rest.now - 1))
+    let a = c.args in
+    become (behind (goal.at.returns-in_default-second c).In-To refl)
+    (last-stuck a.rest.now c.in-To.after (made_of a.k c.in-To.t) (second_at (length a.rest.now - 1))
     (steps-stuck c.read_operand-second.ensures (stuck_there c.in_default-second.is c.stuck_at-in_default-second.ensures)))
 
 pub overflow_add-after : goal.overflow_add-after
-overflow_add-after c = let w = passed c.before.before.before.before.before in omega arith
+overflow_add-after c = let w = passed (goal.at.overflow_add-after c).In-To in omega arith
 
 pub finish-requires : goal.finish-requires
 finish-requires c =
-    let second = c.second-1.given in
     let first = c.in-To.t in (
-      (steps-to c.read_operand-second.ensures second.1).within,
-      subst IsPlain (sym c.plain.ensures) (plain-kind (entry c.before.before.before.before.before.before.before).args.k first second.0.0),
+      (steps-to c.read_operand-second.ensures c.in-To-second.is).within,
+      subst IsPlain (sym c.plain.ensures) (plain-kind c.args.k first c.in-To-second.u),
     )
 
 pub returns : goal.returns
 returns c =
-    let a = (entry c.before.before.before.before.before.before.before.before).args in
-    let first = c.first-1.given.0 in
-    let second = c.second-1.given in
+    let a = c.args in
     let from = c.left_at in
     plain-become a.bounds a.rest.now c.finish.result
-    (ap (λ x. alone-with x (second_at from.result c.left_at-2.result) (drop second.0.1.0 a.rest.now))
+    (ap (λ x. alone-with x (second_at from.result c.left_at-2.result) (drop c.in-To-second.next a.rest.now))
     (ap bare_term c.plain.ensures)
-    ∙ last-read a.rest.now first.1.0 (made_of a.k first.0) (second_at from.result) c.left_at-2.ensures
-    (steps-to c.read_operand-second.ensures second.1).says
-    ∙ behind c.before.before.before.before.before.before.before.before from.ensures)
+    ∙ last-read a.rest.now c.in-To.after (made_of a.k c.in-To.t) (second_at from.result) c.left_at-2.ensures
+    (steps-to c.read_operand-second.ensures c.in-To-second.is).says
+    ∙ behind (goal.at.returns c).In-To from.ensures)
     c.finish.ensures

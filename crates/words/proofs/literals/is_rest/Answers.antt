@@ -5,12 +5,6 @@ use Rattle.words.proofs.Steps.{steps-to, steps-stuck}
 use Rattle.words.proofs.Looked.{ends_there, rest-literal}
 use Rattle.words.proofs.literals.is_rest.Goals as goal
 
-pub enum_known-p : goal.enum_known-p
-enum_known-p c = c.in-To.keys1
-
-pub enum_told-1 : goal.enum_told-1
-enum_told-1 c = c.in_default.keys2
-
 pub returns-in_default : goal.returns-in_default
 returns-in_default c =
     let a = c.args in

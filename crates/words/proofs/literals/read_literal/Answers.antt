@@ -1,7 +1,6 @@
 use mathlib.Core.Path.{refl, sym, ◌∙◌}
 use borrow.Author.Tests.{not-true, not-false}
 use native.Mathlib.Omega.{arith}
-use Prim.Native.Nat.{◌-◌}
 use lib.ListN.{drop_of_length-le}
 use Rattle.words.proofs.Rests.{rest-cons, spelled-other, spelled-more, spelled-all}
 use Rattle.words.proofs.literals.read_literal.Goals as goal
@@ -27,7 +26,7 @@ loop-next-preserved c =
     spelled-more c.loop-next.invariant (rest-cons _ _ c.loop-next-test.true) (sym c.sign_at.ensures ∙ not-false _ c.if-not-sign_at.false-raw)
 
 pub overflow_add-next : goal.overflow_add-next
-overflow_add-next c = omega (arith, (loop-again c).within)
+overflow_add-next c = omega (arith, (loop-next-preserved c).within)
 
 pub returns : goal.returns
 returns c = record { steps = spelled-all c.loop-next.invariant (drop_of_length-le _ c.loop-next-test.false); numberless = refl }

@@ -27,7 +27,7 @@ loop-left-preserved c =
     (p.0, p.1, spelled-more i.2 p.2 (sym c.sign_at.ensures ∙ not-false _ c.if-not-sign_at.false-raw))
 
 pub overflow_add-next : goal.overflow_add-next
-overflow_add-next c = omega (arith, (loop-again c).2.within)
+overflow_add-next c = omega (arith, (loop-left-preserved c).2.within)
 
 pub returns : goal.returns
 returns c = let i = c.loop-left.invariant in record { steps = spelled-all i.2 (packed_all i.0 (omega arith)); numberless = refl }

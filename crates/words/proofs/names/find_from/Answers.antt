@@ -1,5 +1,4 @@
 use mathlib.Core.Path.{refl, ◌∙◌}
-use Prim.Native.Nat.{◌-◌}
 use native.Mathlib.Omega.{arith}
 use Rattle.words.proofs.Looked.{number-here, number-later, number-none}
 use Rattle.words.proofs.names.find_from.Goals as goal

@@ -69,7 +69,7 @@ pub overflow_add-w : goal.overflow_add-w
 overflow_add-w c =
     let l = c.loop-bytes in
     let p : 256 ^ (l.bytes + 1) ≤ 256 ^ 8 = pow-le-pow_right {n = 256} (lit< tt) {j = 8} (omega arith) in
-    omega (arith, (loop-again c).small)
+    omega (arith, (loop-bytes-preserved c).small)
 
 pub overflow_add-bytes : goal.overflow_add-bytes
 overflow_add-bytes c = omega arith

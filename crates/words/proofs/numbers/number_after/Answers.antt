@@ -28,16 +28,10 @@ slice_bounds-read_number-count c = let w = passed c in omega arith
 pub slice_bounds-read_number-start : goal.slice_bounds-read_number-start
 slice_bounds-read_number-start c = let w = passed c in omega arith
 
-pub enum_known-read : goal.enum_known-read
-enum_known-read c = c.in-To.keys1
-
-pub enum_told-1 : goal.enum_told-1
-enum_told-1 c = c.in_default.keys2
-
 pub returns-in_default : goal.returns-in_default
 returns-in_default c =
     let a = c.args in
-    let w = passed c.before.before.before.before.before in
+    let w = passed (goal.at.returns-in_default c).Else-not-sign_at in
     record {
       stands =
           past-sign a.sign a.rest.now 0 _ (sym c.sign_at.ensures ∙ not-false _ c.if-not-sign_at.false-raw)
@@ -45,12 +39,12 @@ returns-in_default c =
     }
 
 pub overflow_add-result : goal.overflow_add-result
-overflow_add-result c = let s = (returns-2 c).stands.within in omega arith
+overflow_add-result c = let s = (returns-in_default c).stands.within in omega arith
 
 pub returns : goal.returns
 returns c =
     let a = c.args in
-    let w = passed c.before.before.before.before.before in
+    let w = passed (goal.at.returns c).Else-not-sign_at in
     record {
       stands =
           past-sign a.sign a.rest.now 0 _ (sym c.sign_at.ensures ∙ not-false _ c.if-not-sign_at.false-raw)
@@ -58,4 +52,4 @@ returns c =
     }
 
 pub overflow_add-result-2 : goal.overflow_add-result-2
-overflow_add-result-2 c = let s = (returns-3 c).stands.within in omega arith
+overflow_add-result-2 c = let s = (returns c).stands.within in omega arith

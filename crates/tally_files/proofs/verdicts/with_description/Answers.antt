@@ -1,0 +1,13 @@
+-- `tally_files::verdicts::with_description` meets its contract: what is added is what is counted of the description.
+-- Assumes nothing.
+use Rattle.tally_files.proofs.verdicts.with_description.Goals as goal
+
+pub verdict-requires : goal.verdict-requires
+verdict-requires c = tt
+
+pub added-requires : goal.added-requires
+added-requires c = tt
+
+pub returns : goal.returns
+returns c =
+    rw c.verdict.ensures at c.added.ensures
