@@ -1,16 +1,16 @@
 -- Of two states with the same label, the one that has no less of all that rules take gives all that the other gives; and more rules
 -- give no less.
 -- Assumes nothing.
-use mathlib.Core.Path.{◌≡◌, refl, sym, ap, subst, ◌∙◌}
-use mathlib.Core.Logic.{◌⊎◌, inl, inr}
-use mathlib.Core.Bool.{Bool, true, false, not, ◌&&◌}
-use mathlib.Core.List.{List, [], ◌∷◌, ◌++◌}
-use Prim.Native.Nat.{ℕ, zero, suc, ◌+◌, ◌-◌, ◌*◌, ◌^◌, ◌≤◌, ◌<◌}
+use mathlib.Core.Path.{◌≡◌, refl, sym, subst}
+use mathlib.Core.Logic.{inl, inr}
+use mathlib.Core.Bool.{Bool, true, false}
+use mathlib.Core.List.{List, [], ◌∷◌}
+use Prim.Native.Nat.{ℕ, zero, suc, ◌+◌, ◌-◌, ◌^◌, ◌≤◌, ◌<◌}
 use native.Mathlib.Decide.{dec_lt}
 use native.Mathlib.Omega.{arith}
 use borrow.Author.Tests.{lt-ltb, ne_eqb}
-use lib.Dec.{T, ltb, eqb}
-use Rattle.meaning.specs.Labels.{count, minus, inside}
+use lib.Dec.{T}
+use Rattle.meaning.specs.Labels.{count, inside}
 use Rattle.meaning.specs.Sets.{◌∈◌}
 use Rattle.meaning.proofs.Bags.{inside-counts, counts-inside, count-minus}
 use Rattle.meaning.proofs.Members.{in-append}

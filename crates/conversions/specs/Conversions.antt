@@ -1,6 +1,6 @@
 -- Numbers of labels in one word and in two (docs/FORMAT.md, "Labels in words").
 -- Assumes nothing.
-use Rattle.std.specs.Prelude.{◌≡◌, Bool, true, false, not, ◌&&◌, ◌||◌, List, [], ◌∷◌, ℕ, ◌/◌, ◌%◌, eqb, leb, length}
+use Rattle.std.specs.Prelude.{◌≡◌, Bool, false, not, ◌&&◌, ◌||◌, List, [], ◌∷◌, ℕ, ◌/◌, ◌%◌, eqb, leb, length}
 use Rattle.meaning.specs.Rounds.{pick}
 use Rattle.areas.specs.Areas.{put}
 use Rattle.conversions.specs.declared.OneWord.{OneWord}

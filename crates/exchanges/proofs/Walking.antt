@@ -8,7 +8,6 @@ use native.Mathlib.Decide.{dec_lt}
 use native.Mathlib.Omega.{arith}
 use lib.ListN.{length, replicate}
 use Rattle.meaning.specs.Sets.{Rising}
-use Rattle.areas.specs.Rows.{held}
 use Rattle.parts.specs.Parts.{set_at, room_at, most_labels}
 use Rattle.parts.proofs.LaidSets.{length-laid, set_at-laid}
 use Rattle.sets.specs.declared.Built.{Built}

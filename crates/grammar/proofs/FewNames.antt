@@ -12,7 +12,7 @@ use Rattle.meaning.specs.Bytes.{Text, ascii}
 use Rattle.meaning.specs.Answers.{form}
 use Rattle.grammar.specs.Text.{Past, past, stuck, Placed}
 use Rattle.grammar.specs.Forms.{count_line}
-use Rattle.grammar.specs.Reading.{Taken, taken_if, formed, take_number, names_up_to, Walk, walk, after_line, one_line, Whole, from_names}
+use Rattle.grammar.specs.Reading.{Taken, taken_if, formed, take_number, names_up_to, walk, after_line, from_names}
 use Rattle.grammar.specs.Reading.{Reading, overlong, described, whole_text, read_text, read_up_to}
 
 -- The first line gives so many names.

@@ -4,7 +4,7 @@ use Rattle.std.specs.Prelude.{Bool, true, false, ◌&&◌, not, List, [], ◌∷
 use Rattle.meaning.specs.Bytes.{Text, ascii}
 use Rattle.meaning.specs.Descriptions.{Term, Order, Description}
 use Rattle.meaning.specs.Answers.{Fault, form, name, range}
-use Rattle.grammar.specs.Text.{Past, past, stuck, Placed, same_text}
+use Rattle.grammar.specs.Text.{Past, past, stuck, same_text}
 use Rattle.grammar.specs.Forms.{count_line, name_line, term_line, order_line}
 use Rattle.grammar.specs.Faults.{Found, fine, fault, name_number, term_said, term_fault, order_said, order_fault}
 

@@ -1,6 +1,6 @@
 -- What a way makes of a label, put into a set at the start of words of its own; it never shortens a set nor takes it past the room.
 -- Assumes nothing.
-use mathlib.Core.Path.{◌≡◌, refl, sym, ap, subst, ◌∙◌}
+use mathlib.Core.Path.{◌≡◌, refl, sym, ap, subst}
 use mathlib.Core.Bool.{false}
 use mathlib.Core.List.{List, [], ◌∷◌}
 use Prim.Native.Nat.{ℕ, ◌^◌, ◌≤◌, ◌<◌}
@@ -12,12 +12,11 @@ use Rattle.labels.specs.declared.Label.{Label}
 use Rattle.labels.specs.Packing.{code, packed}
 use Rattle.areas.specs.Rows.{held}
 use Rattle.areas.proofs.Lent.{lent, back, lent_is, back_is}
-use Rattle.parts.specs.declared.Target.{Target}
 use Rattle.parts.proofs.LaidSets.{laid-self}
 use Rattle.sets.specs.declared.Built.{Built}
 use Rattle.sets.specs.declared.Built.TheVariants.{TooLarge, Holds}
 use Rattle.sets.specs.declared.Offer.{Offer}
-use Rattle.sets.specs.declared.Offer.TheVariants.{Nothing, TooLong, Next}
+use Rattle.sets.specs.declared.Offer.TheVariants.{Nothing, TooLong}
 use Rattle.sets.specs.Building.{done, each, enter, taken, GrownAt}
 use Rattle.sets.proofs.Steps.{Steady, steady-taken, steady-enter, going_start, going_end}
 use Rattle.extents.specs.Extents.{at_start}

@@ -1,7 +1,7 @@
 -- What a word borrows when another is taken from it: a digit to base 32 that is below the other's borrows of the next, whose lowest bit
 -- tells it.
 -- Assumes nothing.
-use Rattle.std.proofs.Common.{◌≡◌, ℕ, zero, suc, ◌+◌, ◌-◌, ◌*◌, ◌/◌, ◌%◌, ◌^◌, ◌<◌, ◌≤◌, Bool, true, false, T, eqb, sym, refl, ◌∙◌, arith, ne_eqb, le-leb}
+use Rattle.std.proofs.Common.{◌≡◌, ℕ, zero, suc, ◌+◌, ◌-◌, ◌*◌, ◌/◌, ◌%◌, ◌^◌, ◌<◌, ◌≤◌, Bool, true, false, T, eqb, refl, ◌∙◌, arith, ne_eqb, le-leb}
 use native.Mathlib.Nat.{min-zero, min-eq_left}
 use native.Mathlib.Decide.{dec_le}
 use borrow.Author.Tests.{lt-leb}

@@ -11,7 +11,7 @@ use lib.Dec.{T}
 use Rattle.meaning.specs.Labels.{Label}
 use Rattle.meaning.specs.Descriptions.{Term, delta, sync, Order, Description, term_count, term_at}
 use Rattle.meaning.specs.Legal.{Legal, LegalTerm}
-use Rattle.meaning.specs.Rounds.{sync_shape, are_multi_actions, of_actions, is_multi_action, Shape, both, joint, shape, round_sets}
+use Rattle.meaning.specs.Rounds.{sync_shape, are_multi_actions, of_actions, is_multi_action, Shape, joint, shape, round_sets}
 use Rattle.meaning.specs.Answers.{Outcome, answer}
 use Rattle.meaning.proofs.Tests.{and_both}
 use Rattle.meaning.proofs.SyncOrOther.{SyncOrOther, is-sync, other, sync-or-other, built-other}

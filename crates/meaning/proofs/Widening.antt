@@ -7,7 +7,7 @@ use mathlib.Core.List.{List, [], ◌∷◌}
 use Prim.Native.Nat.{ℕ, zero, suc}
 use lib.Dec.{T}
 use lib.ListN.{length, get_or}
-use Rattle.meaning.specs.Labels.{Label, count, clear}
+use Rattle.meaning.specs.Labels.{Label, clear}
 use Rattle.meaning.specs.Sets.{◌∈◌, keep}
 use Rattle.meaning.specs.Descriptions.{Term, delta}
 use Rattle.meaning.specs.Descriptions.{Order, Description, names}

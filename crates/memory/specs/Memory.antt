@@ -1,6 +1,6 @@
 -- States kept in a row of labels, and which states they cover.
 -- Assumes nothing.
-use Rattle.std.specs.Prelude.{◌≡◌, Bool, true, false, not, ◌&&◌, ◌||◌, List, [], ◌∷◌, ℕ, zero, suc, ◌+◌, ◌-◌, ◌*◌, ◌/◌, ◌%◌, ◌^◌, ◌<◌, eqb, leb, ltb, length, get_or, set}
+use Rattle.std.specs.Prelude.{◌≡◌, Bool, true, false, not, ◌&&◌, ◌||◌, List, [], ◌∷◌, ℕ, zero, suc, ◌+◌, ◌-◌, ◌*◌, ◌%◌, ◌^◌, ◌<◌, eqb, leb, ltb, length, get_or, set}
 use Rattle.meaning.specs.Sets.{◌∈◌}
 use Rattle.labels.specs.Bags.{bag, as_much}
 use Rattle.rules.specs.Rules.{Exchange, exchanges_before}

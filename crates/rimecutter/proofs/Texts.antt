@@ -13,7 +13,7 @@ use Rattle.printing.proofs.Lengths.{length-answer}
 use Rattle.printing.proofs.Refusals.{length-refusal}
 use lib.Seq.{take_at}
 use Rattle.meaning.specs.Bytes.{Text}
-use Rattle.meaning.specs.Labels.{Label, size, number, in_words}
+use Rattle.meaning.specs.Labels.{Label, number, in_words}
 use Rattle.meaning.specs.Descriptions.{Description, Order, names}
 use Rattle.meaning.specs.Legal.{Each}
 use Rattle.meaning.specs.Answers as A

@@ -3,11 +3,10 @@
 use mathlib.Core.Path.{◌≡◌, sym, ap, ap₂, ◌∙◌, ◌≡⟨◌⟩◌, ◌∎}
 use mathlib.Core.List.{List, []}
 use Prim.Native.Nat.{ℕ, ◌+◌, ◌-◌, ◌≤◌, ◌<◌, min}
-use native.Mathlib.Decide.{dec_le}
 use native.Mathlib.Numerals.{add-one}
 use native.Mathlib.Omega.{arith}
 use lib.ListN.{length, get_or, take, drop, length-take, drop_of_length-le}
-use lib.Seq.{take-take, take_all, slice-cons}
+use lib.Seq.{slice-cons}
 use Rattle.labels.specs.Packing.{code, packed}
 use Rattle.labels.proofs.Codes.{code_of}
 use Rattle.sets.specs.declared.Built.{Built}

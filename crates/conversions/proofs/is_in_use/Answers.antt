@@ -1,5 +1,4 @@
 use mathlib.Core.Path.{sym}
-use Prim.Native.Nat.{◌-◌}
 use native.Mathlib.Omega.{arith}
 use Rattle.conversions.proofs.Places.{look-start, look-found, look-on, look-end}
 use Rattle.conversions.proofs.is_in_use.Goals as goal

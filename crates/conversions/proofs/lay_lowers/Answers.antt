@@ -1,5 +1,4 @@
 use mathlib.Core.Path.{sym}
-use Prim.Native.Nat.{◌-◌}
 use native.Mathlib.Omega.{arith}
 use Rattle.areas.proofs.Filling.{filling-start, filling_step, filling-end}
 use Rattle.conversions.specs.Conversions.{lowers}

@@ -1,5 +1,3 @@
-use mathlib.Core.Logic.{⊎_elim}
-use Prim.Native.Nat.{◌-◌}
 use native.Mathlib.Omega.{arith}
 use Rattle.courses.proofs.Handing.{handing-start, handing-end, handing-some, handing-none}
 use Rattle.courses.proofs.hand_on.Goals as goal

@@ -1,4 +1,3 @@
-use Prim.Native.Nat.{◌-◌}
 use native.Mathlib.Omega.{arith}
 use lib.ListN.{length-set}
 use Rattle.keeping.proofs.Bringing.{bringing-start, bringing-room, bringing-step, bringing-end}

@@ -1,6 +1,5 @@
 use mathlib.Core.Path.{◌≡◌, sym, ◌∙◌}
-use mathlib.Core.Bool.{true}
-use Prim.Native.Nat.{◌+◌, ◌-◌, ◌/◌, ◌%◌}
+use Prim.Native.Nat.{◌+◌, ◌/◌, ◌%◌}
 use native.Mathlib.Nat.{le_refl}
 use native.Mathlib.Omega.{arith}
 use borrow.Author.Tests.{eqb-true}
@@ -23,7 +22,6 @@ loop-i-init c = (
   underway-start (parts-start (part_texts (name_texts c.args.names) (counts_of (code c.args.label))))
       c.requires,
   omega arith,
-
 )
 
 pub shape_of-text-then-same : goal.shape_of-text-then-same

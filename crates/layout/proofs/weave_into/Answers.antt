@@ -1,9 +1,8 @@
 -- `layout::weave_into` meets its contract. Assumes nothing.
 use mathlib.Core.Path.{refl}
-use mathlib.Core.Logic.{⊎_elim}
 use Prim.Native.Nat.{◌+◌, ◌-◌, ◌≤◌}
 use native.Mathlib.Omega.{arith}
-use borrow.Author.Tests.{ltb-true, ltb-false}
+use borrow.Author.Tests.{ltb-false}
 use Rattle.areas.proofs.Held.{length-held}
 use Rattle.layout.proofs.Growths.{unwoven, woven-set}
 use Rattle.layout.proofs.weave_into.Goals as goal

@@ -1,8 +1,6 @@
 -- `memory::covers` meets its contract. The loop's invariant: the rules before the i-th label decide; the measure is i.
 -- Assumes nothing.
 use mathlib.Core.Path.{◌≡◌}
-use Prim.Native.Nat.{◌-◌}
-use borrow.Author.Rules.{rules}
 use Rattle.labels.specs.Packing.{code}
 use Rattle.areas.specs.Rows.{held}
 use Rattle.rules.specs.Rules.{exchanges_before}

@@ -2,7 +2,6 @@
 -- many they are. Assumes nothing.
 use mathlib.Core.Path.{◌≡◌}
 use Prim.Native.Nat.{◌+◌, ◌-◌}
-use borrow.Author.Rules.{rules}
 use Rattle.labels.specs.Packing.{code}
 use Rattle.areas.specs.Rows.{held}
 use Rattle.memory.specs.Memory.{holds_from, known_in, ways}

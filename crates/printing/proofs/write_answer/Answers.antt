@@ -55,8 +55,11 @@ pub overflow_add-result : goal.overflow_add-result
 overflow_add-result c =
     let a = c.args in
     let fits = test_fits _ _ c.answer_fits.ensures c.if-answer_fits.true in
-    omega (arith, written-within fits
-    (text-written a.names a.rounds (held a.labels.now) fits (rw c.labels_in.ensures at c.write_answer_head-at.ensures) c.write_label_lines.ensures))
+    omega (
+      arith,
+      written-within fits
+          (text-written a.names a.rounds (held a.labels.now) fits (rw c.labels_in.ensures at c.write_answer_head-at.ensures) c.write_label_lines.ensures),
+    )
 
 pub shape_of-text-then-answer_fits : goal.shape_of-text-then-answer_fits
 shape_of-text-then-answer_fits c =

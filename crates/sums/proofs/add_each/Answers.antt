@@ -1,4 +1,4 @@
-use Rattle.std.proofs.Common.{◌-◌, refl, ◌∙◌, arith, leb-true}
+use Rattle.std.proofs.Common.{refl, ◌∙◌, arith, leb-true}
 use Rattle.labels.specs.Packing.{code}
 use Rattle.labels.proofs.Sizes.{size_few}
 use Rattle.areas.specs.Rows.{held}
@@ -16,11 +16,10 @@ overflow_add-size c =
     omega (arith, c.size.ensures, size_few (code c.read_label-label.result), c.requires.1)
 
 pub add_row-step-requires : goal.add_row-step-requires
-add_row-step-requires c =
-    (
-      c.loop-i.invariant.0.kept,
-      λ fit i h. omega (arith, leb-true, c.size.ensures, c.requires.2 i h),
-    )
+add_row-step-requires c = (
+  c.loop-i.invariant.0.kept,
+  λ fit i h. omega (arith, leb-true, c.size.ensures, c.requires.2 i h),
+)
 
 pub shape_of-seen-in_default : goal.shape_of-seen-in_default
 shape_of-seen-in_default c =

@@ -1,4 +1,4 @@
-use Rattle.std.proofs.Common.{◌-◌, refl, ◌∙◌, arith}
+use Rattle.std.proofs.Common.{refl, ◌∙◌, arith}
 use Rattle.labels.specs.Packing.{code}
 use Rattle.labels.proofs.Codes.{code_of}
 use Rattle.labels.proofs.Sizes.{size_few}

@@ -1,4 +1,4 @@
-use Rattle.std.proofs.Common.{◌-◌, ◌≤◌, get_or, ap, ◌∙◌, ⊎_elim, arith, below_more}
+use Rattle.std.proofs.Common.{◌≤◌, get_or, ap, ◌∙◌, arith, below_more}
 use Rattle.labels.specs.Bags.{size_of}
 use Rattle.labels.proofs.Codes.{code_of}
 use Rattle.labels.proofs.Sizes.{size_few}

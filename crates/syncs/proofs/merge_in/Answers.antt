@@ -2,7 +2,6 @@
 -- Assumes nothing.
 use mathlib.Core.Path.{◌≡◌, sym, ap, ap₂, ◌∙◌}
 use mathlib.Core.Bool.{Bool, true, false, ◌&&◌}
-use mathlib.Core.Logic.{inl, inr}
 use borrow.Enum.Refused.{opened}
 use Rattle.syncs.specs.Merging.{multi_at, merge_of}
 use Rattle.syncs.proofs.ByKind.{stays}

@@ -1,7 +1,7 @@
 -- `areas::rows::shift_up` meets its contract. The loop's invariant is `moved_from`: the words from the i-th on are moved; the
 -- measure is i. Assumes nothing.
 use mathlib.Core.Path.{◌≡◌}
-use Prim.Native.Nat.{◌+◌, ◌-◌, ◌≤◌}
+use Prim.Native.Nat.{◌+◌, ◌≤◌}
 use lib.ListN.{length}
 use Rattle.areas.proofs.Moves.{moved_from}
 use Rattle.areas.proofs.rows.shift_up.Given as goal

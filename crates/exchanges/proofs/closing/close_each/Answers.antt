@@ -3,7 +3,6 @@
 use mathlib.Core.Path.{◌≡◌, refl, sym, ◌∙◌}
 use mathlib.Core.List.{List}
 use Prim.Native.Nat.{ℕ}
-use borrow.Author.Rules.{rules}
 use Rattle.areas.specs.Rows.{held}
 use Rattle.sets.specs.declared.Built.{Built}
 use Rattle.exchanges.specs.Closing.{Closes}

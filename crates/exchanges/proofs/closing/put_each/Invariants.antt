@@ -2,7 +2,6 @@
 -- is kept is true of the set; the measure is how many labels are left. Assumes nothing.
 use mathlib.Core.Path.{◌≡◌}
 use Prim.Native.Nat.{◌-◌}
-use borrow.Author.Rules.{rules}
 use lib.ListN.{length}
 use Rattle.areas.specs.Rows.{held}
 use Rattle.exchanges.proofs.LabelByLabel.{Closing}

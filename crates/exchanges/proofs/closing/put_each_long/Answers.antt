@@ -3,7 +3,6 @@
 use mathlib.Core.Path.{sym, subst, ◌∙◌}
 use mathlib.Core.List.{[]}
 use native.Mathlib.Omega.{arith}
-use borrow.Author.Rules.{rules}
 use Rattle.areas.specs.Rows.{held}
 use Rattle.areas.proofs.Held.{held-zeros, length-held}
 use Rattle.sets.proofs.Presence.{rises→}

@@ -1,6 +1,5 @@
 -- `exchanges::closing::put_each_short` meets its contract. Assumes nothing.
 use native.Mathlib.Omega.{arith}
-use borrow.Author.Rules.{rules}
 use lib.ListN.{replicate}
 use Rattle.areas.specs.Rows.{held}
 use Rattle.areas.proofs.Held.{length-held}

@@ -1,5 +1,4 @@
 -- `exchanges::following::next_state` meets its contract: the part that is asked about is the whole operand. Assumes nothing.
-use borrow.Author.Rules.{rules}
 use Rattle.labels.specs.Packing.{code}
 use Rattle.areas.specs.Rows.{held}
 use Rattle.rules.specs.Rules.{exchange_at}

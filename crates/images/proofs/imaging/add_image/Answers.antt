@@ -1,6 +1,5 @@
 -- `images::imaging::add_image` meets its contract: by rules, for which the rows are lent anew, or by what is offered. Assumes nothing.
 use mathlib.Core.Path.{◌≡◌, refl}
-use mathlib.Core.Logic.{inl, inr}
 use mathlib.Core.Bool.{false}
 use borrow.Enum.Refused.{opened}
 use Rattle.images.specs.declared.Way.TheVariants.{Comm}

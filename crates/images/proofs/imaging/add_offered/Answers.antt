@@ -1,5 +1,4 @@
 use mathlib.Core.Path.{refl, ◌∙◌}
-use Prim.Native.Nat.{◌-◌}
 use native.Mathlib.Omega.{arith}
 use Rattle.extents.proofs.RowWalks.{row-start, row-length, row-end, row-holds, row-large}
 use Rattle.images.specs.Imaging.{taken_by}

@@ -1,4 +1,4 @@
-use Rattle.std.proofs.Common.{refl, inl, inr, arith, ltb-false, ltb-true}
+use Rattle.std.proofs.Common.{refl, arith, ltb-false, ltb-true}
 use Rattle.labels.proofs.Words.{compared-end, compared-fail, compared-step, compared-skip}
 use Rattle.labels.proofs.bags.word_has.Goals as goal
 

@@ -1,5 +1,4 @@
 use mathlib.Core.Path.{refl, ◌∙◌}
-use Prim.Native.Nat.{◌-◌}
 use native.Mathlib.Omega.{arith}
 use Rattle.areas.proofs.Held.{length-held}
 use Rattle.layout.proofs.Carries.{carrying-start, carrying-step, carrying-end}

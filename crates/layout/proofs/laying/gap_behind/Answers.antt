@@ -1,10 +1,9 @@
 -- `layout::laying::gap_behind` meets its contract. Assumes nothing.
 use mathlib.Core.Path.{refl}
-use mathlib.Core.Logic.{⊎_elim}
 use Prim.Native.Nat.{◌-◌}
 use native.Mathlib.Nat.{div-le_self}
 use native.Mathlib.Omega.{arith}
-use borrow.Author.Tests.{eqb-true, eqb-false}
+use borrow.Author.Tests.{eqb-false}
 use Rattle.layout.proofs.laying.gap_behind.Goals as goal
 
 pub returns-then-half-total : goal.returns-then-half-total

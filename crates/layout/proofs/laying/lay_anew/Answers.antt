@@ -1,6 +1,5 @@
 use mathlib.Core.Path.{refl, ◌∙◌}
 use mathlib.Core.Logic.{⊎_elim}
-use Prim.Native.Nat.{◌-◌}
 use native.Mathlib.Omega.{arith}
 use lib.Dec.{eqb}
 use Rattle.areas.proofs.Held.{length-held}
@@ -23,12 +22,11 @@ overflow_add-end c =
     ⊎_elim (λ w. omega (arith, w.1)) (λ w. omega (arith, w.1)) c.free_half-start.ensures
 
 pub loop-t-init : goal.loop-t-init
-loop-t-init c =
-    (
-      anew-start (planned c.requires c.labels_in-half.ensures c.gap_behind-gap.ensures
-          c.free_half-start.ensures),
-      refl,
-    )
+loop-t-init c = (
+  anew-start (planned c.requires c.labels_in-half.ensures c.gap_behind-gap.ensures
+      c.free_half-start.ensures),
+  refl,
+)
 
 pub move_set-requires : goal.move_set-requires
 move_set-requires c = anew-within c.loop-t.invariant.0

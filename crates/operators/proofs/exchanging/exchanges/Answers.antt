@@ -1,5 +1,4 @@
 use mathlib.Core.Path.{refl, sym, ◌∙◌}
-use Prim.Native.Nat.{◌-◌}
 use native.Mathlib.Omega.{arith}
 use Rattle.areas.specs.Rows.{held}
 use Rattle.areas.proofs.Held.{held-zeros}
@@ -65,12 +64,11 @@ pub loop-at-smaller : goal.loop-at-smaller
 loop-at-smaller c = omega arith
 
 pub loop-at-preserved : goal.loop-at-preserved
-loop-at-preserved c =
-    (
-      over-step c.args.rules.now c.loop-at.at c.loop-at.i c.loop-at.invariant.0 (omega arith)
-          c.write_label.ensures c.single.ensures c.write_label-in-loop-at.ensures,
-      c.write_label-in-loop-at.auto.words ∙ c.write_label.auto.words ∙ c.loop-at.invariant.1,
-    )
+loop-at-preserved c = (
+  over-step c.args.rules.now c.loop-at.at c.loop-at.i c.loop-at.invariant.0 (omega arith)
+      c.write_label.ensures c.single.ensures c.write_label-in-loop-at.ensures,
+  c.write_label-in-loop-at.auto.words ∙ c.write_label.auto.words ∙ c.loop-at.invariant.1,
+)
 
 pub returns : goal.returns
 returns c =

@@ -5,7 +5,6 @@ use mathlib.Core.Path.{sym, ◌∙◌}
 use native.Mathlib.Nat.{min-eq_left}
 use lib.ListN.{length-take}
 use lib.Seq.{take_all}
-use borrow.Author.Rules.{rules}
 use Rattle.operators.proofs.exchanging.first_rules.Goals as goal
 
 pub slice_bounds-result-end : goal.slice_bounds-result-end

@@ -1,4 +1,3 @@
-use Prim.Native.Nat.{◌-◌}
 use native.Mathlib.Omega.{arith}
 use Rattle.stability.proofs.Copies.{copying-start, copying-step, copying-end}
 use Rattle.stability.proofs.running.copy.Goals as goal

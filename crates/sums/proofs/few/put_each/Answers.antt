@@ -1,4 +1,4 @@
-use Rattle.std.proofs.Common.{◌-◌, refl, ◌∙◌, arith}
+use Rattle.std.proofs.Common.{refl, ◌∙◌, arith}
 use Rattle.areas.specs.Rows.{held}
 use Rattle.extents.proofs.RowWalks.{row-start, row-end, row-holds, row-large}
 use Rattle.sums.proofs.SumLaws.{steady-row_of}
