@@ -56,10 +56,13 @@ def command(program):
 
 
 def rt(verb, crate):
-    """Runs the kit's `rt` in the folder of a crate; its progress is shown. What it
-    runs has no input."""
+    """Runs the kit's `rt` in the folder of a crate; its progress is shown. A program
+    that it runs has no input, and what that prints is dropped."""
+    printed = subprocess.DEVNULL if verb == "run" else None
     try:
-        subprocess.run([kit() / "bin" / "rt", verb], cwd=CRATES / crate, check=True, stdin=subprocess.DEVNULL)
+        subprocess.run(
+            [kit() / "bin" / "rt", verb], cwd=CRATES / crate, check=True, stdin=subprocess.DEVNULL, stdout=printed
+        )
     except subprocess.CalledProcessError as fault:
         raise Failed(f"rt {verb} of {crate} ended with {fault.returncode}") from fault
 
