@@ -106,7 +106,8 @@ module _ (all : List ℕ) where
   more-rules : (ls : List ℕ) (i d : ℕ) (rest sum w : ℕ) → w ∈ comes_of all (exchanges_before ls i) rest sum
       → w ∈ comes_of all (exchanges_before ls (d + d + i)) rest sum
   unfolding exchanges_before
-  more-rules ls i zero rest sum w m = let e : zero + zero + i ≡ i = omega arith in subst (λ (n : ℕ). w ∈ comes_of all (exchanges_before ls n) rest sum) (sym e) m
+  more-rules ls i zero rest sum w m = let e : zero + zero + i ≡ i = omega arith in subst
+      (λ (n : ℕ). w ∈ comes_of all (exchanges_before ls n) rest sum) (sym e) m
   more-rules ls i (suc d) rest sum w m =
       let e : suc d + suc d + i ≡ suc (suc (d + d + i)) = omega arith in
       subst (λ (n : ℕ). w ∈ comes_of all (exchanges_before ls n) rest sum) (sym e)

@@ -63,7 +63,8 @@ module _ (words : List Text) (legal : LegalWords words) where
   abbrev in_label : ℕ → Bool
   in_label b = in_name b || eqb dot b
 
-  pub writes_label : (from : ℕ) → Writes label (label_said words) (λ ps. IsFine (label_fault words from ps)) (label_text words) (LegalLabel (length words)) in_label
+  pub writes_label : (from : ℕ) → Writes label (label_said words) (λ ps. IsFine (label_fault words from ps)) (label_text words)
+      (LegalLabel (length words)) in_label
   unfolding label_fault is_lower is_digit
   writes_label from =
       writes_as (writes_items (part_fault from) (writes-part from) dot tt (λ _. from) (λ e. e.name) (λ e. e.times) 31
@@ -164,7 +165,8 @@ module _ (words : List Text) (legal : LegalWords words) where
   abbrev labels_said : List (Placed Parts) → List Label
   labels_said ls = map (λ l. label_said words l.it) ls
 
-  writes-some-labels : Writes (separated comma (placed label)) labels_said (λ ls. IsFine (labels_fault words ls)) (list_text (label_text words)) SomeLabels in_labels
+  writes-some-labels : Writes (separated comma (placed label)) labels_said (λ ls. IsFine (labels_fault words ls)) (list_text (label_text words))
+      SomeLabels in_labels
   unfolding labels_fault is_lower is_digit
   writes-some-labels =
       writes_items (λ l. label_fault words l.from l.it) (writes-placed writes_label) comma tt (λ l. l.from) L.number (λ _. 1) 32

@@ -271,7 +271,8 @@ module _ (words : List Text) (legal : LegalWords words) where
       let line = line_before (labels_text words ls) r in
       reads-by c (rw (rest-differs only-line (ascii "all") line c.reads (all-stuck c.value r), after-key) c.reads)
 
-  pub writes-order : WritesLine order_line (order_said words) (order_fault words) (λ o. o) (λ o. ascii "order=" ++ order_text words o) (LegalOrder (length words))
+  pub writes-order : WritesLine order_line (order_said words) (order_fault words) (λ o. o) (λ o. ascii "order=" ++ order_text words o)
+      (LegalOrder (length words))
   unfolding order_line order_fault
   writes-order = line_after (ascii "order=") (record {
     sound = λ s. when-branch (is_rest (ascii "all") s)

@@ -176,7 +176,8 @@ All (c ∷ cs) = Holds c × All cs
 computed : All table × All columns × All unseen_texts × All exact_texts
 unfolding L.plus L.number same_text literal is_rest is_digit is_lower second_digit number word_on word separated_on
     part pair rule label_list alone of_name of_last of_two of_list kinds of_kind count_line name_line term_line order_line
-    items_from items_fault name_number name_fault label_said actions label_fault words_fault pairs_fault rules_fault labels_fault words_of_fault term_fault order_fault
+    items_from items_fault name_number name_fault label_said actions label_fault words_fault pairs_fault rules_fault labels_fault words_of_fault
+    term_fault order_fault
     take_number is_free take_name take_term take_body take_order lines whole_text read_text
 computed = (
   (refl, (refl, (refl, (refl, (refl, (refl, (refl, (refl, (refl, (refl, (refl, (refl, (refl, (refl, tt)))))))))))))),

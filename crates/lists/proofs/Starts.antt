@@ -36,7 +36,8 @@ starts_more names starts i size within small s w h = cases (eqb (get_or names i 
         ∙ number-later names i w within small h (λ same. eqb-false first (w % 32) e (ap (λ v. v % 32) same))
 
 -- the number that is found from there on is the name's
-pub start-found : (names starts : List ℕ) (w : ℕ) {letter start n : ℕ} → Starting names starts → (letter ≡ w % 32) × (w < 2 ^ 64) → start ≡ get_or starts letter 0
+pub start-found : (names starts : List ℕ) (w : ℕ) {letter start n : ℕ} → Starting names starts → (letter ≡ w % 32) × (w < 2 ^ 64)
+    → start ≡ get_or starts letter 0
     → n ≡ number_from names start w
     → n ≡ name_number (map (name_of 8) names) (name_of 8 w)
 start-found names starts w s l e f =

@@ -89,7 +89,8 @@ same_labels→ [] [] h = refl
 same_labels→ [] (b ∷ t) h = absurd h
 same_labels→ (a ∷ s) [] h = absurd h
 same_labels→ (a ∷ s) (b ∷ t) h =
-    ap₂ {C = List Label} ◌∷◌ (same→eq a b (and_left (compare_is_eq (order a b)) (same_labels s t) h)) (same_labels→ s t (and_right (compare_is_eq (order a b)) (same_labels s t) h))
+    ap₂ {C = List Label} ◌∷◌ (same→eq a b (and_left (compare_is_eq (order a b)) (same_labels s t) h))
+    (same_labels→ s t (and_right (compare_is_eq (order a b)) (same_labels s t) h))
 
 same_labels-refl : (s : List Label) → T (same_labels s s)
 unfolding same_labels
@@ -102,7 +103,8 @@ same_sets→ [] [] h = refl
 same_sets→ [] (b ∷ t) h = absurd h
 same_sets→ (a ∷ s) [] h = absurd h
 same_sets→ (a ∷ s) (b ∷ t) h =
-    ap₂ {C = List (List Label)} ◌∷◌ (same_labels→ a b (and_left (same_labels a b) (same_sets s t) h)) (same_sets→ s t (and_right (same_labels a b) (same_sets s t) h))
+    ap₂ {C = List (List Label)} ◌∷◌ (same_labels→ a b (and_left (same_labels a b) (same_sets s t) h))
+    (same_sets→ s t (and_right (same_labels a b) (same_sets s t) h))
 
 same_sets-refl : (s : List (List Label)) → T (same_sets s s)
 unfolding same_sets

@@ -77,7 +77,8 @@ pub no_more : (d : Description) (k : ℕ) → total (round_sets d (suc k)) ≤ t
 no_more d k h =
     let back = (total-grows (round_sets d k) (round_sets d (suc k)) (once-round d k) (round-grows d k)).1 h in
     let same : (t : ℕ) → at (round_sets d (suc k)) t ≡ at (round_sets d k) t =
-    λ t. ascending-unique (at (round_sets d (suc k)) t) (at (round_sets d k) t) (round-ascends d (suc k) t) (round-ascends d k t) (back t) (round-grows d k t) in
+    λ t. ascending-unique (at (round_sets d (suc k)) t) (at (round_sets d k) t) (round-ascends d (suc k) t) (round-ascends d k t) (back t)
+    (round-grows d k t) in
     ap (λ (f : ℕ → List Label). map f d.bodies) (fun_ext same)
 
 -- So a round before which none was stable has as many labels as its number.

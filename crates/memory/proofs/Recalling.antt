@@ -179,7 +179,8 @@ module _ (all ls memory s : List ℕ) (entry before rest sum : ℕ) (x : Recalls
           λ i l. elsewhere memory entry before rest sum (3 * k + i) (λ e. d (omega arith)) (λ e. d (omega arith)) (λ e. d (omega arith)) in
           let z = elsewhere memory entry before rest sum (3 * k) (λ e. d (omega arith)) (λ e. d (omega arith)) (λ e. d (omega arith)) in
           x k stands (λ e. n (z ∙ e)) w
-          (same (place_at kept k) (get_or kept (3 * k + 1) 0) (get_or kept (3 * k) 0) (place_at memory k) (get_or memory (3 * k + 1) 0) (get_or memory (3 * k) 0)
+          (same (place_at kept k) (get_or kept (3 * k + 1) 0) (get_or kept (3 * k) 0) (place_at memory k) (get_or memory (3 * k + 1) 0)
+          (get_or memory (3 * k) 0)
           (ap (λ (i : ℕ). i % 2 ^ 64) (f 2 (omega arith))) (f 1 (omega arith)) z m)
 
 pub remembered-recalls : (all ls memory s : List ℕ) (before rest sum : ℕ) → Recalls all ls memory s

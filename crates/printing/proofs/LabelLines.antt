@@ -31,7 +31,8 @@ unfolding label_lines
 lines_end names labels i e = ap (λ (ls : List ℕ). label_lines (name_texts names) (map counts_of ls)) (ap (λ (n : ℕ). drop n labels) e ∙ drop-length labels)
 
 pub length-lines : (names labels : List ℕ) (i : ℕ) → i < length labels →
-    length (lines_from names labels i) ≡ length (printed_label (name_texts names) (counts_of (get_or labels i 0))) + 7 + length (lines_from names labels (i + 1))
+    length (lines_from names labels i) ≡ length (printed_label (name_texts names) (counts_of (get_or labels i 0))) + 7 + length
+    (lines_from names labels (i + 1))
 length-lines names labels i h =
     let value = printed_label (name_texts names) (counts_of (get_or labels i 0)) in
     let rest = lines_from names labels (i + 1) in

@@ -99,7 +99,8 @@ module _ (text : Text) (words : List Text) (rounds : ℕ) (labels : List Label) 
   no-refusal : (r : Refusal) → refusing r ≡ this → ⊥
   no-refusal r e = subst IsAnswer (sym e) tt
 
-  from-outcome : (d : Description) (o : Order) (x : Outcome) → read_text text ≡ read d o → Answers d o x → of_outcome d x ≡ this → Origin text words rounds labels
+  from-outcome : (d : Description) (o : Order) (x : Outcome) → read_text text ≡ read d o → Answers d o x → of_outcome d x ≡ this
+      → Origin text words rounds labels
   from-outcome d o too_large r a e = absurd (no-refusal large e)
   from-outcome d o (listed k ls) r a e =
       record {

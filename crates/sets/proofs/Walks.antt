@@ -78,7 +78,8 @@ module _ {step : ℕ → ℕ → List ℕ → Building} {at most : ℕ} {before 
         ≡⟨ ap (λ (ls : List ℕ). get_or ls i 0) x.going.held ⟩ get_or (laid at x.going.set before) i 0
         ≡⟨ get_d-laid at x.going.set before i (omega arith) (omega arith) ⟩ get_or before i 0 ∎
 
-    walk-going : Going at before now count (λ s. and_then (step_here (code label) s) rest) (each step_here (drop from (take end before)) (set_at at start before))
+    walk-going : Going at before now count (λ s. and_then (step_here (code label) s) rest)
+        (each step_here (drop from (take end before)) (set_at at start before))
     unfolding each
     walk-going = going-as _ x.going (λ s. rw (slice-cons i end before 0 l x.within.1, ← read-before, add-one i))
 

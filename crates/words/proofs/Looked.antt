@@ -58,7 +58,8 @@ module _ (names : List ℕ) (i w : ℕ) where
   unfolding name_number
   number-here h e = rw (rest-cons names i h, e, same_self (name_of 8 w), name_number) (omega arith)
 
-  pub number-later : i < length names → get_or names i 0 < 2 ^ 64 → w < 2 ^ 64 → (get_or names i 0 ≡ w → ⊥) → number_from names (i + 1) w ≡ number_from names i w
+  pub number-later : i < length names → get_or names i 0 < 2 ^ 64 → w < 2 ^ 64 → (get_or names i 0 ≡ w → ⊥)
+      → number_from names (i + 1) w ≡ number_from names i w
   unfolding name_number
   number-later h p q d = rw (rest-cons names i h, same_not (get_or names i 0) w p q d, name_number) (omega arith)
 

@@ -9,7 +9,8 @@ use Rattle.courses.proofs.course.Given as goal
 
 abbrev pub invariant-loop-n : goal.invariant-loop-n
 invariant-loop-n l =
-    Coursing l.slots l.lists l.end l.initial.sets l.initial.news (held l.initial.work) (held l.initial.log) (held l.initial.out) l.sets l.news (held l.work) (held l.log) (held l.out) l.to l.n
+    Coursing l.slots l.lists l.end l.initial.sets l.initial.news (held l.initial.work) (held l.initial.log) (held l.initial.out) l.sets l.news
+    (held l.work) (held l.log) (held l.out) l.to l.n
     × (length l.work ≡ length l.initial.work)
     × (length l.log ≡ length l.initial.log)
     × (length l.out ≡ length l.initial.out)

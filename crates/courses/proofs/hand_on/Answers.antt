@@ -35,8 +35,10 @@ pub loop-e-preserved : goal.loop-e-preserved
 loop-e-preserved c =
     let row = rw c.news_of.ensures at c.set_part.ensures in
     elim c.if-not-is_empty.branch [
-      | goal.then-not-is_empty w ↦ handing-some c.loop-e.invariant c.loop-e-test.true c.part_at-part.ensures row c.is_empty.ensures w.if-not-is_empty.true-raw w.some-is
-      | goal.else-not-is_empty w ↦ handing-none c.loop-e.invariant c.loop-e-test.true c.part_at-part.ensures row c.is_empty.ensures w.if-not-is_empty.false-raw w.some-is
+      | goal.then-not-is_empty w ↦ handing-some c.loop-e.invariant c.loop-e-test.true c.part_at-part.ensures row c.is_empty.ensures
+          w.if-not-is_empty.true-raw w.some-is
+      | goal.else-not-is_empty w ↦ handing-none c.loop-e.invariant c.loop-e-test.true c.part_at-part.ensures row c.is_empty.ensures
+          w.if-not-is_empty.false-raw w.some-is
     ]
 
 pub shape_of-news : goal.shape_of-news

@@ -49,5 +49,6 @@ returns c =
     let room : EndRoom a.line a.equations (length a.table.now) =
     room-told c.has_room.result c.if-not-has_room.false-raw c.has_room.ensures in
     given-roomy room
-    (end_read c.read_foot-foot.ensures c.in-To.is (omega (arith, room.0, room.1)) (rest-drop a.text.now c.in-To.at (foot-taken c.read_foot-foot.ensures c.in-To.is))
+    (end_read c.read_foot-foot.ensures c.in-To.is (omega (arith, room.0, room.1))
+    (rest-drop a.text.now c.in-To.at (foot-taken c.read_foot-foot.ensures c.in-To.is))
     c.names_of.ensures c.take_order.ensures)

@@ -33,7 +33,11 @@ pub bounds-text-end : goal.bounds-text-end
 bounds-text-end c = omega (arith, underway-room (named (goal.at.bounds-text-end c).After-slice_known-2-1))
 
 pub overflow_add-at : goal.overflow_add-at
-overflow_add-at c = omega (arith, underway-room (named (goal.at.overflow_add-at c).After-slice_known-2-1), underway-kept (named (goal.at.overflow_add-at c).After-slice_known-2-1))
+overflow_add-at c = omega (
+  arith,
+  underway-room (named (goal.at.overflow_add-at c).After-slice_known-2-1),
+  underway-kept (named (goal.at.overflow_add-at c).After-slice_known-2-1),
+)
 
 pub returns : goal.returns
 returns c =

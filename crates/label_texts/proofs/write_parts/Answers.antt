@@ -71,7 +71,11 @@ pub loop-i-preserved : goal.loop-i-preserved
 loop-i-preserved c = (rw (code_of c.behind-rest.ensures) (written (goal.at.loop-i-preserved c).After-slice_known-in-loop-i-1), omega arith)
 
 pub overflow_add-at : goal.overflow_add-at
-overflow_add-at c = omega (arith, underway-room (written (goal.at.overflow_add-at c).After-slice_known-in-loop-i-1), underway-kept (written (goal.at.overflow_add-at c).After-slice_known-in-loop-i-1))
+overflow_add-at c = omega (
+  arith,
+  underway-room (written (goal.at.overflow_add-at c).After-slice_known-in-loop-i-1),
+  underway-kept (written (goal.at.overflow_add-at c).After-slice_known-in-loop-i-1),
+)
 
 pub overflow_add-i : goal.overflow_add-i
 overflow_add-i c = omega arith

@@ -11,7 +11,8 @@ use Rattle.label_texts.proofs.write_parts.Given as goal
 
 abbrev pub invariant-loop-i : goal.invariant-loop-i
 invariant-loop-i l =
-    Underway (label_text (name_texts l.names) (counts_of (code l.initial.rest))) (to_come l.at (parts_from l.names l.i (code l.rest))) l.initial.text l.text l.at × (l.i ≤ 24)
+    Underway (label_text (name_texts l.names) (counts_of (code l.initial.rest))) (to_come l.at (parts_from l.names l.i (code l.rest))) l.initial.text
+    l.text l.at × (l.i ≤ 24)
 
 abbrev pub decreases-loop-i : goal.decreases-loop-i
 decreases-loop-i l = 24 - l.i

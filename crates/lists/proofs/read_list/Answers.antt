@@ -96,7 +96,8 @@ entered c =
 
 tallied : (c : After-counted-tally)
     → let kind = c.args.kind in
-    Tallied (λ e. weight_for kind) (λ e. e.from) (limit_for kind) (c.loop-entries.invariant.0 ++ (told (goal.at.After-counted-tally c).In-To ∷ [])) c.counted-tally.result
+    Tallied (λ e. weight_for kind) (λ e. e.from) (limit_for kind) (c.loop-entries.invariant.0 ++ (told (goal.at.After-counted-tally c).In-To ∷ []))
+    c.counted-tally.result
 tallied c =
     let kind = c.args.kind in
     let i = c.loop-entries.invariant in
@@ -142,7 +143,8 @@ shape_of-store-then-not-sign_at c = ap length (filled (goal.at.shape_of-store-th
 pub returns-then-not-sign_at : goal.returns-then-not-sign_at
 returns-then-not-sign_at c =
     let a = c.args in
-    let s = list-ends c.loop-entries.invariant.1 (went (goal.at.returns-then-not-sign_at c).In-To) (sym c.sign_at.ensures ∙ not-true _ c.if-not-sign_at.true-raw) in
+    let s = list-ends c.loop-entries.invariant.1 (went (goal.at.returns-then-not-sign_at c).In-To)
+    (sym c.sign_at.ensures ∙ not-true _ c.if-not-sign_at.true-raw) in
     let f = filled (goal.at.returns-then-not-sign_at c).After-put_entry in
     record {
       read =
@@ -162,7 +164,8 @@ loop-entries-preserved c =
     let sign = sym c.sign_at.ensures ∙ not-false _ c.if-not-sign_at.false-raw in
     let a = c.args in
     let next = l.from + c.in-To.bytes in
-    let longer = entry-longer (map (name_of 8) a.names.now) a.kind a.rest.now l.from next (went (goal.at.loop-entries-preserved c).In-To).says (omega arith) sign in
+    let longer = entry-longer (map (name_of 8) a.names.now) a.kind a.rest.now l.from next (went (goal.at.loop-entries-preserved c).In-To).says
+    (omega arith) sign in
     let p = list-goes-on i.1 (went (goal.at.loop-entries-preserved c).In-To) (omega arith) sign in (
       i.0 ++ (told (goal.at.loop-entries-preserved c).In-To ∷ []),
       p,

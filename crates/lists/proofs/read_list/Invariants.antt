@@ -20,7 +20,8 @@ abbrev pub invariant-loop-entries : goal.invariant-loop-entries
 invariant-loop-entries l =
     (es : List Said) × Progress comma (entry_of (map (name_of 8) l.names) l.kind) l.rest l.from es
     × Tallied (λ e. weight_for l.kind) (λ e. e.from) (limit_for l.kind) es l.tally
-    × Filled l.kind l.initial.store es l.entries l.index l.store × (2 * l.entries ≤ l.from) × (l.shape.size ≡ word_count l.kind) × (l.shape.weight ≡ weight_for l.kind)
+    × Filled l.kind l.initial.store es l.entries l.index l.store × (2 * l.entries ≤ l.from) × (l.shape.size ≡ word_count l.kind)
+    × (l.shape.weight ≡ weight_for l.kind)
     × (l.shape.limit ≡ limit_for l.kind) × Starting l.names l.starts
 
 abbrev pub decreases-loop-entries : goal.decreases-loop-entries

@@ -48,17 +48,22 @@ pub returns-then-place-before : goal.returns-then-place-before
 returns-then-place-before c =
     let a = c.args in
     fewer-rules (held a.memory.now) (held a.rules.now) a.entry a.before (code a.state.rest) (code a.state.sum)
-    (stands (goal.at.returns-then-place-before c).Else-labels_in-at) (same-label (goal.at.returns-then-place-before c).Else-labels_in-at) (rw (placed (goal.at.returns-then-place-before c).After-number_of-place) at c.if-place-before.true)
+    (stands (goal.at.returns-then-place-before c).Else-labels_in-at) (same-label (goal.at.returns-then-place-before c).Else-labels_in-at)
+    (rw (placed (goal.at.returns-then-place-before c).After-number_of-place) at c.if-place-before.true)
 
 pub returns-then-place-before-ne0 : goal.returns-then-place-before-ne0
 returns-then-place-before-ne0 c =
     let a = c.args in
     between-rules (held a.memory.now) (held a.rules.now) a.entry a.before (code a.state.rest) (code a.state.sum)
-    (stands (goal.at.returns-then-place-before-ne0 c).Else-labels_in-at) (same-label (goal.at.returns-then-place-before-ne0 c).Else-labels_in-at) (rw (placed (goal.at.returns-then-place-before-ne0 c).After-number_of-place) at c.if-place-before.false) (rw (placed (goal.at.returns-then-place-before-ne0 c).After-number_of-place) at c.if-place-before-ne0.true)
+    (stands (goal.at.returns-then-place-before-ne0 c).Else-labels_in-at) (same-label (goal.at.returns-then-place-before-ne0 c).Else-labels_in-at)
+    (rw (placed (goal.at.returns-then-place-before-ne0 c).After-number_of-place) at c.if-place-before.false)
+    (rw (placed (goal.at.returns-then-place-before-ne0 c).After-number_of-place) at c.if-place-before-ne0.true)
 
 pub returns : goal.returns
 returns c =
     let a = c.args in
     c.covers.ensures ∙ ap (covers_in (exchanges_before (held a.rules.now) a.before) (code a.state.rest)) (code_of c.read_label-2.ensures)
     ∙ decided (held a.memory.now) (held a.rules.now) a.entry a.before (code a.state.rest) (code a.state.sum)
-    (stands (goal.at.returns c).Else-labels_in-at) (same-label (goal.at.returns c).Else-labels_in-at) (rw (placed (goal.at.returns c).After-number_of-place) at c.if-place-before.false) (rw (placed (goal.at.returns c).After-number_of-place) at c.if-place-before-ne0.false)
+    (stands (goal.at.returns c).Else-labels_in-at) (same-label (goal.at.returns c).Else-labels_in-at)
+    (rw (placed (goal.at.returns c).After-number_of-place) at c.if-place-before.false)
+    (rw (placed (goal.at.returns c).After-number_of-place) at c.if-place-before-ne0.false)

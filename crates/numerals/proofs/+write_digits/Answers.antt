@@ -28,4 +28,5 @@ overflow_add-result t c = omega (arith, length_last c.args.n (omega arith) (omeg
 pub returns : goal.returns
 returns t c =
     let n = c.args.n in
-    rw (decimal-last n (omega arith) (omega arith)) (written_byte (48 + n % 10) c.write_digits-at.ensures (omega (arith, length_last n (omega arith) (omega arith))))
+    rw (decimal-last n (omega arith) (omega arith)) (written_byte (48 + n % 10) c.write_digits-at.ensures
+    (omega (arith, length_last n (omega arith) (omega arith))))

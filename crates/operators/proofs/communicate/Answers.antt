@@ -34,7 +34,11 @@ slice_bounds-list-end c = omega (arith, few (goal.at.slice_bounds-list-end c).Af
 
 pub slice_bounds-close_each-end : goal.slice_bounds-close_each-end
 slice_bounds-close_each-end c =
-    omega (arith, few (goal.at.slice_bounds-close_each-end c).After-first_rules-first, length-take (2 * (length c.first_rules-first.result.now / 3 * 2)) c.rules_for-list.result)
+    omega (
+      arith,
+      few (goal.at.slice_bounds-close_each-end c).After-first_rules-first,
+      length-take (2 * (length c.first_rules-first.result.now / 3 * 2)) c.rules_for-list.result,
+    )
 
 pub close_each-closed-requires : goal.close_each-closed-requires
 close_each-closed-requires c = tt

@@ -46,7 +46,8 @@ returns-in_default c =
 
 pub overflow_add-next : goal.overflow_add-next
 overflow_add-next c =
-    let s = said-within c.args.text.now c.args.at c.requires.0 (listed (goal.at.overflow_add-next c).After-read_whole-list).read (sym (ap said_place c.in-To.is)) in
+    let s = said-within c.args.text.now c.args.at c.requires.0 (listed (goal.at.overflow_add-next c).After-read_whole-list).read
+    (sym (ap said_place c.in-To.is)) in
     omega arith
 
 pub returns-then-not-sign_at : goal.returns-then-not-sign_at

@@ -36,7 +36,12 @@ pub returns-then-room-size : goal.returns-then-room-size
 returns-then-room-size c =
     let a = c.args in
     let text = length (packed_answer a.names a.rounds (held a.labels.now)) in
-    sym (lt-leb text a.room (omega (arith, head-size (goal.at.returns-then-room-size c).After-write_answer_head-size, c.if-room-size.true, length-joined a.names a.rounds (held a.labels.now))))
+    sym (lt-leb text a.room (omega (
+      arith,
+      head-size (goal.at.returns-then-room-size c).After-write_answer_head-size,
+      c.if-room-size.true,
+      length-joined a.names a.rounds (held a.labels.now),
+    )))
 
 pub label_lines_fit-requires : goal.label_lines_fit-requires
 label_lines_fit-requires c = tt
@@ -44,4 +49,5 @@ label_lines_fit-requires c = tt
 pub returns : goal.returns
 returns c =
     let a = c.args in
-    answer-fits a.names a.rounds (held a.labels.now) a.room (head-size (goal.at.returns c).After-write_answer_head-size) c.if-room-size.false c.label_lines_fit.ensures
+    answer-fits a.names a.rounds (held a.labels.now) a.room (head-size (goal.at.returns c).After-write_answer_head-size) c.if-room-size.false
+    c.label_lines_fit.ensures

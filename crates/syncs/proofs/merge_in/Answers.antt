@@ -28,7 +28,8 @@ returns c =
     let left = sym c.is_multi.ensures in
     let other : multi_at slots t && multi_at slots u ≡ false =
     elim c.else-is_multi.branch [
-      | goal.else-is_multi-via-then-is_multi+else-is_multi-2 w ↦ ap₂ {C = Bool} ◌&&◌ (left ∙ w.if-is_multi.true) (sym w.is_multi-then-is_multi.ensures ∙ w.if-is_multi-2.false)
+      | goal.else-is_multi-via-then-is_multi+else-is_multi-2 w ↦ ap₂ {C = Bool} ◌&&◌ (left ∙ w.if-is_multi.true)
+          (sym w.is_multi-then-is_multi.ensures ∙ w.if-is_multi-2.false)
       | goal.else-is_multi-via-else-is_multi w ↦ ap (λ (b : Bool). b && multi_at slots u) (left ∙ w.if-is_multi.false)
     ] in
     c.pack.ensures ∙ rw (sym c.unpack.ensures ∙ c.in-Sync.is, other)

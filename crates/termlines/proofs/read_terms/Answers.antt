@@ -12,7 +12,8 @@ pub returns-then-count-gt-TERMS : goal.returns-then-count-gt-TERMS
 returns-then-count-gt-TERMS c = given-narrow (λ room. omega (arith, c.if-count-gt-TERMS.true, room.1)) (terms-refused c.first_flaw-then-count-gt-TERMS.ensures)
 
 pub returns-then-table-lt-TABLE_WORDS : goal.returns-then-table-lt-TABLE_WORDS
-returns-then-table-lt-TABLE_WORDS c = given-narrow (λ room. omega (arith, c.if-table-lt-TABLE_WORDS.true, room.2)) (terms-refused c.first_flaw-then-table-lt-TABLE_WORDS.ensures)
+returns-then-table-lt-TABLE_WORDS c = given-narrow (λ room. omega (arith, c.if-table-lt-TABLE_WORDS.true, room.2))
+    (terms-refused c.first_flaw-then-table-lt-TABLE_WORDS.ensures)
 
 pub returns-then-lists-count : goal.returns-then-lists-count
 returns-then-lists-count c = given-narrow (λ room. omega (arith, c.if-lists-count.true, room.3)) (terms-refused c.first_flaw-then-lists-count.ensures)

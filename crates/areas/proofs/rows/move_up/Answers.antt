@@ -34,6 +34,7 @@ returns-else-from-to c =
     let a = c.args in
     let ws = a.words.now in
     elim c.else-from-to.branch [
-      | goal.else-from-to-via-then-from-to+else-to-words w ↦ moved_up-past a.from a.to (held ws) (omega (arith, length-held ws, ltb-false a.to (length ws / 2) w.if-to-words.false-raw))
+      | goal.else-from-to-via-then-from-to+else-to-words w ↦ moved_up-past a.from a.to (held ws)
+          (omega (arith, length-held ws, ltb-false a.to (length ws / 2) w.if-to-words.false-raw))
       | goal.else-from-to-via-else-from-to w ↦ moved_up-none a.from a.to (held ws) w.if-from-to.false
     ]

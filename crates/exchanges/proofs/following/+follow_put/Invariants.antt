@@ -15,7 +15,8 @@ decreases-put l = 2 * code l.state.rest + 1
 
 abbrev pub invariant-follow-loop-i : goal.invariant-follow-loop-i
 invariant-follow-loop-i l =
-    Following l.len (code l.state.rest) (code l.state.sum) (held l.operand) (held l.rules) (held l.initial.out) l.before (held l.states) (held l.out) l.count l.i
+    Following l.len (code l.state.rest) (code l.state.sum) (held l.operand) (held l.rules) (held l.initial.out) l.before (held l.states) (held l.out)
+    l.count l.i
     × (length l.states ≡ length l.initial.states) × (length l.out ≡ length l.initial.out)
 
 abbrev pub decreases-follow-loop-i : goal.decreases-follow-loop-i

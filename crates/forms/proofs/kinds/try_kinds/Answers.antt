@@ -55,10 +55,12 @@ returns-in-To c =
 missed : (c : After-stuck_at)
     → let a = c.args in
     let p = a.at + c.stuck_at.result in
-    Stands a.text.now p (stuck (drop p a.text.now)) (literal (name_of 8 (get_or packed_kinds (looked (goal.at.After-stuck_at c).In-loop-k) 0)) (drop a.at a.text.now))
+    Stands a.text.now p (stuck (drop p a.text.now)) (literal (name_of 8 (get_or packed_kinds (looked (goal.at.After-stuck_at c).In-loop-k) 0))
+    (drop a.at a.text.now))
 missed c =
     let a = c.args in
-    stays_on (literal (name_of 8 (get_or packed_kinds (looked (goal.at.After-stuck_at c).In-loop-k) 0))) a.text.now a.at c.requires c.read_packed-word.ensures.steps
+    stays_on (literal (name_of 8 (get_or packed_kinds (looked (goal.at.After-stuck_at c).In-loop-k) 0))) a.text.now a.at c.requires
+    c.read_packed-word.ensures.steps
     (stuck_there c.in_default.is c.stuck_at.ensures)
 
 pub overflow_add-at : goal.overflow_add-at

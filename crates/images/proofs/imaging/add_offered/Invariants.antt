@@ -10,7 +10,8 @@ use Rattle.images.proofs.imaging.add_offered.Given as goal
 
 abbrev pub invariant-loop-i : goal.invariant-loop-i
 invariant-loop-i l =
-    RowWalk (λ room. offered room l.way (taken_by l.way l.list)) (held l.labels) l.len (held l.initial.out) l.end (held l.out) l.count l.i × (length l.out ≡ length l.initial.out)
+    RowWalk (λ room. offered room l.way (taken_by l.way l.list)) (held l.labels) l.len (held l.initial.out) l.end (held l.out) l.count l.i
+    × (length l.out ≡ length l.initial.out)
 
 abbrev pub decreases-loop-i : goal.decreases-loop-i
 decreases-loop-i l = l.end - l.i

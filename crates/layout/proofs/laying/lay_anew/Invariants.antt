@@ -9,7 +9,8 @@ use Rattle.layout.proofs.laying.lay_anew.Given as goal
 
 abbrev pub invariant-loop-t : goal.invariant-loop-t
 invariant-loop-t l =
-    Anew l.terms l.n l.total l.more l.initial.sets (held l.initial.work) l.half l.gap l.start l.end l.t l.sets (held l.work) l.at × (length l.work ≡ length l.initial.work)
+    Anew l.terms l.n l.total l.more l.initial.sets (held l.initial.work) l.half l.gap l.start l.end l.t l.sets (held l.work) l.at
+    × (length l.work ≡ length l.initial.work)
 
 abbrev pub decreases-loop-t : goal.decreases-loop-t
 decreases-loop-t l = l.terms - l.t

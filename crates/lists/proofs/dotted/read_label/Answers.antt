@@ -83,13 +83,16 @@ tallied c =
 pub added-label-requires : goal.added-label-requires
 added-label-requires c =
     let l = c.loop-said in
-    room_for (whole c) l.invariant.0 (told (goal.at.added-label-requires c).In-To) l.invariant.3 (known (goal.at.added-label-requires c).In-To) (code l.label) l.invariant.4 (tallied c).faults
+    room_for (whole c) l.invariant.0 (told (goal.at.added-label-requires c).In-To) l.invariant.3 (known (goal.at.added-label-requires c).In-To)
+    (code l.label) l.invariant.4 (tallied c).faults
 
 summed : (c : After-added-label)
-    → code c.added-label.result ≡ parts_number (whole (goal.at.After-added-label c).After-counted-tally) (c.loop-said.invariant.0 ++ (told (goal.at.After-added-label c).In-To ∷ []))
+    → code c.added-label.result ≡ parts_number (whole (goal.at.After-added-label c).After-counted-tally)
+    (c.loop-said.invariant.0 ++ (told (goal.at.After-added-label c).In-To ∷ []))
 summed c =
     let l = c.loop-said in
-    sum_more (whole (goal.at.After-added-label c).After-counted-tally) l.invariant.0 (told (goal.at.After-added-label c).In-To) l.invariant.3 (known (goal.at.After-added-label c).In-To) (code l.label) l.invariant.4
+    sum_more (whole (goal.at.After-added-label c).After-counted-tally) l.invariant.0 (told (goal.at.After-added-label c).In-To) l.invariant.3
+    (known (goal.at.After-added-label c).In-To) (code l.label) l.invariant.4
     (tallied (goal.at.After-added-label c).After-counted-tally).faults (code_of c.added-label.ensures)
 
 pub returns-then-not-sign_at : goal.returns-then-not-sign_at
@@ -102,7 +105,8 @@ returns-then-not-sign_at c =
           (otherwise
           (ended-with (parts_entry (length a.rest.now))
           (list-ends l.invariant.1 (went (goal.at.returns-then-not-sign_at c).In-To) (sym c.sign_at.ensures ∙ not-true _ c.if-not-sign_at.true-raw)))
-          (said_same (tallied (goal.at.returns-then-not-sign_at c).After-counted-tally).faults (summed (goal.at.returns-then-not-sign_at c).After-added-label) (tallied (goal.at.returns-then-not-sign_at c).After-counted-tally).totals));
+          (said_same (tallied (goal.at.returns-then-not-sign_at c).After-counted-tally).faults
+          (summed (goal.at.returns-then-not-sign_at c).After-added-label) (tallied (goal.at.returns-then-not-sign_at c).After-counted-tally).totals));
     }
 
 pub loop-said-preserved : goal.loop-said-preserved

@@ -55,7 +55,8 @@ returns-in_default-right c =
           (become (right-seen _ (said_of _ c.in-To.l) _)
           (past-sign greater a.rest.now c.in-To.after _ (sym c.sign_at.ensures ∙ not-false _ c.if-not-sign_at.false-raw)
           (stops _
-          (said-stays-on (seen (name_entry (map (name_of 8) a.names.now)) (placed word)) a.rest.now (c.in-To.after + 1) (passed (goal.at.returns-in_default-right c).Else-not-sign_at)
+          (said-stays-on (seen (name_entry (map (name_of 8) a.names.now)) (placed word)) a.rest.now (c.in-To.after + 1)
+          (passed (goal.at.returns-in_default-right c).Else-not-sign_at)
           c.name_from-right.ensures
           (said-stuck-there c.in_default-right.is c.said_stuck_at.ensures)))));
     }

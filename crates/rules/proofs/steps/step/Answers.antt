@@ -60,14 +60,16 @@ returns-then-labels_in-i c =
 
 pub returns-then-contains : goal.returns-then-contains
 returns-then-contains c =
-    by_itself _ (sym c.if-applies.true ∙ fits (goal.at.returns-then-contains c).After-applies) (sym c.if-contains.true ∙ known (goal.at.returns-then-contains c).After-contains)
+    by_itself _ (sym c.if-applies.true ∙ fits (goal.at.returns-then-contains c).After-applies)
+    (sym c.if-contains.true ∙ known (goal.at.returns-then-contains c).After-contains)
 
 pub returns-else-contains : goal.returns-else-contains
 returns-else-contains c =
     let w = code c.args.state.rest in
     let rest = c.difference-rest.ensures ∙ ap (λ x. packed (w - x)) (code_of c.read_label-left.ensures) in
     ap₂ (λ x y. To (record { rest = x; sum = y })) rest (made (goal.at.returns-else-contains c).After-contains)
-    ∙ leads-on _ (sym c.if-applies.true ∙ fits (goal.at.returns-else-contains c).After-applies) (sym c.if-contains.false ∙ known (goal.at.returns-else-contains c).After-contains)
+    ∙ leads-on _ (sym c.if-applies.true ∙ fits (goal.at.returns-else-contains c).After-applies)
+    (sym c.if-contains.false ∙ known (goal.at.returns-else-contains c).After-contains)
 
 pub returns-else-applies : goal.returns-else-applies
 returns-else-applies c = not-applied _ _ (sym c.if-applies.false ∙ fits (goal.at.returns-else-applies c).After-applies)

@@ -51,12 +51,14 @@ overflow_add-at c = omega (arith, length-held c.args.words.now)
 
 pub returns-then-not-below : goal.returns-then-not-below
 returns-then-not-below c =
-    climbing-stops c.loop-i.invariant (code c.read_label-next.result) (inner (goal.at.returns-then-not-below c).In-loop-i) (read (goal.at.returns-then-not-below c).After-read_label-next)
+    climbing-stops c.loop-i.invariant (code c.read_label-next.result) (inner (goal.at.returns-then-not-below c).In-loop-i)
+    (read (goal.at.returns-then-not-below c).After-read_label-next)
     (sym (not-true _ c.if-not-below.true-raw) ∙ c.below.ensures)
 
 pub loop-i-preserved : goal.loop-i-preserved
 loop-i-preserved c =
-    climbing-on c.loop-i.invariant (code c.read_label-next.result) (inner (goal.at.loop-i-preserved c).In-loop-i) (read (goal.at.loop-i-preserved c).After-read_label-next)
+    climbing-on c.loop-i.invariant (code c.read_label-next.result) (inner (goal.at.loop-i-preserved c).In-loop-i)
+    (read (goal.at.loop-i-preserved c).After-read_label-next)
     (sym (not-false _ c.if-not-below.false-raw) ∙ c.below.ensures)
 
 pub returns : goal.returns

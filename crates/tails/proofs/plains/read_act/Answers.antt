@@ -43,7 +43,8 @@ missed : (c : After-said_stuck_at)
     Stands a.rest.now p (stuck (drop p a.rest.now)) (seen (name_entry (map (name_of 8) a.names.now)) (placed word) (drop 1 a.rest.now))
 missed c =
     let a = c.args in
-    said-stays-on (seen (name_entry (map (name_of 8) a.names.now)) (placed word)) a.rest.now 1 (passed (goal.at.After-said_stuck_at c).Else-not-sign_at) c.read_name-name.ensures
+    said-stays-on (seen (name_entry (map (name_of 8) a.names.now)) (placed word)) a.rest.now 1
+    (passed (goal.at.After-said_stuck_at c).Else-not-sign_at) c.read_name-name.ensures
     (said-stuck-there c.in_default.is c.said_stuck_at.ensures)
 
 named : (c : In-To)
@@ -53,7 +54,8 @@ named : (c : In-To)
     (seen (name_entry (map (name_of 8) a.names.now)) (placed word) (drop 1 a.rest.now))
 named c =
     let a = c.args in
-    said-went-on (seen (name_entry (map (name_of 8) a.names.now)) (placed word)) a.rest.now 1 (passed (goal.at.In-To c).Else-not-sign_at) c.read_name-name.ensures
+    said-went-on (seen (name_entry (map (name_of 8) a.names.now)) (placed word)) a.rest.now 1 (passed (goal.at.In-To c).Else-not-sign_at)
+    c.read_name-name.ensures
     c.in-To.is
 
 pub overflow_add-result : goal.overflow_add-result
@@ -70,7 +72,8 @@ overflow_add-next c = let s = (named c).within in omega arith
 pub returns-then-not-sign_at-2 : goal.returns-then-not-sign_at-2
 returns-then-not-sign_at-2 c bounds store =
     let a = c.args in
-    act-no-end (map (name_of 8) a.names.now) a.rest.now (spaced (goal.at.returns-then-not-sign_at-2 c).Else-not-sign_at) c.in-To.said (named (goal.at.returns-then-not-sign_at-2 c).In-To)
+    act-no-end (map (name_of 8) a.names.now) a.rest.now (spaced (goal.at.returns-then-not-sign_at-2 c).Else-not-sign_at) c.in-To.said
+    (named (goal.at.returns-then-not-sign_at-2 c).In-To)
     (sym c.sign_at-2.ensures ∙ not-true _ c.if-not-sign_at-2.true-raw)
 
 pub returns : goal.returns

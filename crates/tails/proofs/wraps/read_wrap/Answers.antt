@@ -68,7 +68,8 @@ listed c =
 pub overflow_add-result : goal.overflow_add-result
 overflow_add-result c =
     let s =
-    said-within c.args.rest.now (c.in-To.after + 1) (passed (goal.at.overflow_add-result c).Else-not-sign_at) (listed (goal.at.overflow_add-result c).After-read_whole-list).read
+    said-within c.args.rest.now (c.in-To.after + 1) (passed (goal.at.overflow_add-result c).Else-not-sign_at)
+    (listed (goal.at.overflow_add-result c).After-read_whole-list).read
     c.said_stuck_at.ensures in
     omega (arith, c.well_formed.1.0)
 
@@ -76,13 +77,15 @@ pub returns-in_default-list : goal.returns-in_default-list
 returns-in_default-list c =
     let a = c.args in
     no-list (wrap_of a.k) (map (name_of 8) a.names.now) a.rest.now (steps-to c.number_after-operand.ensures c.in-To.is)
-    (sym c.sign_at.ensures ∙ not-false _ c.if-not-sign_at.false-raw) c.list_kind-kind.ensures (passed (goal.at.returns-in_default-list c).Else-not-sign_at) (listed (goal.at.returns-in_default-list c).After-read_whole-list)
+    (sym c.sign_at.ensures ∙ not-false _ c.if-not-sign_at.false-raw) c.list_kind-kind.ensures
+    (passed (goal.at.returns-in_default-list c).Else-not-sign_at) (listed (goal.at.returns-in_default-list c).After-read_whole-list)
     (said-stuck-there c.in_default-list.is c.said_stuck_at.ensures)
 
 pub overflow_add-next : goal.overflow_add-next
 overflow_add-next c =
     let s =
-    said-within c.args.rest.now (c.in-To.after + 1) (passed (goal.at.overflow_add-next c).Else-not-sign_at) (listed (goal.at.overflow_add-next c).After-read_whole-list).read
+    said-within c.args.rest.now (c.in-To.after + 1) (passed (goal.at.overflow_add-next c).Else-not-sign_at)
+    (listed (goal.at.overflow_add-next c).After-read_whole-list).read
     (sym (ap said_place c.in-To-list.is)) in
     omega (arith, c.well_formed.1.0)
 
@@ -90,7 +93,8 @@ pub returns-then-not-sign_at-2 : goal.returns-then-not-sign_at-2
 returns-then-not-sign_at-2 c =
     let a = c.args in
     no_end (wrap_of a.k) (map (name_of 8) a.names.now) a.rest.now (steps-to c.number_after-operand.ensures c.in-To.is)
-    (sym c.sign_at.ensures ∙ not-false _ c.if-not-sign_at.false-raw) c.list_kind-kind.ensures (passed (goal.at.returns-then-not-sign_at-2 c).Else-not-sign_at) (listed (goal.at.returns-then-not-sign_at-2 c).After-read_whole-list)
+    (sym c.sign_at.ensures ∙ not-false _ c.if-not-sign_at.false-raw) c.list_kind-kind.ensures
+    (passed (goal.at.returns-then-not-sign_at-2 c).Else-not-sign_at) (listed (goal.at.returns-then-not-sign_at-2 c).After-read_whole-list)
     c.in-To-list.is (sym c.sign_at-2.ensures ∙ not-true _ c.if-not-sign_at-2.true-raw)
 
 -- the LF lies in the text
@@ -106,7 +110,8 @@ returns c =
     let operandFault = number_fault a.bounds.term c.in-To.t in
     rw c.wrapped.ensures
     (wrap-line (wrap_of a.k) (map (name_of 8) a.names.now) a.rest.now (steps-to c.number_after-operand.ensures c.in-To.is)
-    (sym c.sign_at.ensures ∙ not-false _ c.if-not-sign_at.false-raw) c.list_kind-kind.ensures (passed (goal.at.returns c).Else-not-sign_at) (listed (goal.at.returns c).After-read_whole-list)
+    (sym c.sign_at.ensures ∙ not-false _ c.if-not-sign_at.false-raw) c.list_kind-kind.ensures (passed (goal.at.returns c).Else-not-sign_at)
+    (listed (goal.at.returns c).After-read_whole-list)
     c.in-To-list.is a.bounds (omega (arith, c.well_formed.1.0)) (sym c.sign_at-2.ensures ∙ not-false _ c.if-not-sign_at-2.false-raw)
     (operator-wrapped a.k (record { at = a.bounds.term; entries = code c.in-To-list.said.first % 2 ^ 64 }))
     (c.joined-fault.ensures ∙ ap (λ p. worse (found_of c.in-To-list.said.fault) (operandFault p)) c.left_at.ensures))
