@@ -13,7 +13,7 @@ pub mod Filling
 -- moved_from, moved-none, moved-step: words that move two places up; moved_up-within, moved_up-past, moved_up-none, held-moved, set-before: the
 -- labels that they hold, which move one place up
 pub mod Moves
--- label_numbers, pair_words, rule_labels; pairsIn-pairWords: how the lists of operators stand in words
+-- label_numbers, pair_words, rule_labels; pairs_in-pair_words: how the lists of operators stand in words
 pub mod Entries
 -- held-unique: the labels that a row holds are settled
 pub mod Uniqueness

@@ -3,5 +3,5 @@
 pub mod Farthest
 -- Plan, description: the lines that are due, one after the other; Wrong: the line that has no right form, and its column
 pub mod Plans
--- term_faults, orderFaults: all faults of a line of right form; Decides: the smallest number, then its leftmost place
+-- term_faults, order_faults: all faults of a line of right form; Decides: the smallest number, then its leftmost place
 pub mod Leftmost

@@ -1,5 +1,5 @@
 -- The computed cases, then the theorems; each file after those that it cites.
--- computed, part_texts-zero, partTexts-some: labels as they are written, name by name
+-- computed, part_texts-zero, part_texts-some: labels as they are written, name by name
 pub mod Marks
 -- cases, column-cases: the listing of README.md and texts for each refusal number and for columns, read
 pub mod Texts

@@ -1,7 +1,7 @@
 -- The laws that the proofs of this crate's functions cite, and those of whoever reads on; each file after those that it cites.
 -- item-last, place-fits: a key, an item and the LF
 pub mod Ends
--- gone-to, gone-within, gone-bad, gone-before, gone-below, line-bad, numberTo-bad: what a step over a line says, by its case
+-- gone-to, gone-within, gone-bad, gone-before, gone-below, line-bad, number_to-bad: what a step over a line says, by its case
 pub mod Walks
 -- lines-start, lines-step, lines-halt, lines-end: lines that are read alike
 pub mod Sequences
@@ -11,7 +11,7 @@ pub mod LineFaults
 pub mod NumberLines
 -- name-stuck, name-held, name-free: what `take_name` gives, by the line's form and its name
 pub mod NameLines
--- name_number-three, is_free-held, isFree-new: a name is free if it is none of the earlier ones and none of three words
+-- name_number-three, is_free-held, is_free-new: a name is free if it is none of the earlier ones and none of three words
 pub mod Freedom
 -- walk-unique, number-unique, name-unique: any two results that meet a promise are equal
 pub mod Uniqueness

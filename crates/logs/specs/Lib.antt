@@ -1,3 +1,3 @@
 -- What is written to the log.
--- lessOf: the labels that are new; space_for, Logs: as many as there is room for
+-- less_of: the labels that are new; space_for, Logs: as many as there is room for
 pub mod Logs

@@ -37,9 +37,9 @@ pub mod Stability
 pub mod Least
 -- bound-loses-nothing, image-acts, acts-image, length-image: what operators make of labels in sets is what they do on runs
 pub mod Operators
--- comm-fed_back, fedBack-more: a rule for `comm` in which results take part again gives every label of `comm`, and more
+-- comm-fed_back, fed_back-more: a rule for `comm` in which results take part again gives every label of `comm`, and more
 pub mod FedBack
--- onRun→inSet: every label on any finite run is in the root's set
+-- on_run→in_set: every label on any finite run is in the root's set
 pub mod Soundness
 -- exact-tested: the computed test of the exact kinds is the definition
 pub mod ExactKinds

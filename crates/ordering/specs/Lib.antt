@@ -1,5 +1,5 @@
 -- The order in which the rules of comm are followed.
--- manyChoices: whether it matters; sharing, keyFor: the key of a rule; sorted: a list by keys; ordered_rules, rules_for, listFor: the rules in order
+-- many_choices: whether it matters; sharing, key_for: the key of a rule; sorted: a list by keys; ordered_rules, rules_for, list_for: the rules in order
 pub mod Ordering
--- card_at, orderedCards: keys with places
+-- card_at, ordered_cards: keys with places
 pub mod Cards

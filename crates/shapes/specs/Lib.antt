@@ -1,3 +1,3 @@
 -- The shapes of terms: what their sets are built of.
--- shapeFor: the shape of a term
+-- shape_for: the shape of a term
 pub mod Shaping

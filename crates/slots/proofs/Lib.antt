@@ -1,4 +1,4 @@
 -- The laws of packed terms.
 
--- wordTerm-small: what comes out of the word of a kind and its numbers
+-- word_term-small: what comes out of the word of a kind and its numbers
 pub mod PackedKinds

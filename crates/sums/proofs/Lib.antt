@@ -1,5 +1,5 @@
 -- The laws of the sums of two rows.
--- steady-sum_in, steady-row_of, steady-sumsOf: no step shortens a set or takes it past the room; sums-outcome: on the numbers of labels
+-- steady-sum_in, steady-row_of, steady-sums_of: no step shortens a set or takes it past the room; sums-outcome: on the numbers of labels
 -- they are the product, or pass a limit
 pub mod SumLaws
 -- kept-nowhere, kept-none: tables that keep nothing; passed-over, grown-stops, now-kept: a label that is kept, one that finds no

@@ -10,5 +10,5 @@ pub mod Fillings
 pub mod PackedTerms
 -- names-held, bodies-held, slots-held, slot-of, term-of, body-of: what stands where in a table that holds a description
 pub mod Holdings
--- decoded: a table and lists that hold a legal description stand for it; list-stored, length-ruleWords: a term's list
+-- decoded: a table and lists that hold a legal description stand for it; list-stored, length-rule_words: a term's list
 pub mod TableTerms
