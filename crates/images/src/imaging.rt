@@ -24,23 +24,11 @@ fn made(way: Way, list: &[u64], map: &[u64; NAMES], label: Label) -> Option<Labe
 {
     match way {
         Way::Copy => Some(label),
-        Way::Block => {
-            if clear(label, list) {
-                Some(label)
-            } else {
-                None
-            }
-        }
+        Way::Block => clear(label, list).then_some(label),
         Way::Hide => Some(hide(label, list)),
         Way::Rename => Some(rename(label, *map)),
         Way::Comm => Some(label),
-        Way::Allow => {
-            if allowed(list, label) {
-                Some(label)
-            } else {
-                None
-            }
-        }
+        Way::Allow => allowed(list, label).then_some(label),
     }
 }
 
