@@ -1,6 +1,6 @@
 -- The laws of lent areas of words.
 
--- zeroed-set, zeroed-all, length-zeroed, zeroed-front: words set to 0 one after the other
+-- length-zeroed, zeroed-front, zeroed-reached: words set to 0
 pub mod Zeroes
 -- length-held, held-none, held-take, held-drop, held-zeros, held-append, held-in_words, length-in_words, held-long, held-get, held-set:
 -- words and the labels that they hold
@@ -10,8 +10,8 @@ pub mod Lent
 -- put-step, Filling, filling-start, filling-step, filling-two, filling-end: words put at the start of an area one after the other;
 -- FillingLabels, labels-start, labels-step, labels-end: labels put there, two words each
 pub mod Filling
--- moved_from, moved-none, moved-step: words that move two places up; moved_up-within, moved_up-past, moved_up-none, held-moved, set-before: the
--- labels that they hold, which move one place up
+-- moved_up-within, moved_up-past, moved_up-none, held_copied, set_before: labels that move one place up, as their words are copied two places
+-- up
 pub mod Moves
 -- label_numbers, pair_words, rule_labels; pairs_in-pair_words: how the lists of operators stand in words
 pub mod Entries

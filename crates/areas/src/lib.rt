@@ -10,19 +10,13 @@ ghost use Rattle.areas.specs.Areas.{zeroed};
 pub fn word_at(words: &[u64], i: usize) -> u64
     ensures { result ≡ get_or words.now i 0 }
 {
-    if i < words.len() { words[i] } else { 0 }
+    words.get(i).copied().unwrap_or(0)
 }
 
 // The first so many words of an area are set to 0, as far as it reaches.
 pub fn clear(area: &mut [u64], count: usize)
     ensures { area.new ≡ zeroed count area.old }
 {
-    let mut i = 0;
-    while i < count {
-        if area.len() <= i {
-            return;
-        }
-        area[i] = 0;
-        i += 1;
-    }
+    let end = count.min(area.len());
+    area[..end].fill(0);
 }

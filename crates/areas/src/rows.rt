@@ -4,6 +4,7 @@ ghost use Rattle.std.specs.Prelude.{◌≡◌, ◌-◌, ◌≤◌, eqb, ◌++◌
 ghost use Rattle.labels.specs.Packing.{code, packed};
 ghost use Rattle.areas.specs.Rows.{held, moved_up};
 
+use labels::packing::same;
 use labels::{LABEL_WORDS, Label, WORD_END};
 
 // How many labels the words hold.
@@ -32,8 +33,7 @@ pub fn read_label(words: &[u64], i: usize) -> Label
 pub fn label_is(words: &[u64], i: usize, label: Label) -> bool
     ensures { result ≡ eqb (get_or (held words.now) i 0) (code label) }
 {
-    let there = read_label(words, i);
-    there.lower == label.lower % WORD_END && there.upper == label.upper
+    same(read_label(words, i), label)
 }
 
 // The i-th label is written; past the end nothing is.
@@ -47,24 +47,13 @@ pub fn write_label(words: &mut [u64], i: usize, label: Label)
     }
 }
 
-// All words move two places up, over the last two. The loop ends at the start of the slice, so that the compiler makes one move of it.
-fn shift_up(words: &mut [u64])
-    requires { 2 ≤ length words.old }
-    ensures { words.new ≡ take 2 words.old ++ take (length words.old - 2) words.old }
-{
-    let mut i = words.len() - LABEL_WORDS;
-    while 0 < i {
-        i -= 1;
-        words[i + LABEL_WORDS] = words[i];
-    }
-}
-
 // The labels from one place up to another move one place up, over the label at the second, if that is a place of the slice.
 pub fn move_up(words: &mut [u64], from: usize, to: usize)
     ensures { held words.new ≡ moved_up from to (held words.old) }
 {
     if from < to && to < words.len() / LABEL_WORDS {
-        let end = LABEL_WORDS * to + LABEL_WORDS;
-        shift_up(&mut words[LABEL_WORDS * from..end]);
+        let at = LABEL_WORDS * from;
+        let end = LABEL_WORDS * to;
+        words.copy_within(at..end, at + LABEL_WORDS);
     }
 }

@@ -2,7 +2,7 @@
 -- Assumes nothing.
 use mathlib.Core.Path.{◌≡◌, refl, sym, ap, ap₂, subst, ◌∙◌}
 use mathlib.Core.Bool.{true, false}
-use mathlib.Core.List.{List, [], ◌∷◌, ◌++◌}
+use mathlib.Core.List.{List, [], ◌∷◌, ◌++◌, append_assoc, append-nil}
 use Prim.Native.Nat.{ℕ, zero, suc, ◌+◌, ◌-◌, ◌/◌, ◌%◌, ◌^◌, ◌≤◌, ◌<◌}
 use native.Mathlib.Nat.{le_refl, mod-mod, add-mod, zero-add, add-zero}
 use native.Mathlib.Numerals.{add-one}
@@ -11,6 +11,7 @@ use borrow.Author.Tests.{eq-eqb, ne_eqb}
 use lib.Dec.{eqb}
 use lib.ListN.{length, get_or, set, drop, drop_of_length-le}
 use lib.Seq.{drop-cons, set_out}
+use Rattle.std.proofs.lemmas.List.{nil_from_length}
 use Rattle.meaning.specs.Labels.{Label, count, number, label_of, several, clear, without, renamed_from}
 use Rattle.meaning.specs.Descriptions.{Pair}
 use Rattle.meaning.specs.Rounds.{pick, target}
@@ -25,55 +26,62 @@ use Rattle.labels.proofs.Codes.{code_of, packed-code}
 use Rattle.labels.proofs.Words.{number-bag, number-empty}
 use Rattle.names.proofs.Counts.{label_of-code, bag-cleared, number-less}
 
--- The list from the place before a given one.
-from-before : (l : List ℕ) (i n : ℕ) → 0 < i → i ≤ length l → n ≡ get_or l (i - 1) 0 → drop (i - 1) l ≡ n ∷ drop i l
-from-before l i n p h e =
-    let s : suc (i - 1) ≡ i = omega arith in
-    drop-cons l (i - 1) 0 (omega arith) ∙ ap₂ {C = List ℕ} ◌∷◌ (sym e) (ap (λ (k : ℕ). drop k l) s)
+-- Two names hidden in either order.
+hidden_twice : (a : Label) (n m : ℕ) → set (set a n 0) m 0 ≡ set (set a m 0) n 0
+hidden_twice [] n m = refl
+hidden_twice (x ∷ a) zero zero = refl
+hidden_twice (x ∷ a) zero (suc m) = refl
+hidden_twice (x ∷ a) (suc n) zero = refl
+hidden_twice (x ∷ a) (suc n) (suc m) = ap (λ (b : Label). x ∷ b) (hidden_twice a n m)
 
--- A label of number w without the names from the i-th of the list on.
+hidden_first : (names : List ℕ) (a : Label) (n : ℕ) → without names (set a n 0) ≡ set (without names a) n 0
+unfolding without
+hidden_first [] a n = refl
+hidden_first (m ∷ names) a n = ap (λ (b : Label). set b m 0) (hidden_first names a n) ∙ hidden_twice (without names a) n m
+
+-- A label of number w without the names before the i-th of the list: without the others too it is w's without all.
 pub record Hidden (names : List ℕ) (w i : ℕ) (left : packing.Label) : Type 0 where
-  pub within : i ≤ length names
   pub fits : code left < 2 ^ 124
   pub packs : left ≡ packed (code left)
-  pub hidden : bag (code left) ≡ without (drop i names) (bag w)
+  pub hidden : without (drop i names) (bag (code left)) ≡ without names (bag w)
 
-pub hidden-start : (names : List ℕ) (left : packing.Label) → left.lower < 2 ^ 60 → left.upper < 2 ^ 64 → Hidden names (code left) (length names) left
-unfolding without code
-hidden-start names left h k = record {
-  within = le_refl (length names);
-  fits = omega arith;
-  packs = sym (packed-code left h);
-  hidden = rw (drop_of_length-le names (le_refl (length names)));
-}
+pub hidden-start : (names : List ℕ) (left : packing.Label) → left.lower < 2 ^ 60 → left.upper < 2 ^ 64 → Hidden names (code left) 0 left
+unfolding code
+hidden-start names left h k = record { fits = omega arith; packs = sym (packed-code left h); hidden = refl }
 
-pub hidden-step : {names : List ℕ} {w i n : ℕ} {left next : packing.Label} → Hidden names w i left → 0 < i → n ≡ get_or names (i - 1) 0
-    → next ≡ packed (number (without (n ∷ []) (bag (code left)))) → Hidden names w (i - 1) next
+pub hidden-step : {names : List ℕ} {w i : ℕ} {left next : packing.Label} → Hidden names w i left → i < length names
+    → next ≡ packed (number (without (get_or names i 0 ∷ []) (bag (code left)))) → Hidden names w (i + 1) next
 unfolding without
-hidden-step {names} {w} {i} {n} {left} {next} x p e r = record {
-  within = let h = x.within in omega arith;
-  fits = let h = number-less (bag (code left)) n in let k = number-bag (code left) x.fits in let l = x.fits in omega (arith, code_of r);
-  packs = r ∙ ap packed (sym (code_of r));
-  hidden = ap bag (code_of r) ∙ bag-cleared (code left) n ∙ ap (λ (a : Label). set a n 0) x.hidden
-      ∙ sym (ap (λ (l : List ℕ). without l (bag w)) (from-before names i n p x.within e));
-}
+hidden-step {names} {w} {i} {left} {next} x h r =
+    let n = get_or names i 0 in
+    let b = bag (code left) in
+    let one : drop i names ≡ n ∷ drop (i + 1) names = rw (add-one i) (drop-cons names i 0 h) in
+    record {
+      fits = let l = number-less b n in let k = number-bag (code left) x.fits in let f = x.fits in omega (arith, code_of r);
+      packs = r ∙ ap packed (sym (code_of r));
+      hidden = ap (without (drop (i + 1) names)) (ap bag (code_of r) ∙ bag-cleared (code left) n)
+          ∙ hidden_first (drop (i + 1) names) b n
+          ∙ sym (ap (λ (l : List ℕ). without l b) one)
+          ∙ x.hidden;
+    }
 
-pub hidden-end : {names : List ℕ} {w i : ℕ} {left : packing.Label} → Hidden names w i left → i ≤ 0 → left ≡ packed (number (without names (bag w)))
+pub hidden-end : {names : List ℕ} {w i : ℕ} {left : packing.Label} → Hidden names w i left → length names ≤ i
+    → left ≡ packed (number (without names (bag w)))
+unfolding without
 hidden-end {names} {w} {i} {left} x h =
-    let z : i ≡ 0 = omega arith in
-    x.packs
-    ∙ ap packed (sym (number-bag (code left) x.fits) ∙ ap number x.hidden ∙ ap (λ (k : ℕ). number (without (drop k names) (bag w))) z)
+    let none : without (drop i names) (bag (code left)) ≡ bag (code left) = rw (drop_of_length-le names h) in
+    x.packs ∙ ap packed (sym (number-bag (code left) x.fits) ∙ ap number (sym none ∙ x.hidden))
 
 -- The names from the i-th on decide whether none occurs: the i-th occurs or does not, or there is none left.
 module _ (names : List ℕ) (a : Label) (i : ℕ) where
-  module _ {n : ℕ} (h : i < length names) (e : n ≡ get_or names i 0) where
-    pub clear-fail : (count a n ≡ 0 → ⊥) → clear (drop i names) a ≡ false
+  module _ (h : i < length names) where
+    pub clear-fail : (count a (get_or names i 0) ≡ 0 → ⊥) → clear (drop i names) a ≡ false
     unfolding clear
-    clear-fail k = rw (drop-cons names i 0 h, ← e, ne_eqb (count a n) 0 k)
+    clear-fail k = rw (drop-cons names i 0 h, ne_eqb (count a (get_or names i 0)) 0 k)
 
-    pub clear_step : count a n ≡ 0 → clear (drop (i + 1) names) a ≡ clear (drop i names) a
+    pub clear_step : count a (get_or names i 0) ≡ 0 → clear (drop (i + 1) names) a ≡ clear (drop i names) a
     unfolding clear
-    clear_step k = rw (add-one i, drop-cons names i 0 h, ← e, eq-eqb (count a n) 0 k)
+    clear_step k = rw (add-one i, drop-cons names i 0 h, eq-eqb (count a (get_or names i 0)) 0 k)
 
   pub clear-end : length names ≤ i → clear (drop i names) a ≡ true
   unfolding clear
@@ -116,33 +124,36 @@ unfolding tabulated
 length-listed zero first f = refl
 length-listed (suc more) first f = ap suc (length-listed more (suc first) f)
 
--- The list of a map before and after one more pair is read, the last first. An entry past the 24 names changes nothing.
-pub record Directed (pairs : List ℕ) (i : ℕ) (to : List ℕ) : Type 0 where
-  pub within : i ≤ length pairs
-  pub directed : to ≡ targets (pairs_in (drop i pairs))
+-- The list of a map when the pairs behind some are read, the last first. An entry past the 24 names changes nothing.
+pub record Directed (pairs rest to : List ℕ) : Type 0 where
+  pub read : List ℕ
+  pub all : rest ++ read ≡ pairs
+  pub directed : to ≡ targets (pairs_in read)
 
 pub directed-start : (pairs : List ℕ)
-    → Directed pairs (length pairs)
+    → Directed pairs pairs
     (0 ∷ 1 ∷ 2 ∷ 3 ∷ 4 ∷ 5 ∷ 6 ∷ 7 ∷ 8 ∷ 9 ∷ 10 ∷ 11 ∷ 12 ∷ 13 ∷ 14 ∷ 15 ∷ 16 ∷ 17 ∷ 18 ∷ 19 ∷ 20 ∷ 21 ∷ 22 ∷ 23 ∷ [])
 unfolding tabulated target
-directed-start pairs = record { within = le_refl (length pairs); directed = rw (drop_of_length-le pairs (le_refl (length pairs))) }
+directed-start pairs = record { read = []; all = append-nil pairs; directed = refl }
 
-pub directed-step : {pairs : List ℕ} {i : ℕ} {to : List ℕ} (pair : ℕ) → Directed pairs i to → 0 < i → pair ≡ get_or pairs (i - 1) 0
-    → Directed pairs (i - 1) (set to (pair % 32) (pair / 32))
-directed-step {pairs} {i} {to} pair x p e = record {
-  within = let h = x.within in omega arith;
-  directed = ap (λ (l : List ℕ). set l (pair % 32) (pair / 32)) x.directed ∙ set-target (pairs_in (drop i pairs)) (pair_of pair)
-      ∙ sym (ap (λ (l : List ℕ). targets (pairs_in l)) (from-before pairs i pair p x.within e));
+pub directed-step : {pairs rest next to : List ℕ} (pair : ℕ) → Directed pairs rest to → rest ≡ next ++ (pair ∷ [])
+    → Directed pairs next (set to (pair % 32) (pair / 32))
+directed-step {pairs} {rest} {next} {to} pair x e = record {
+  read = pair ∷ x.read;
+  all = sym (append_assoc next (pair ∷ []) x.read) ∙ ap (λ (l : List ℕ). l ++ x.read) (sym e) ∙ x.all;
+  directed = ap (λ (l : List ℕ). set l (pair % 32) (pair / 32)) x.directed ∙ set-target (pairs_in x.read) (pair_of pair);
 }
 
-pub directed-skip : {pairs : List ℕ} {i : ℕ} {to : List ℕ} (pair : ℕ) → Directed pairs i to → 0 < i → pair ≡ get_or pairs (i - 1) 0
-    → 24 ≤ pair % 32 → Directed pairs (i - 1) to
-directed-skip {pairs} {i} {to} pair x p e h =
-    let l = ap length x.directed ∙ length-listed 24 0 (target (pairs_in (drop i pairs))) in
-    subst (Directed pairs (i - 1)) (set_out to (pair % 32) (pair / 32) (omega arith)) (directed-step pair x p e)
+pub directed-skip : {pairs rest next to : List ℕ} (pair : ℕ) → Directed pairs rest to → rest ≡ next ++ (pair ∷ [])
+    → 24 ≤ pair % 32 → Directed pairs next to
+directed-skip {pairs} {rest} {next} {to} pair x e h =
+    let l = ap length x.directed ∙ length-listed 24 0 (target (pairs_in x.read)) in
+    subst (Directed pairs next) (set_out to (pair % 32) (pair / 32) (omega arith)) (directed-step pair x e)
 
-pub directed-end : {pairs : List ℕ} {i : ℕ} {to : List ℕ} → Directed pairs i to → i ≤ 0 → to ≡ targets (pairs_in pairs)
-directed-end {pairs} {i} x h = let z : i ≡ 0 = omega arith in x.directed ∙ ap (λ (k : ℕ). targets (pairs_in (drop k pairs))) z
+pub directed-end : {pairs rest to : List ℕ} → Directed pairs rest to → length rest ≡ 0 → to ≡ targets (pairs_in pairs)
+directed-end {pairs} {rest} x h =
+    let none : rest ≡ [] = nil_from_length rest h in
+    x.directed ∙ ap (λ (l : List ℕ). targets (pairs_in l)) (ap (λ (l : List ℕ). l ++ x.read) (sym none) ∙ x.all)
 
 -- What a label weighs when it is renamed, name after name.
 pub number-no-actions : (names n : ℕ) → number (several names n 0) ≡ 0

@@ -9,7 +9,6 @@ ghost use Rattle.labels.specs.Bags.{bag};
 ghost use Rattle.areas.specs.Pairs.{pairs_in};
 ghost use Rattle.names.specs.Names.{Counted, targets};
 
-use areas::word_at;
 use labels::bags::{joined, several};
 use labels::packing::tau;
 use labels::{Label, NAMES, WORD_END, WORD_NAMES};
@@ -31,12 +30,10 @@ pub fn count(a: Label, n: u64) -> u64
 pub fn clear(a: Label, names: &[u64]) -> bool
     ensures { result ≡ clear names.now (bag (code a)) }
 {
-    let mut i = 0;
-    while i < names.len() {
-        if count(a, word_at(names, i)) != 0 {
+    for n in names {
+        if count(a, *n) != 0 {
             return false;
         }
-        i += 1;
     }
     true
 }
@@ -78,10 +75,8 @@ pub fn hide(a: Label, names: &[u64]) -> Label
         lower: a.lower % WORD_END,
         upper: a.upper,
     };
-    let mut i = names.len();
-    while 0 < i {
-        i -= 1;
-        left = hide_one(left, word_at(names, i));
+    for n in names {
+        left = hide_one(left, *n);
     }
     left
 }
@@ -94,13 +89,10 @@ pub fn renaming(pairs: &[u64]) -> [u64; 24]
     let mut to = [
         0u64, 1, 2, 3, 4, 5, 6, 7, 8, 9, 10, 11, 12, 13, 14, 15, 16, 17, 18, 19, 20, 21, 22, 23,
     ];
-    let mut i = pairs.len();
-    while 0 < i {
-        i -= 1;
-        let pair = word_at(pairs, i);
-        let left = (pair % 32) as usize;
+    for pair in pairs.iter().rev() {
+        let left = (*pair % 32) as usize;
         if left < NAMES {
-            to[left] = pair / 32;
+            to[left] = *pair / 32;
         }
     }
     to
@@ -114,14 +106,12 @@ fn rename_word(word: u64, first: usize, to: &[u64; 24]) -> Label
 {
     let mut rest = word;
     let mut made = tau();
-    let mut i = first;
-    while i < first + 12 {
+    for i in first..first + 12 {
         if rest == 0 {
             return made;
         }
         made = joined(made, several(to[i], rest % 32));
         rest /= 32;
-        i += 1;
     }
     made
 }

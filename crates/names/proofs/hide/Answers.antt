@@ -5,22 +5,17 @@ use Rattle.labels.specs.Packing.{code}
 use Rattle.names.proofs.Lists.{hidden-start, hidden-step, hidden-end}
 use Rattle.names.proofs.hide.Goals as goal
 
-pub loop-i-init : goal.loop-i-init
-loop-i-init c =
+pub loop-n-init : goal.loop-n-init
+loop-n-init c =
     let a = c.args in
     hidden-start a.names.now (record { lower = a.a.lower % 2 ^ 60; upper = a.a.upper }) (omega arith) (omega arith)
 
-pub loop-i-smaller : goal.loop-i-smaller
-loop-i-smaller c = omega arith
-
-pub loop-i-preserved : goal.loop-i-preserved
-loop-i-preserved c =
-    let so_far = c.loop-i.invariant in
-    hidden-step so_far c.loop-i-test.true c.word_at.ensures c.hide_one-left.ensures
+pub loop-n-preserved : goal.loop-n-preserved
+loop-n-preserved c = hidden-step c.loop-n.invariant c.loop-n-test.true c.hide_one-left.ensures
 
 -- what stands above the names' bits is no name's
 pub returns : goal.returns
 unfolding code
 returns c =
     let a = c.args in
-    rw (mod-mod a.a.lower (2 ^ 60)) at (hidden-end c.loop-i.invariant c.loop-i-test.false)
+    rw (mod-mod a.a.lower (2 ^ 60)) at (hidden-end c.loop-n.invariant c.loop-n-test.false)

@@ -1,4 +1,3 @@
-use native.Mathlib.Omega.{arith}
 use lib.ListN.{get_or}
 use Rattle.names.proofs.Lists.{moved-start, moved-step, moved-early, moved-end}
 use Rattle.names.proofs.rename_word.Goals as goal
@@ -8,23 +7,8 @@ loop-i-init c =
     let a = c.args in
     moved-start (λ n. get_or a.to.now n 0) a.first a.word c.tau-made.result c.tau-made.ensures
 
-pub overflow_add-first : goal.overflow_add-first
-overflow_add-first c = omega arith
-
 pub returns-then-rest-eq0 : goal.returns-then-rest-eq0
 returns-then-rest-eq0 c = moved-early _ _ _ c.loop-i.invariant c.if-rest-eq0.true
-
-pub offset_bounds-to-i : goal.offset_bounds-to-i
-offset_bounds-to-i c = omega arith
-
-pub bounds-to-i : goal.bounds-to-i
-bounds-to-i c = omega arith
-
-pub overflow_add-i : goal.overflow_add-i
-overflow_add-i c = omega arith
-
-pub loop-i-smaller : goal.loop-i-smaller
-loop-i-smaller c = omega arith
 
 pub loop-i-preserved : goal.loop-i-preserved
 loop-i-preserved c =

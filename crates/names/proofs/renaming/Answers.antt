@@ -1,30 +1,18 @@
-use native.Mathlib.Omega.{arith}
+use mathlib.Core.Path.{◌≡◌}
 use Rattle.names.proofs.Lists.{directed-start, directed-step, directed-skip, directed-end}
 use Rattle.names.proofs.renaming.Goals as goal
 
-pub loop-i-init : goal.loop-i-init
-loop-i-init c = directed-start c.args.pairs.now
+pub loop-pair-init : goal.loop-pair-init
+loop-pair-init c =
+    let pairs = c.args.pairs.now in
+    let rest : c.into_iter-pair-iterator.result.iter.rest.now ≡ pairs = cc in
+    rw rest (directed-start pairs)
 
-pub offset_bounds-to-left : goal.offset_bounds-to-left
-offset_bounds-to-left c = omega arith
+pub loop-pair-preserved-then-left-lt-NAMES : goal.loop-pair-preserved-then-left-lt-NAMES
+loop-pair-preserved-then-left-lt-NAMES c = directed-step c.in-Some.pair.now c.loop-pair.invariant c.in-Some.ensures.steps
 
-pub bounds-to-left : goal.bounds-to-left
-bounds-to-left c = omega arith
-
-pub loop-i-smaller-then-left-lt-NAMES : goal.loop-i-smaller-then-left-lt-NAMES
-loop-i-smaller-then-left-lt-NAMES c = omega arith
-
-pub loop-i-preserved-then-left-lt-NAMES : goal.loop-i-preserved-then-left-lt-NAMES
-loop-i-preserved-then-left-lt-NAMES c =
-    directed-step c.word_at-pair.result c.loop-i.invariant c.loop-i-test.true c.word_at-pair.ensures
-
-pub loop-i-smaller : goal.loop-i-smaller
-loop-i-smaller c = omega arith
-
-pub loop-i-preserved : goal.loop-i-preserved
-loop-i-preserved c =
-    directed-skip c.word_at-pair.result c.loop-i.invariant c.loop-i-test.true c.word_at-pair.ensures
-    c.if-left-lt-NAMES.false
+pub loop-pair-preserved : goal.loop-pair-preserved
+loop-pair-preserved c = directed-skip c.in-Some.pair.now c.loop-pair.invariant c.in-Some.ensures.steps c.if-left-lt-NAMES.false
 
 pub returns : goal.returns
-returns c = directed-end c.loop-i.invariant c.loop-i-test.false
+returns c = directed-end c.loop-pair.invariant c.in-None.ensures.steps.0
