@@ -15,11 +15,9 @@ fn carry(work: &mut [u64], from: usize, to: usize, count: usize)
     requires { ((from + count ≤ to) ⊎ (to + count ≤ from)) × (from + count ≤ length (held work.old)) × (to + count ≤ length (held work.old)) }
     ensures { held work.new ≡ laid to (set_at from count (held work.old)) (held work.old) }
 {
-    let mut i = 0;
-    while i < count {
+    for i in 0..count {
         let label = read_label(work, from + i);
         write_label(work, to + i, label);
-        i += 1;
     }
 }
 
@@ -114,10 +112,8 @@ pub fn lay_anew(
     let start = free_half(sets, terms, half);
     let end = start + half;
     let mut at = start;
-    let mut t = 0;
-    while t < terms {
+    for t in 0..terms {
         at = move_set(work, sets, t, start, end, at) + room_after(t, n, gap, more);
-        t += 1;
     }
     set_part(sets, terms, Part { from: end, to: end });
 }

@@ -42,8 +42,7 @@ pub fn log_new(known: &[u64], made: &[u64], log: &mut [u64], at: usize) -> Built
     let most = space(known, log, at);
     let end = labels_in(made);
     let mut len = 0;
-    let mut i = 0;
-    while i < end {
+    for i in 0..end {
         let label = read_label(made, i);
         if !is_known(known, label) {
             if most <= len {
@@ -52,7 +51,6 @@ pub fn log_new(known: &[u64], made: &[u64], log: &mut [u64], at: usize) -> Built
             write_label(log, at + len, label);
             len += 1;
         }
-        i += 1;
     }
     Built::Holds(len)
 }

@@ -11,21 +11,9 @@ pub overflow_add-from : goal.overflow_add-from
 overflow_add-from c =
     omega (arith, c.loop-i-test.true, c.loop-i.invariant.0.places, c.well_formed.0.0, length-held c.args.work.now)
 
-pub read_label-label-requires : goal.read_label-label-requires
-read_label-label-requires c = tt
-
 pub overflow_add-to : goal.overflow_add-to
 overflow_add-to c =
     omega (arith, c.loop-i-test.true, c.loop-i.invariant.0.places, c.well_formed.0.0, length-held c.args.work.now)
-
-pub write_label-requires : goal.write_label-requires
-write_label-requires c = tt
-
-pub overflow_add-i : goal.overflow_add-i
-overflow_add-i c = omega (arith, c.loop-i-test.true, c.ranges.count)
-
-pub loop-i-smaller : goal.loop-i-smaller
-loop-i-smaller c = omega (arith, c.loop-i-test.true)
 
 pub loop-i-preserved : goal.loop-i-preserved
 loop-i-preserved c =
