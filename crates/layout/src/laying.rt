@@ -6,19 +6,18 @@ ghost use Rattle.parts.specs.Parts.{laid, set_at};
 ghost use Rattle.extents.specs.Extents.{part_at};
 ghost use Rattle.layout.specs.Laying.{Tells, Movable, Moved, Free, Gap, RoomMade};
 
-use areas::rows::{labels_in, read_label, write_label};
+use areas::rows::labels_in;
 use extents::{part_at, set_part};
+use labels::LABEL_WORDS;
 use parts::Part;
 
-// Labels from a place on are copied to another place that they do not reach.
+// Labels from a place on are copied to another place.
 fn carry(work: &mut [u64], from: usize, to: usize, count: usize)
-    requires { ((from + count ≤ to) ⊎ (to + count ≤ from)) × (from + count ≤ length (held work.old)) × (to + count ≤ length (held work.old)) }
+    requires { (from + count ≤ length (held work.old)) × (to + count ≤ length (held work.old)) }
     ensures { held work.new ≡ laid to (set_at from count (held work.old)) (held work.old) }
 {
-    for i in 0..count {
-        let label = read_label(work, from + i);
-        write_label(work, to + i, label);
-    }
+    let first = LABEL_WORDS * from;
+    work.copy_within(first..first + LABEL_WORDS * count, LABEL_WORDS * to);
 }
 
 // Whether a set stands in the first so many words outside the half from `start` up to `end`, and has room there from a place on.
