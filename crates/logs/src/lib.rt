@@ -27,12 +27,7 @@ fn is_known(known: &[u64], label: Label) -> bool
 fn space(known: &[u64], log: &[u64], at: usize) -> usize
     ensures { result ≡ space_for (held known.now) at (held log.now) }
 {
-    let count = labels_in(known);
-    if count < MOST_LABELS {
-        room(log, at, MOST_LABELS - count)
-    } else {
-        0
-    }
+    room(log, at, MOST_LABELS.saturating_sub(labels_in(known)))
 }
 
 // Those labels of a row that a set does not have are written from a place on, until there is no room for the next.
