@@ -25,15 +25,23 @@ pub fn course(
         sets.new news.new (held work.new) (held log.new) (held out.new) result }
 {
     let mut to = end;
-    let mut n = 0;
-    while n < slots.len() {
-        let slot = slots[n];
-        let step = advance(slot, lists, slots.len(), n, sets, news, work, log, to, out);
+    for n in 0..slots.len() {
+        let step = advance(
+            slots[n],
+            lists,
+            slots.len(),
+            n,
+            sets,
+            news,
+            work,
+            log,
+            to,
+            out,
+        );
         let Built::Holds(next) = step else {
             return Built::TooLarge;
         };
         to = next;
-        n += 1;
     }
     Built::Holds(to)
 }
@@ -43,14 +51,12 @@ pub fn hand_on(bodies: &[u64], news: &mut [usize]) -> bool
     ensures { HandedOn bodies.now news.old news.new result }
 {
     let mut some = false;
-    let mut e = 0;
-    while e < bodies.len() {
+    for e in 0..bodies.len() {
         let part = part_at(news, bodies[e] as usize);
         set_part(news, news_of(e), part);
         if !is_empty(part) {
             some = true;
         }
-        e += 1;
     }
     some
 }

@@ -1,5 +1,4 @@
 use mathlib.Core.Path.{◌≡◌, refl, ◌∙◌}
-use native.Mathlib.Omega.{arith}
 use lib.ListN.{length}
 use Rattle.areas.specs.Rows.{held}
 use Rattle.courses.proofs.Coursing.{coursing-start, coursing-step, coursing-large, coursing-end}
@@ -12,15 +11,6 @@ loop-n-init c =
     let start =
     coursing-start a.slots.now a.lists.now a.end a.sets.now a.news.now (held a.work.now) (held a.log.now) (held a.out.now) in
     (start, refl, refl, refl)
-
-pub offset_bounds-slots-n : goal.offset_bounds-slots-n
-offset_bounds-slots-n c = omega (arith, c.well_formed.0)
-
-pub bounds-slots-n : goal.bounds-slots-n
-bounds-slots-n c = omega arith
-
-pub advance-step-requires : goal.advance-step-requires
-advance-step-requires c = tt
 
 -- the words of the areas after a term
 kept-words : (c : After-advance-step) → let last = c.advance-step.new in
@@ -50,14 +40,6 @@ shape_of-log-in_default c = (kept-words (goal.at.shape_of-log-in_default c).Afte
 
 pub shape_of-out-in_default : goal.shape_of-out-in_default
 shape_of-out-in_default c = (kept-words (goal.at.shape_of-out-in_default c).After-advance-step).2
-
-pub overflow_add-n : goal.overflow_add-n
-overflow_add-n c =
-    omega (arith, c.loop-n-test.true, c.well_formed.0)
-
-pub loop-n-smaller : goal.loop-n-smaller
-loop-n-smaller c =
-    omega (arith, c.loop-n-test.true)
 
 pub loop-n-preserved : goal.loop-n-preserved
 loop-n-preserved c =
