@@ -15,7 +15,7 @@ loop-i-preserved c =
     let read : 3 * (i + 1) ≡ 3 * i + 3 = omega arith in
     let put : 2 * (i + 1) ≡ 2 * i + 2 = omega arith in (
       rw (read, put)
-      (over-step c.args.rules.now (3 * i) (2 * i) c.loop-i.invariant.0 (omega arith)
+          (over-step c.args.rules.now (3 * i) (2 * i) c.loop-i.invariant.0 (omega arith)
           c.write_label.ensures c.single.ensures c.write_label-in-loop-i.ensures),
       c.write_label-in-loop-i.auto.words ∙ c.write_label.auto.words ∙ c.loop-i.invariant.1,
     )
