@@ -1,5 +1,6 @@
 -- What comes of a state, rule by rule: the bound on the applications loses nothing, since each leaves less.
 -- Assumes nothing.
+use Rattle.std.specs.Prelude.{Some}
 use mathlib.Core.Path.{◌≡◌, refl, sym, ap, ap₂, ◌∙◌}
 use mathlib.Core.Bool.{Bool, true, false, not, ◌&&◌}
 use mathlib.Core.List.{List, [], ◌∷◌, ◌++◌}
@@ -14,7 +15,6 @@ use Rattle.labels.proofs.Codes.{code-packed}
 use Rattle.labels.proofs.Words.{fewer_digits}
 use Rattle.sets.specs.Inserting.{present}
 use Rattle.rules.specs.declared.State.{State}
-use Rattle.rules.specs.declared.Step.TheVariants.{To}
 use Rattle.rules.specs.Rules.{Exchange, replaced_by, applies, pick_step, step_of}
 use Rattle.choices.specs.Following.{after, each_rule, followed, comes_of}
 
@@ -57,7 +57,7 @@ applies→ r rest e =
     record { some = s; fits = w; lies = i; left = x.1; less = let y = x.0 in omega arith }
 
 -- what goes on from a state goes by the numbers of its labels
-pub after-packed : (more : ℕ → ℕ → List ℕ) (rest sum : ℕ) → after more (To (record { rest = packed rest; sum = packed sum })) ≡ more rest sum
+pub after-packed : (more : ℕ → ℕ → List ℕ) (rest sum : ℕ) → after more (Some (record { rest = packed rest; sum = packed sum })) ≡ more rest sum
 after-packed more rest sum = rw (code-packed rest, code-packed sum)
 
 module _ (all : List ℕ) where

@@ -1,10 +1,9 @@
 -- A label of an operand with all that comes of it by rules.
 -- Assumes nothing.
-use Rattle.std.specs.Prelude.{List, [], ◌∷◌, ◌++◌, ℕ, zero, suc}
+use Rattle.std.specs.Prelude.{List, [], ◌∷◌, ◌++◌, ℕ, zero, suc, Option, Some, None}
 use Rattle.labels.specs.Packing.{code}
 use Rattle.sets.specs.Building.{Building, each, enter}
-use Rattle.rules.specs.declared.Step.{Step}
-use Rattle.rules.specs.declared.Step.TheVariants.{Nothing, To}
+use Rattle.rules.specs.declared.State.{State}
 use Rattle.rules.specs.Rules.{Exchange, step_of}
 
 -- A rule as it stands in a list of labels.
@@ -12,9 +11,9 @@ abbrev pub sides : Exchange → List ℕ
 sides r = r.left ∷ r.right ∷ []
 
 -- what goes on from where a rule leads
-abbrev pub after : (ℕ → ℕ → List ℕ) → Step → List ℕ
-after more Nothing = []
-after more (To s) = more (code s.rest) (code s.sum)
+abbrev pub after : (ℕ → ℕ → List ℕ) → Option State → List ℕ
+after more None = []
+after more (Some s) = more (code s.rest) (code s.sum)
 
 -- Each rule in turn; after an application of one, that rule and those behind it. `all` are the labels of the operand.
 unfoldable pub each_rule : (List Exchange → ℕ → ℕ → List ℕ) → List ℕ → List Exchange → ℕ → ℕ → List ℕ

@@ -1,5 +1,6 @@
 -- Labels put into a set at the start of words of its own, beside a memory of states: what is kept stays true of the set.
 -- Assumes nothing.
+use Rattle.std.specs.Prelude.{Result, Ok, Err}
 use mathlib.Core.Path.{◌≡◌, refl, sym, ap, ap₂, subst, ◌∙◌}
 use mathlib.Core.Bool.{Bool, true, false}
 use mathlib.Core.List.{List, [], ◌∷◌, ◌++◌}
@@ -10,8 +11,7 @@ use lib.ListN.{length, replicate}
 use Rattle.meaning.specs.Sets.{Rising}
 use Rattle.parts.specs.Parts.{set_at, room_at, most_labels}
 use Rattle.parts.proofs.LaidSets.{length-laid, set_at-laid}
-use Rattle.sets.specs.declared.Built.{Built}
-use Rattle.sets.specs.declared.Built.TheVariants.{TooLarge, Holds}
+use Rattle.sets.specs.declared.TooLarge.{TooLarge}
 use Rattle.sets.specs.Building.{Building, goes_on, each, done, enter, Grown}
 use Rattle.sets.proofs.Steps.{Steady, steady-each, steady-enter, steady-fits, each_append, going_start, going_end}
 use Rattle.sets.proofs.Steps.{first-large, first_holds, going-last, grown-as, built-holds}
@@ -33,10 +33,10 @@ steady-closed room all rs w = steady-entered room (comes_of all rs w w)
 abbrev pub room_in : List ℕ → ℕ
 room_in words = room_at 0 most_labels (length words)
 
-pub same_count : {m n : ℕ} → Holds m ≡ Holds n → m ≡ n
+pub same_count : {m n : ℕ} → ◌≡◌ {A = Result ℕ TooLarge} (Ok m) (Ok n) → m ≡ n
 same_count e = cc
 
-not-held : {n : ℕ} → TooLarge ≡ Holds n → ⊥
+not-held : {n : ℕ} → ◌≡◌ {A = Result ℕ TooLarge} (Err (record {})) (Ok n) → ⊥
 not-held e = let z : ◌≡◌ {A = ℕ} 0 1 = cc in omega arith
 
 -- a memory without room for a state keeps none
@@ -69,7 +69,7 @@ module _ (room : ℕ) (ws : List ℕ) {len : ℕ} {all ls words states : List �
       pick (no h) = recalls-small all ls states grown (omega arith)
 
 -- no label
-pub walked_none : {len : ℕ} {all ls words states : List ℕ} → Walking len all ls words states → Walked [] len all ls words words states (Holds len)
+pub walked_none : {len : ℕ} {all ls words states : List ℕ} → Walking len all ls words states → Walked [] len all ls words words states (Ok len)
 unfolding each
 walked_none {len} {all} {ls} {words} {states} x =
     let p = going_end (going_start 0 words len done (omega (arith, x.within))) (λ s. refl) in
@@ -85,7 +85,7 @@ set_with labels len before = entered (room_in before) labels (set_at 0 len befor
 fits : (labels : List ℕ) (len : ℕ) (before : List ℕ) → length (set_with labels len before).set ≤ length before - 0
 fits labels len before = steady-fits 0 len most_labels (entered (room_in before) labels) before (steady-entered (room_in before) labels)
 
-module _ (labels : List ℕ) {len n : ℕ} {before after : List ℕ} (g : Grown (entered (room_in before) labels) 0 len before after (Holds n)) where
+module _ (labels : List ℕ) {len n : ℕ} {before after : List ℕ} (g : Grown (entered (room_in before) labels) 0 len before after (Ok n)) where
   all_held : ((set_with labels len before).whole ≡ true) × (n ≡ length (set_with labels len before).set)
   all_held = built-holds (set_with labels len before).whole (length (set_with labels len before).set) n g.answer
 
@@ -95,7 +95,7 @@ module _ (labels : List ℕ) {len n : ℕ} {before after : List ℕ} (g : Grown 
       ∙ set_at-laid 0 (set_with labels len before).set before (fits labels len before)
 
 -- the same labels, said otherwise
-pub walked_as : {labels others : List ℕ} {len : ℕ} {all ls before after kept : List ℕ} {r : Built} → labels ≡ others
+pub walked_as : {labels others : List ℕ} {len : ℕ} {all ls before after kept : List ℕ} {r : Result ℕ TooLarge} → labels ≡ others
     → Walked labels len all ls before after kept r → Walked others len all ls before after kept r
 walked_as {len = len} {all} {ls} {before} {after} {kept} {r} e f = subst (λ (l : List ℕ). Walked l len all ls before after kept r) e f
 
@@ -108,7 +108,7 @@ one-entered room w s = go (enter room w s).whole refl
     go true e = ap (λ (t : Bool). record { set = (enter room w s).set; whole = t }) e
     go false e = refl
 
-pub walked_one : {len : ℕ} {all ls before after states : List ℕ} (w : ℕ) {r : Built} → Walking len all ls before states
+pub walked_one : {len : ℕ} {all ls before after states : List ℕ} (w : ℕ) {r : Result ℕ TooLarge} → Walking len all ls before states
     → Grown (enter (room_in before) w) 0 len before after r → Walked (w ∷ []) len all ls before after states r
 walked_one {len} {all} {ls} {before} {after} {states} w x g =
     let more = grown-as (one-entered (room_in before) w) g in
@@ -121,10 +121,10 @@ walked_one {len} {all} {ls} {before} {after} {states} w x g =
 
 -- Labels that were put in: the length of the words; then what goes on, or does not.
 module _ {labels : List ℕ} {len : ℕ} {all ls before after kept : List ℕ} where
-  pub walked-length : {r : Built} → Walked labels len all ls before after kept r → length after ≡ length before
+  pub walked-length : {r : Result ℕ TooLarge} → Walked labels len all ls before after kept r → length after ≡ length before
   walked-length f = ap length f.grown.words ∙ length-laid 0 (set_with labels len before).set before (fits labels len before)
 
-  module _ {n : ℕ} (f : Walked labels len all ls before after kept (Holds n)) where
+  module _ {n : ℕ} (f : Walked labels len all ls before after kept (Ok n)) where
     pub walked_whole : (set_with labels len before).whole ≡ true
     walked_whole = (all_held labels f.grown).0
 
@@ -140,7 +140,7 @@ module _ {labels : List ℕ} {len : ℕ} {all ls before after kept : List ℕ} w
     }
 
     -- more labels are put in
-    pub walked_then : {more last later : List ℕ} {r : Built} → Walked more n all ls after last later r
+    pub walked_then : {more last later : List ℕ} {r : Result ℕ TooLarge} → Walked more n all ls after last later r
         → Walked (labels ++ more) len all ls before last later r
     walked_then {more} g =
         let first = entered (room_in before) labels in
@@ -152,8 +152,8 @@ module _ {labels : List ℕ} {len : ℕ} {all ls before after kept : List ℕ} w
         }
 
   -- one was too many, and so no more are put in
-  pub walked-stops : (more : List ℕ) {later : List ℕ} → Walked labels len all ls before after kept TooLarge
-      → Walked (labels ++ more) len all ls before after later TooLarge
+  pub walked-stops : (more : List ℕ) {later : List ℕ} → Walked labels len all ls before after kept (Err (record {}))
+      → Walked (labels ++ more) len all ls before after later (Err (record {}))
   walked-stops more f = record {
     grown = grown-as (λ s. sym (each_append (enter (room_in before)) labels more s))
         (first-large 0 len (entered (room_in before) labels) (entered (room_in before) more) before after f.grown);

@@ -10,7 +10,7 @@ use memory::MEMORY_WORDS;
 use ordering::many_choices;
 use parts::placing::reach;
 use rules::State;
-use sets::Built;
+use sets::TooLarge;
 use sets::ascending::ascends;
 
 // Each label in turn, with a memory that is kept from one to the next.
@@ -21,7 +21,7 @@ fn put_each(
     states: &mut [u64],
     out: &mut [u64],
     len: usize,
-) -> Built
+) -> Result<usize, TooLarge>
     requires { Walking len (held operand.now) (held rules.now) (held out.old) (held states.old) }
     ensures { Closes len (held labels.now) (held operand.now) (held rules.now)
         (held out.old) (held out.new) result }
@@ -29,21 +29,15 @@ fn put_each(
     let mut count = len;
     let end = labels_in(labels);
     let last = labels_in(rules);
-    let mut i = 0;
-    while i < end {
+    for i in 0..end {
         let label = read_label(labels, i);
         let state = State {
             rest: label,
             sum: label,
         };
-        let grown = put(out, states, count, operand, rules, last, state);
-        let Built::Holds(n) = grown else {
-            return Built::TooLarge;
-        };
-        count = n;
-        i += 1;
+        count = put(out, states, count, operand, rules, last, state)?;
     }
-    Built::Holds(count)
+    Ok(count)
 }
 
 // The same with no room to keep a state in.
@@ -53,7 +47,7 @@ fn put_each_short(
     rules: &[u64],
     out: &mut [u64],
     len: usize,
-) -> Built
+) -> Result<usize, TooLarge>
     requires { len ≤ length (held out.old) }
     ensures { Closes len (held labels.now) (held operand.now) (held rules.now)
         (held out.old) (held out.new) result }
@@ -69,7 +63,7 @@ fn put_each_long(
     rules: &[u64],
     out: &mut [u64],
     len: usize,
-) -> Built
+) -> Result<usize, TooLarge>
     requires { len ≤ length (held out.old) }
     ensures { Closes len (held labels.now) (held operand.now) (held rules.now)
         (held out.old) (held out.new) result }
@@ -90,28 +84,16 @@ pub fn close_each(
     rules: &[u64],
     out: &mut [u64],
     len: usize,
-) -> Built
+) -> Result<usize, TooLarge>
     ensures { Closes len (held labels.now) (held operand.now) (held rules.now)
         (held out.old) (held out.new) result }
 {
     let count = reach(out, 0, len);
     if many_choices(labels, rules) {
         if count == 0 {
-            let many = put_each_long(labels, operand, rules, out, 0);
-            let Built::Holds(n) = many else {
-                return Built::TooLarge;
-            };
-            return Built::Holds(n);
+            return put_each_long(labels, operand, rules, out, 0);
         }
-        let many = put_each_long(labels, operand, rules, out, count);
-        let Built::Holds(n) = many else {
-            return Built::TooLarge;
-        };
-        return Built::Holds(n);
+        return put_each_long(labels, operand, rules, out, count);
     }
-    let few = put_each_short(labels, operand, rules, out, count);
-    let Built::Holds(n) = few else {
-        return Built::TooLarge;
-    };
-    Built::Holds(n)
+    put_each_short(labels, operand, rules, out, count)
 }

@@ -11,13 +11,13 @@ use areas::rows::labels_in;
 use extents::at_start;
 use memory::{known, remember};
 use parts::Part;
+use rules::State;
 use rules::steps::step;
-use rules::{State, Step};
-use sets::Built;
+use sets::TooLarge;
 use sets::inserting::enter;
 
 // Where the rule whose left side is the i-th label leads from a state.
-fn next_state(operand: &[u64], rules: &[u64], i: usize, state: State) -> Step
+fn next_state(operand: &[u64], rules: &[u64], i: usize, state: State) -> Option<State>
     ensures { result ≡ step_of (held operand.now) (exchange_at (held rules.now) i) (code state.rest) (code state.sum) }
 {
     let end = labels_in(operand);
@@ -35,25 +35,19 @@ pub fn put(
     rules: &[u64],
     before: usize,
     state: State,
-) -> Built
+) -> Result<usize, TooLarge>
     requires { Walking len (held operand.now) (held rules.now) (held out.old) (held states.old) }
     ensures { Walked
         (comes_of (held operand.now) (exchanges_before (held rules.now) before) (code state.rest) (code state.sum))
         len (held operand.now) (held rules.now) (held out.old) (held out.new) (held states.new) result }
 {
     if known(states, rules, before, state) {
-        return Built::Holds(len);
+        return Ok(len);
     }
-    let answer = enter(out, at_start(len), state.sum);
-    let Built::Holds(more) = answer else {
-        return Built::TooLarge;
-    };
-    let grown = follow(out, states, more, operand, rules, before, state);
-    let Built::Holds(count) = grown else {
-        return Built::TooLarge;
-    };
+    let more = enter(out, at_start(len), state.sum)?;
+    let count = follow(out, states, more, operand, rules, before, state)?;
     remember(states, before, state);
-    Built::Holds(count)
+    Ok(count)
 }
 
 // All that comes of a state whose label is put in already.
@@ -66,7 +60,7 @@ fn follow(
     rules: &[u64],
     before: usize,
     state: State,
-) -> Built
+) -> Result<usize, TooLarge>
     requires { Walking len (held operand.now) (held rules.now) (held out.old) (held states.old) }
     ensures { Walked
         (each_rule (comes_of (held operand.now)) (held operand.now)
@@ -74,21 +68,14 @@ fn follow(
         len (held operand.now) (held rules.now) (held out.old) (held out.new) (held states.new) result }
 {
     let mut count = len;
+    // two labels at a time from the end: a range that counts rules would have to find each rule's place by a product
     let mut i = before;
     while 2 <= i {
         let last = i;
         i -= 2;
-        let made = next_state(operand, rules, i, state);
-        match made {
-            Step::Nothing => {}
-            Step::To(next) => {
-                let grown = put(out, states, count, operand, rules, last, next);
-                let Built::Holds(n) = grown else {
-                    return Built::TooLarge;
-                };
-                count = n;
-            }
+        if let Some(next) = next_state(operand, rules, i, state) {
+            count = put(out, states, count, operand, rules, last, next)?;
         }
     }
-    Built::Holds(count)
+    Ok(count)
 }

@@ -1,6 +1,7 @@
 -- A walk over the labels of a row in other words than the set that is built of them, at the start of its own: label by label, each
 -- goes through a step.
 -- Assumes nothing.
+use Rattle.std.specs.Prelude.{Result, Ok, Err}
 use mathlib.Core.Path.{◌≡◌, ap, subst, ◌∙◌}
 use mathlib.Core.List.{List, []}
 use Prim.Native.Nat.{ℕ, ◌+◌, ◌≤◌, ◌<◌}
@@ -14,14 +15,13 @@ use Rattle.labels.specs.declared.Label.{Label}
 use Rattle.parts.specs.declared.Target.{Target}
 use Rattle.parts.specs.Parts.{set_at, most_labels, room_at, reach_of}
 use Rattle.parts.proofs.LaidSets.{set_at-reach}
-use Rattle.sets.specs.declared.Built.{Built}
-use Rattle.sets.specs.declared.Built.TheVariants.{TooLarge, Holds}
+use Rattle.sets.specs.declared.TooLarge.{TooLarge}
 use Rattle.sets.specs.Building.{Building, and_then, each, enter, GrownAt}
 use Rattle.sets.proofs.Steps.{Steady, Going, going_start, going-length, going_end, going-as, going-holds, going-large}
 use Rattle.extents.specs.Extents.{at_start}
 
 -- a label that is put into a set at the start of words of its own
-pub enter-start : {len : ℕ} (w : ℕ) {target : Target} {before after : List ℕ} {r : Built} → target ≡ at_start len
+pub enter-start : {len : ℕ} (w : ℕ) {target : Target} {before after : List ℕ} {r : Result ℕ TooLarge} → target ≡ at_start len
     → GrownAt target (λ room. enter room w) before after r → GrownAt (at_start len) (λ room. enter room w) before after r
 enter-start w {before = before} {after} {r} start g = subst (λ (t : Target). GrownAt t (λ room. enter room w) before after r) start g
 
@@ -48,13 +48,13 @@ module _ {step : ℕ → ℕ → List ℕ → Building} {labels : List ℕ} {len
   abbrev step_here : ℕ → List ℕ → Building
   step_here = step (room_at 0 most_labels (length before))
 
-  abbrev pub RowWalked : List ℕ → Built → Type 0
+  abbrev pub RowWalked : List ℕ → Result ℕ TooLarge → Type 0
   RowWalked after r = GrownAt (at_start len) (λ room. each (step room) labels) before after r
 
   pub row-length : (length now ≡ length before) × (count ≤ length now)
   row-length = let l = going-length x.going in (l.0, omega arith)
 
-  pub row-end : end ≤ i → RowWalked now (Holds count)
+  pub row-end : end ≤ i → RowWalked now (Ok count)
   unfolding each
   row-end k =
       let none : drop i labels ≡ [] = drop_of_length-le labels {i = i} (omega (arith, x.whole)) in
@@ -63,7 +63,7 @@ module _ {step : ℕ → ℕ → List ℕ → Building} {labels : List ℕ} {len
 
   -- a label is read and goes through a step that a function takes
   module _ (steady : (room w : ℕ) → Steady room (step room w)) (l : i < end) {label : Label} (read : label ≡ packed (get_or labels i 0))
-      {after : List ℕ} {r : Built} (g : GrownAt (at_start count) (λ room. step room (code label)) now after r) where
+      {after : List ℕ} {r : Result ℕ TooLarge} (g : GrownAt (at_start count) (λ room. step room (code label)) now after r) where
     abbrev rest : List ℕ → Building
     rest = each step_here (drop (i + 1) labels)
 
@@ -73,13 +73,13 @@ module _ {step : ℕ → ℕ → List ℕ → Building} {labels : List ℕ} {len
         let word : code label ≡ get_or labels i 0 = code_of read in
         going-as _ x.going (λ s. rw (drop-cons labels i 0 (omega (arith, x.whole)), ← word, add-one i))
 
-    pub row-holds : {n : ℕ} → r ≡ Holds n → RowWalk step labels len before end after n (i + 1)
+    pub row-holds : {n : ℕ} → r ≡ Ok n → RowWalk step labels len before end after n (i + 1)
     row-holds {n} f = record {
       whole = x.whole;
       going = going-holds most_labels (λ room. step room (code label)) rest (λ room. steady room (code label)) row-going g n f;
     }
 
-    pub row-large : r ≡ TooLarge → RowWalked after TooLarge
+    pub row-large : r ≡ Err (record {}) → RowWalked after (Err (record {}))
     row-large f =
         let q = going-large most_labels (λ room. step room (code label)) rest (λ room. steady room (code label)) row-going g f in
         record { answer = q.0; words = q.1 }

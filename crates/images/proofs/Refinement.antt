@@ -1,5 +1,6 @@
 -- What each way without rules makes of the numbers of labels: the numbers of what the operators make of the labels.
 -- Assumes nothing.
+use Rattle.std.specs.Prelude.{Some}
 use mathlib.Core.Path.{◌≡◌, refl, sym, ap₂, subst, ◌∙◌}
 use mathlib.Core.Logic.{inl, inr, ◌↔◌}
 use mathlib.Core.Bool.{Bool, true, false, ◌||◌}
@@ -22,7 +23,6 @@ use Rattle.labels.proofs.Sizes.{number-zero}
 use Rattle.areas.proofs.Entries.{label_numbers, pair_words, pairs_in-pair_words}
 use Rattle.labels.proofs.Refinement.{Packs, packs-small}
 use Rattle.names.proofs.Refinement.{clear-number, without-number, renamed-number}
-use Rattle.sets.specs.declared.Offer.TheVariants.{Next}
 use Rattle.sets.specs.Inserting.{present}
 use Rattle.sets.specs.Building.{each}
 use Rattle.sets.proofs.Ascent.{insert-present}
@@ -47,7 +47,7 @@ way-outcome names room way list all gives d good l M p q =
 pub copy-offers : {names : ℕ} (list : List ℕ) (a : Label) → Packs names a → Offered names (offer_of Copy list (number a)) (a ∷ [])
 copy-offers list a p = one a p
 
-kept-offers : {names : ℕ} (t : Bool) (a : Label) → Packs names a → Offered names (pick_offer t (Next (packed (number a)))) (kept t a)
+kept-offers : {names : ℕ} (t : Bool) (a : Label) → Packs names a → Offered names (pick_offer t (Some (packed (number a)))) (kept t a)
 kept-offers true a p = one a p
 kept-offers false a p = none
 

@@ -1,14 +1,13 @@
 -- What each way makes of a label, and what goes into a set of it.
 -- Assumes nothing.
-use Rattle.std.specs.Prelude.{◌≡◌, Bool, true, false, List, ℕ, ◌%◌, ◌^◌, get_or}
+use Rattle.std.specs.Prelude.{◌≡◌, Bool, true, false, List, ℕ, ◌%◌, ◌^◌, get_or, Option, Some, None}
 use Rattle.meaning.specs.Labels.{number, label_of, clear, without, renamed}
 use Rattle.areas.specs.Rows.{held}
+use Rattle.labels.specs.declared.Label.{Label}
 use Rattle.labels.specs.Packing.{packed}
 use Rattle.labels.specs.Bags.{bag}
 use Rattle.areas.specs.Pairs.{pairs_in}
 use Rattle.names.specs.Names.{targets}
-use Rattle.sets.specs.declared.Offer.{Offer}
-use Rattle.sets.specs.declared.Offer.TheVariants.{Nothing, Next}
 use Rattle.sets.specs.Building.{Building, enter, taken}
 use Rattle.rules.specs.Rules.{exchanges_in}
 use Rattle.choices.specs.Following.{closed}
@@ -26,17 +25,17 @@ taken_by Comm words = held words
 taken_by Allow words = held words
 
 -- What each way makes of a label, by its list; and whether rules are followed from there.
-abbrev pub pick_offer : Bool → Offer → Offer
+abbrev pub pick_offer : Bool → Option Label → Option Label
 pick_offer true o = o
-pick_offer false o = Nothing
+pick_offer false o = None
 
-abbrev pub offer_of : Way → List ℕ → ℕ → Offer
-offer_of Copy list w = Next (packed w)
-offer_of Block list w = pick_offer (clear list (bag w)) (Next (packed w))
-offer_of Hide list w = Next (packed (number (without list (bag w))))
-offer_of Rename list w = Next (packed (number (renamed 24 (λ n. get_or (targets (pairs_in list)) n 0) (label_of 24 w)) % 2 ^ 124))
-offer_of Comm list w = Next (packed w)
-offer_of Allow list w = pick_offer (allowed_in w list) (Next (packed w))
+abbrev pub offer_of : Way → List ℕ → ℕ → Option Label
+offer_of Copy list w = Some (packed w)
+offer_of Block list w = pick_offer (clear list (bag w)) (Some (packed w))
+offer_of Hide list w = Some (packed (number (without list (bag w))))
+offer_of Rename list w = Some (packed (number (renamed 24 (λ n. get_or (targets (pairs_in list)) n 0) (label_of 24 w)) % 2 ^ 124))
+offer_of Comm list w = Some (packed w)
+offer_of Allow list w = pick_offer (allowed_in w list) (Some (packed w))
 
 -- the map that a renaming goes by
 abbrev pub MapFor : Way → (list map : List ℕ) → Type 0

@@ -14,45 +14,32 @@ use extents::at_start;
 use labels::{Label, NAMES};
 use names::{clear, hide, rename, renaming};
 use parts::placing::reach;
+use sets::TooLarge;
 use sets::inserting::enter;
-use sets::{Built, Offer};
 
 // What a way makes of a label, whose lower word has nothing above the bits of names.
-fn made(way: Way, list: &[u64], map: &[u64; NAMES], label: Label) -> Offer
+fn made(way: Way, list: &[u64], map: &[u64; NAMES], label: Label) -> Option<Label>
     requires { MapFor way list.now map.now × (label.lower < 2 ^ 60) }
     ensures { result ≡ offer_of way (taken_by way list.now) (code label) }
 {
     match way {
-        Way::Copy => Offer::Next(label),
-        Way::Block => {
-            if clear(label, list) {
-                Offer::Next(label)
-            } else {
-                Offer::Nothing
-            }
-        }
-        Way::Hide => Offer::Next(hide(label, list)),
-        Way::Rename => Offer::Next(rename(label, *map)),
-        Way::Comm => Offer::Next(label),
-        Way::Allow => {
-            if allowed(list, label) {
-                Offer::Next(label)
-            } else {
-                Offer::Nothing
-            }
-        }
+        Way::Copy => Some(label),
+        Way::Block => clear(label, list).then_some(label),
+        Way::Hide => Some(hide(label, list)),
+        Way::Rename => Some(rename(label, *map)),
+        Way::Comm => Some(label),
+        Way::Allow => allowed(list, label).then_some(label),
     }
 }
 
-// What is offered goes into the set.
-fn take(out: &mut [u64], len: usize, offer: Offer) -> Built
+// A label that is offered goes into the set.
+fn take(out: &mut [u64], len: usize, offer: Option<Label>) -> Result<usize, TooLarge>
     requires { len ≤ length (held out.old) }
     ensures { GrownAt (at_start len) (λ room. taken (enter room) offer) (held out.old) (held out.new) result }
 {
     match offer {
-        Offer::Nothing => Built::Holds(len),
-        Offer::TooLong => Built::TooLarge,
-        Offer::Next(label) => enter(out, at_start(len), label),
+        None => Ok(len),
+        Some(label) => enter(out, at_start(len), label),
     }
 }
 
@@ -64,25 +51,19 @@ fn add_offered(
     labels: &[u64],
     out: &mut [u64],
     len: usize,
-) -> Built
+) -> Result<usize, TooLarge>
     requires { MapFor way list.now map.now }
     ensures { GrownAt (at_start len) (λ room. each (offered room way (taken_by way list.now)) (held labels.now))
         (held out.old) (held out.new) result }
 {
     let mut count = reach(out, 0, len);
     let end = labels_in(labels);
-    let mut i = 0;
-    while i < end {
+    for i in 0..end {
         let label = read_label(labels, i);
         let offer = made(way, list, map, label);
-        let step = take(out, count, offer);
-        let Built::Holds(n) = step else {
-            return Built::TooLarge;
-        };
-        count = n;
-        i += 1;
+        count = take(out, count, offer)?;
     }
-    Built::Holds(count)
+    Ok(count)
 }
 
 // What the labels of a row give. They are all labels of an operand or some of them: by rules nothing comes of one that comes of
@@ -95,7 +76,7 @@ pub fn add_image(
     operand: &[u64],
     out: &mut [u64],
     len: usize,
-) -> Built
+) -> Result<usize, TooLarge>
     ensures { GrownAt (at_start len)
         (λ room. each (imaged room way (taken_by way list.now) (held operand.now)) (held labels.now))
         (held out.old) (held out.new) result }

@@ -1,12 +1,12 @@
 -- What the functions on packed labels make of the numbers of labels: the numbers of what `meaning` makes of the labels. A label has
 -- at most 24 names; that its number has digits past them changes nothing.
 -- Assumes nothing.
+use Rattle.std.specs.Prelude.{Some, None}
 use Rattle.std.proofs.Common.{◌≡◌, ℕ, zero, suc, ◌+◌, ◌-◌, ◌*◌, ◌/◌, ◌%◌, ◌^◌, ◌<◌, ◌≤◌, Bool, true, ◌&&◌, T, ltb, leb, [], ◌∷◌, ◌++◌, length, replicate, sym, refl, ap, ◌∙◌, lt_of_lt_of_le, mod-eq_of_lt, pow-suc, arith, lit<}
 use native.Mathlib.Nat.{pow-le-pow_right}
 use Rattle.meaning.specs.Labels.{Label, count, size, number, label_of, single, plus, inside, minus}
 use Rattle.meaning.proofs.Bags.{number-plus, number-minus, size-plus}
 use Rattle.meaning.proofs.Digits.{Small, size→small}
-use Rattle.labels.specs.declared.Sum.TheVariants.{Over, Of}
 use Rattle.labels.specs.Packing.{packed}
 use Rattle.meaning.specs.Rounds.{pick}
 use Rattle.labels.specs.Bags.{bag, size_of, sum_of}
@@ -106,7 +106,7 @@ unfolding size_of
 size_number {names} a l p = rw (bag-number names l a p, size-padded (25 - names) a) (folded-few (size a) p.few)
 
 pub sum_number : {names : ℕ} (a b : Label) → names ≤ 24 → Packs names a → Packs names b
-    → sum_of (number a) (number b) ≡ pick (ltb 31 (size (plus a b))) Over (Of (packed (number (plus a b))))
+    → sum_of (number a) (number b) ≡ pick (ltb 31 (size (plus a b))) None (Some (packed (number (plus a b))))
 unfolding sum_of
 sum_number a b l p q =
     let fits : (number a + number b) % 2 ^ 124 ≡ number (plus a b) =

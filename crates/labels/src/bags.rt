@@ -4,7 +4,7 @@ ghost use Rattle.meaning.specs.Labels.{number, label_of, inside, several, single
 ghost use Rattle.labels.specs.Packing.{code, packed};
 ghost use Rattle.labels.specs.Bags.{bag, size_of, sum_of, as_much};
 
-use crate::{Label, MOST_ACTIONS, NAMES, Sum, WORD_END, WORD_NAMES};
+use crate::{Label, MOST_ACTIONS, NAMES, WORD_END, WORD_NAMES};
 
 // How many actions a label of at most 31 has. 32 is 1 modulo 31, so that its number, its words together and its size leave the same
 // remainder.
@@ -25,21 +25,21 @@ pub fn joined(a: Label, b: Label) -> Label
     ensures { result ≡ packed ((code a + code b) % 2 ^ 124) }
 {
     let lower = a.lower % WORD_END + b.lower % WORD_END;
-    let upper = std::num::wrapping_add_u64(a.upper, b.upper);
+    let upper = a.upper.wrapping_add(b.upper);
     Label {
         lower: lower % WORD_END,
-        upper: std::num::wrapping_add_u64(upper, lower / WORD_END),
+        upper: upper.wrapping_add(lower / WORD_END),
     }
 }
 
-// The sum of two labels, unless it has over 31 actions.
-pub fn sum(a: Label, b: Label) -> Sum
+// The sum of two labels; none where it has over 31 actions.
+pub fn sum(a: Label, b: Label) -> Option<Label>
     ensures { result ≡ sum_of (code a) (code b) }
 {
     if MOST_ACTIONS < size(a) + size(b) {
-        Sum::Over
+        None
     } else {
-        Sum::Of(joined(a, b))
+        Some(joined(a, b))
     }
 }
 

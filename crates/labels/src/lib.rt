@@ -24,10 +24,3 @@ pub struct Label {
     pub lower: u64,
     pub upper: u64,
 }
-
-// The sum of two labels, or that it has over 31 actions.
-#[derive(Clone, Copy)]
-pub enum Sum {
-    Over,
-    Of(Label),
-}

@@ -7,9 +7,9 @@ pub mod Unions
 -- remaining: what is to come of a rest; remaining-all, remaining-stays; drawn-left, drawn-right, drawn-ended: the promise of `draw`;
 -- draws: what is drawn from two rests is the union of both
 pub mod Draws
--- laying-start, laying-step, laying-end, laying-full, laying-more, laying-both: the loop of `union_of`
+-- laying-start, laying-step, laying-end, laying-full, laying-both: the loop of `union_of`
 pub mod UnionWalks
--- copying-start, copying-step, copying-end, copying-full, copying-more, copying-one: the loop of `copy_of`
+-- copying-start, copying-step, copying-end, copying-full, copying-one: the loop of `copy_of`
 pub mod CopyWalks
 -- cut-fits: it never passes the room; one-part: one list alone, first or second; union-number, union-outcome, union-result: on the
 -- numbers of labels it is the union, or has more labels than there is room for

@@ -1,13 +1,11 @@
 -- Rules of comm in a list of labels, and where one leads.
 -- Assumes nothing.
-use Rattle.std.specs.Prelude.{Bool, true, false, not, ◌&&◌, List, [], ◌∷◌, ℕ, zero, suc, ◌+◌, ◌-◌, ◌%◌, ◌^◌, ltb, eqb, length, get_or}
+use Rattle.std.specs.Prelude.{Bool, true, false, not, ◌&&◌, List, [], ◌∷◌, ℕ, zero, suc, ◌+◌, ◌-◌, ◌%◌, ◌^◌, ltb, eqb, length, get_or, Option, Some, None}
 use Rattle.meaning.specs.Labels.{inside}
 use Rattle.labels.specs.Packing.{packed}
 use Rattle.labels.specs.Bags.{bag}
 use Rattle.sets.specs.Inserting.{present}
 use Rattle.rules.specs.declared.State.{State}
-use Rattle.rules.specs.declared.Step.{Step}
-use Rattle.rules.specs.declared.Step.TheVariants.{Nothing, To}
 
 -- A rule of comm: two labels, its left side and that of the one action on its right.
 pub record Exchange : Type 0 where
@@ -37,12 +35,12 @@ applies r rest = not (eqb r.left 0) && (ltb r.left (2 ^ 124) && inside (bag r.le
 
 -- Where a rule leads from a state: it must apply, and the label that is made must not be one of those that are followed by
 -- themselves.
-abbrev pub pick_step : (applies known : Bool) → State → Step
-pick_step true true s = Nothing
-pick_step true false s = To s
-pick_step false known s = Nothing
+abbrev pub pick_step : (applies known : Bool) → State → Option State
+pick_step true true s = None
+pick_step true false s = Some s
+pick_step false known s = None
 
-abbrev pub step_of : List ℕ → Exchange → ℕ → ℕ → Step
+abbrev pub step_of : List ℕ → Exchange → ℕ → ℕ → Option State
 step_of all r rest sum =
     let made = replaced_by r sum in
     pick_step (applies r rest) (present all made) (record { rest = packed (rest - r.left); sum = packed made })

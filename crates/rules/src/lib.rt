@@ -13,10 +13,3 @@ pub struct State {
     pub rest: Label,
     pub sum: Label,
 }
-
-// What an application leads to: nothing that is to be followed, or a state.
-#[derive(Clone, Copy)]
-pub enum Step {
-    Nothing,
-    To(State),
-}

@@ -5,7 +5,7 @@ ghost use Rattle.labels.specs.Packing.{code};
 ghost use Rattle.parts.specs.Parts.{words_of};
 ghost use Rattle.rules.specs.Rules.{exchange_at, applies, step_of};
 
-use crate::{State, Step};
+use crate::State;
 use areas::rows::{labels_in, read_label};
 use labels::Label;
 use labels::bags::{difference, inside, joined};
@@ -33,23 +33,23 @@ pub fn step(
     rules: &[u64],
     i: usize,
     state: State,
-) -> Step
+) -> Option<State>
     ensures { result ≡ step_of (words_of before operand (held words.now)) (exchange_at (held rules.now) i)
         (code state.rest) (code state.sum) }
 {
     if labels_in(rules) <= i {
-        return Step::Nothing;
+        return None;
     }
     let left = read_label(rules, i);
     if applies(left, state.rest) {
         let sum = joined(difference(state.sum, left), read_label(rules, i + 1));
         if contains(words, operand, before, sum) {
-            Step::Nothing
+            None
         } else {
             let rest = difference(state.rest, left);
-            Step::To(State { rest, sum })
+            Some(State { rest, sum })
         }
     } else {
-        Step::Nothing
+        None
     }
 }

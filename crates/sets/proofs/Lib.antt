@@ -6,7 +6,7 @@ pub mod Search
 pub mod Openings
 -- entered-present, entered-full, entered-added: the three answers of `insert`
 pub mod Insertion
--- length-put_in, inserted-room; steady-..: no step shortens a set or takes it past the room; going-..: what is built and what is
+-- length-put_in, inserted-room; handed_on: what a `?` hands on; steady-..: no step shortens a set or takes it past the room; going-..: what is built and what is
 -- to come are the goal; first-large, first-holds: the first of two steps; followed-..: what follows an insertion; next-holds,
 -- next-large, built-holds, built-large; each-append: the labels of two lists one after the other
 pub mod Steps
@@ -22,7 +22,7 @@ pub mod Presence
 -- insert-number, insert-ascending, numbers-rising, each-outcome, enter-outcome: what is built of numbers is what `meaning` makes of
 -- the labels; ascending-same, too-much-more: lists with the same members
 pub mod Refinement
--- taken-outcome: the same of a label that is offered
+-- taken-outcome, summed-outcome: the same of a label that is offered, and of a sum
 pub mod Outcomes
 -- placed-unique, entered-unique, grown-unique: any two results are equal, and the labels that they leave
 pub mod Uniqueness

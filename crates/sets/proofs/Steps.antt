@@ -1,6 +1,7 @@
 -- Sets that are built step by step: a step never shortens a set and never takes it past the room; and what the words hold
 -- after some steps, with what is to come, is what is wanted.
 -- Assumes nothing.
+use Rattle.std.specs.Prelude.{Option, Some, None, Result, Ok, Err, IsErr}
 use mathlib.Core.Path.{◌≡◌, refl, sym, ap, ap₂, ◌∙◌, ◌≡⟨◌⟩◌, ◌∎}
 use mathlib.Core.Bool.{Bool, true, false}
 use mathlib.Core.List.{List, [], ◌∷◌, ◌++◌}
@@ -9,28 +10,24 @@ use native.Mathlib.Omega.{arith}
 use borrow.Author.Tests.{ltb-true}
 use lib.Dec.{ltb}
 use lib.ListN.{length, length-append, length-take, length-drop}
+use Rattle.labels.specs.declared.Label.{Label}
 use Rattle.labels.specs.Packing.{code}
-use Rattle.sets.specs.declared.Inserted.{Inserted}
-use Rattle.sets.specs.declared.Inserted.TheVariants.{Full, Present, Added}
-use Rattle.sets.specs.declared.Built.{Built}
-use Rattle.sets.specs.declared.Built.TheVariants.{TooLarge, Holds}
-use Rattle.sets.specs.declared.Offer.{Offer}
-use Rattle.sets.specs.declared.Offer.TheVariants.{Nothing, TooLong, Next}
+use Rattle.sets.specs.declared.TooLarge.{TooLarge}
 use Rattle.parts.specs.Parts.{set_at, laid, room_at, reach_of}
 use Rattle.sets.specs.Inserting.{present, put_in, pick_inserted, inserted, Entered}
-use Rattle.sets.specs.Building.{Building, done, stopped, pick_built, answer_of, goes_on, and_then, each, followed_by, enter, taken, Grown}
+use Rattle.sets.specs.Building.{Building, done, stopped, pick_built, answer_of, goes_on, and_then, each, followed_by, enter, taken, summed, Grown}
 use Rattle.parts.proofs.LaidSets.{Fits, length-set_at, laid-self, length-laid, set_at-laid, laid-laid}
 
 -- The length of a set under each step.
 pub length-put_in : (s : List ℕ) (w : ℕ) → length (put_in s w) ≡ suc (length s)
 length-put_in s w = simp (length-append, length-take, length-drop) (omega arith)
 
-added-room : (there roomy : Bool) → pick_inserted there roomy ≡ Added → roomy ≡ true
+added-room : (there roomy : Bool) → pick_inserted there roomy ≡ Ok true → roomy ≡ true
 added-room true roomy e = cc
 added-room false true e = refl
 added-room false false e = cc
 
-pub inserted-room : (room w : ℕ) (s : List ℕ) → inserted room w s ≡ Added → length s < room
+pub inserted-room : (room w : ℕ) (s : List ℕ) → inserted room w s ≡ Ok true → length s < room
 unfolding inserted
 inserted-room room w s e = ltb-true (length s) room (added-room (present s w) (ltb (length s) room) e)
 
@@ -59,39 +56,47 @@ module _ (room : ℕ) where
   unfolding Steady
   steady-followed w more p s = go (inserted room w s) refl
     where
-      go : (o : Inserted) → inserted room w s ≡ o
+      go : (o : Result Bool TooLarge) → inserted room w s ≡ o
           → (length s ≤ length (followed_by o w more s).set) × (length (followed_by o w more s).set ≤ max (length s) room)
-      go Full e = omega arith
-      go Present e = omega arith
-      go Added e =
+      go (Err f) e = omega arith
+      go (Ok false) e = omega arith
+      go (Ok true) e =
           let l = inserted-room room w s e in
           let k = length-put_in s w in
           let q = p (put_in s w) in
           omega arith
 
-  pub steady-taken : (step : ℕ → List ℕ → Building) (o : Offer) → ((w : ℕ) → Steady room (step w)) → Steady room (taken step o)
+  pub steady-taken : (step : ℕ → List ℕ → Building) (o : Option Label) → ((w : ℕ) → Steady room (step w)) → Steady room (taken step o)
+  steady-taken step None p = steady-done
+  steady-taken step (Some a) p = p (code a)
+
+  pub steady-summed : (step : ℕ → List ℕ → Building) (o : Option Label) → ((w : ℕ) → Steady room (step w)) → Steady room (summed step o)
   unfolding Steady
-  steady-taken step Nothing p = steady-done
-  steady-taken step TooLong p = λ s. omega arith
-  steady-taken step (Next a) p = p (code a)
+  steady-summed step None p = λ s. omega arith
+  steady-summed step (Some a) p = p (code a)
 
   pub steady-enter : (w : ℕ) → Steady room (enter room w)
   steady-enter w = steady-followed w done steady-done
 
+-- What a `?` hands on, of whichever answer: an error of sets has one value.
+pub handed_on : {X : Type 0} (r : Result X TooLarge) → IsErr r → r ≡ Err (record {})
+handed_on (Ok x) h = cc
+handed_on (Err e) h = refl
+
 -- What an answer says of the set.
-pub built-holds : (t : Bool) (m n : ℕ) → Holds n ≡ pick_built t m → (t ≡ true) × (n ≡ m)
+pub built-holds : (t : Bool) (m n : ℕ) → Ok n ≡ pick_built t m → (t ≡ true) × (n ≡ m)
 built-holds true m n e = (refl, cc)
 built-holds false m n e = (cc, cc)
 
-pub built-large : (t : Bool) (m : ℕ) → TooLarge ≡ pick_built t m → t ≡ false
+pub built-large : (t : Bool) (m : ℕ) → Err (record {}) ≡ pick_built t m → t ≡ false
 built-large true m e = cc
 built-large false m e = refl
 
-pub next-holds : (b : Building) (more : List ℕ → Building) (n : ℕ) → Holds n ≡ answer_of b
+pub next-holds : (b : Building) (more : List ℕ → Building) (n : ℕ) → Ok n ≡ answer_of b
     → (and_then b more ≡ more b.set) × (n ≡ length b.set)
 next-holds b more n e = let p = built-holds b.whole (length b.set) n e in (ap (λ (t : Bool). goes_on t b more) p.0, p.1)
 
-pub next-large : (b : Building) (more : List ℕ → Building) → TooLarge ≡ answer_of b → and_then b more ≡ b
+pub next-large : (b : Building) (more : List ℕ → Building) → Err (record {}) ≡ answer_of b → and_then b more ≡ b
 next-large b more e = ap (λ (t : Bool). goes_on t b more) (built-large b.whole (length b.set) e)
 
 -- Steps after steps, and the labels of two lists one after the other.
@@ -145,13 +150,13 @@ module _ {at len : ℕ} {before now : List ℕ} {rest : List ℕ → Building} {
 
   -- the end, and a step that is stopped before any label
   pub going_end : Going at before now len rest goal → ((s : List ℕ) → rest s ≡ done s)
-      → (Holds len ≡ answer_of goal) × (now ≡ laid at goal.set before)
+      → (Ok len ≡ answer_of goal) × (now ≡ laid at goal.set before)
   going_end x h =
       let e = sym (h x.set) ∙ x.goes in
-      (ap Holds x.count ∙ ap answer_of e, x.held ∙ laid-set at before e)
+      (ap Ok x.count ∙ ap answer_of e, x.held ∙ laid-set at before e)
 
   pub going-stop : Going at before now len rest goal → ((s : List ℕ) → rest s ≡ stopped s)
-      → (TooLarge ≡ answer_of goal) × (now ≡ laid at goal.set before)
+      → (Err (record {}) ≡ answer_of goal) × (now ≡ laid at goal.set before)
   going-stop x h =
       let e = sym (h x.set) ∙ x.goes in
       (ap answer_of e, x.held ∙ laid-set at before e)
@@ -164,7 +169,7 @@ module _ {at len : ℕ} {before now : List ℕ} {rest : List ℕ → Building} {
 -- A step that a function takes at the words as they are: whatever is to come, it is the step at the set; it leads on, or
 -- stops, or is all that was to come.
 module _ (most : ℕ) (step : ℕ → List ℕ → Building)
-    {at len : ℕ} {before now after : List ℕ} {r : Built} {rest : List ℕ → Building} {goal : Building}
+    {at len : ℕ} {before now after : List ℕ} {r : Result ℕ TooLarge} {rest : List ℕ → Building} {goal : Building}
     (steady : (room : ℕ) → Steady room (step room)) (x : Going at before now len rest goal)
     (g : Grown (step (room_at at most (length now))) at len now after r) where
   abbrev stepped : Building
@@ -190,11 +195,11 @@ module _ (most : ℕ) (step : ℕ → List ℕ → Building)
       ≡⟨ laid-laid at x.set before x.fits stepped.set step-bounds.0 ⟩ laid at stepped.set before ∎
 
 module _ (most : ℕ) (step : ℕ → List ℕ → Building) (rest : List ℕ → Building)
-    {at len : ℕ} {before now after : List ℕ} {r : Built} {goal : Building}
+    {at len : ℕ} {before now after : List ℕ} {r : Result ℕ TooLarge} {goal : Building}
     (steady : (room : ℕ) → Steady room (step room))
     (x : Going at before now len (λ s. and_then (step (room_at at most (length before)) s) rest) goal)
     (g : Grown (step (room_at at most (length now))) at len now after r) where
-  pub going-holds : (n : ℕ) → r ≡ Holds n → Going at before after n rest goal
+  pub going-holds : (n : ℕ) → r ≡ Ok n → Going at before after n rest goal
   going-holds n e =
       let b = step (room_at at most (length before)) x.set in
       let p = next-holds b rest n (sym e ∙ step-answer most step steady x g) in
@@ -206,14 +211,14 @@ module _ (most : ℕ) (step : ℕ → List ℕ → Building) (rest : List ℕ �
         goes = sym p.0 ∙ x.goes;
       }
 
-  pub going-large : r ≡ TooLarge → (TooLarge ≡ answer_of goal) × (after ≡ laid at goal.set before)
+  pub going-large : r ≡ Err (record {}) → (Err (record {}) ≡ answer_of goal) × (after ≡ laid at goal.set before)
   going-large e =
       let a = sym e ∙ step-answer most step steady x g in
       let q = sym (next-large (step (room_at at most (length before)) x.set) rest a) ∙ x.goes in
       (a ∙ ap answer_of q, step_words most step steady x g ∙ laid-set at before q)
 
 pub going-last : (most : ℕ) (step : ℕ → List ℕ → Building)
-    {at len : ℕ} {before now after : List ℕ} {r : Built} {goal : Building}
+    {at len : ℕ} {before now after : List ℕ} {r : Result ℕ TooLarge} {goal : Building}
     → ((room : ℕ) → Steady room (step room))
     → Going at before now len (step (room_at at most (length before))) goal
     → Grown (step (room_at at most (length now))) at len now after r
@@ -223,12 +228,12 @@ going-last most step {at} {before = before} steady x g =
 
 -- The first of two steps: it stops, or leads on to the second.
 module _ (at len : ℕ) (first rest : List ℕ → Building) (before now : List ℕ) where
-  pub first-large : Grown first at len before now TooLarge → Grown (λ s. and_then (first s) rest) at len before now TooLarge
+  pub first-large : Grown first at len before now (Err (record {})) → Grown (λ s. and_then (first s) rest) at len before now (Err (record {}))
   first-large x =
       let e = next-large (first (set_at at len before)) rest x.answer in
       record { answer = x.answer ∙ ap answer_of (sym e); words = x.words ∙ laid-set at before (sym e) }
 
-  pub first_holds : (n : ℕ) → length (first (set_at at len before)).set ≤ length before - at → Grown first at len before now (Holds n)
+  pub first_holds : (n : ℕ) → length (first (set_at at len before)).set ≤ length before - at → Grown first at len before now (Ok n)
       → Going at before now n rest (and_then (first (set_at at len before)) rest)
   first_holds n fits x =
       let b = first (set_at at len before) in
@@ -249,7 +254,7 @@ steady-fits at len most first before steady =
     let l = length-set_at at len before in
     omega arith
 
-pub grown-as : {f g : List ℕ → Building} {at len : ℕ} {before after : List ℕ} {r : Built} → ((s : List ℕ) → f s ≡ g s)
+pub grown-as : {f g : List ℕ → Building} {at len : ℕ} {before after : List ℕ} {r : Result ℕ TooLarge} → ((s : List ℕ) → f s ≡ g s)
     → Grown f at len before after r → Grown g at len before after r
 grown-as {at = at} {len} {before} h x =
     let e = h (set_at at len before) in
@@ -259,22 +264,22 @@ grown-as {at = at} {len} {before} h x =
 abbrev pub inserted_then : ℕ → ℕ → (List ℕ → Building) → List ℕ → Building
 inserted_then room w more s = followed_by (inserted room w s) w more s
 
-module _ {at len most w : ℕ} {ls after : List ℕ} {o : Inserted} (x : Entered at len most w ls after o) where
+module _ {at len most w : ℕ} {ls after : List ℕ} {o : Result Bool TooLarge} (x : Entered at len most w ls after o) where
   abbrev room : ℕ
   room = room_at at most (length ls)
 
-  pub followed-stops : (more : List ℕ → Building) → o ≡ Full → Grown (inserted_then room w more) at len ls after TooLarge
+  pub followed-stops : (more : List ℕ → Building) → o ≡ Err (record {}) → Grown (inserted_then room w more) at len ls after (Err (record {}))
   followed-stops more e = let i = sym x.answer ∙ e in record { answer = rw i; words = x.words ∙ rw (e, i) }
 
   module _ (count : ℕ) (reached : count ≡ reach_of at len (length ls)) where
-    pub followed-stays : (more : List ℕ → Building) → o ≡ Present → Grown (inserted_then room w more) at len ls after (Holds count)
+    pub followed-stays : (more : List ℕ → Building) → o ≡ Ok false → Grown (inserted_then room w more) at len ls after (Ok count)
     followed-stays more e =
         let i = sym x.answer ∙ e in
         let l : count ≡ length (set_at at len ls) = reached ∙ sym (length-set_at at len ls) in
-        record { answer = rw i (ap Holds l); words = x.words ∙ rw (e, i) }
+        record { answer = rw i (ap Ok l); words = x.words ∙ rw (e, i) }
 
     -- a label was put in: what goes on from there
-    pub followed-going : (more : List ℕ → Building) → o ≡ Added
+    pub followed-going : (more : List ℕ → Building) → o ≡ Ok true
         → Going at ls after (count + 1) more (inserted_then room w more (set_at at len ls))
     followed-going more e =
         let i = sym x.answer ∙ e in
@@ -283,5 +288,5 @@ module _ {at len most w : ℕ} {ls after : List ℕ} {o : Inserted} (x : Entered
         let roomy = inserted-room room w (set_at at len ls) i in
         record { set = put_in (set_at at len ls) w; held = x.words ∙ rw e; count = omega arith; fits = omega arith; goes = rw i }
 
-    pub followed-ends : o ≡ Added → Grown (enter room w) at len ls after (Holds (count + 1))
+    pub followed-ends : o ≡ Ok true → Grown (enter room w) at len ls after (Ok (count + 1))
     followed-ends e = let p = going_end (followed-going done e) (λ s. refl) in record { answer = p.0; words = p.1 }

@@ -1,5 +1,6 @@
 -- A walk over a part that stands before the set that is built: label by label, each goes through a step.
 -- Assumes nothing.
+use Rattle.std.specs.Prelude.{Result, Ok, Err}
 use mathlib.Core.Path.{◌≡◌, sym, ap, ap₂, ◌∙◌, ◌≡⟨◌⟩◌, ◌∎}
 use mathlib.Core.List.{List, []}
 use Prim.Native.Nat.{ℕ, ◌+◌, ◌-◌, ◌≤◌, ◌<◌, min}
@@ -9,8 +10,7 @@ use lib.ListN.{length, get_or, take, drop, length-take, drop_of_length-le}
 use lib.Seq.{slice-cons}
 use Rattle.labels.specs.Packing.{code, packed}
 use Rattle.labels.proofs.Codes.{code_of}
-use Rattle.sets.specs.declared.Built.{Built}
-use Rattle.sets.specs.declared.Built.TheVariants.{TooLarge, Holds}
+use Rattle.sets.specs.declared.TooLarge.{TooLarge}
 use Rattle.labels.specs.declared.Label.{Label}
 use Rattle.parts.specs.declared.Part.{Part}
 use Rattle.parts.specs.declared.Target.{Target}
@@ -46,7 +46,7 @@ module _ {step : ℕ → ℕ → List ℕ → Building} {at most : ℕ} {before 
   abbrev step_here : ℕ → List ℕ → Building
   step_here = step (room_at at most (length before))
 
-  abbrev pub Walked : List ℕ → Built → Type 0
+  abbrev pub Walked : List ℕ → Result ℕ TooLarge → Type 0
   Walked after r = Grown (each step_here (drop from (take end before))) at start before after r
 
   pub walk-length : (length now ≡ length before) × (count ≤ length now - at)
@@ -56,7 +56,7 @@ module _ {step : ℕ → ℕ → List ℕ → Building} {at most : ℕ} {before 
   pub walk-words : (p : Part) → words_of at p now ≡ words_of at p before
   walk-words p = part_stays p.from p.to x.going
 
-  pub walk_end : end ≤ i → Walked now (Holds count)
+  pub walk_end : end ≤ i → Walked now (Ok count)
   unfolding each
   walk_end k =
       let b = x.within in
@@ -66,7 +66,7 @@ module _ {step : ℕ → ℕ → List ℕ → Building} {at most : ℕ} {before 
 
   -- a label is read and goes through a step that a function takes
   module _ (steady : (room w : ℕ) → Steady room (step room w)) (l : i < end) {label : Label} (read : label ≡ packed (get_or now i 0))
-      {after : List ℕ} {r : Built} (g : Grown (step (room_at at most (length now)) (code label)) at count now after r) where
+      {after : List ℕ} {r : Result ℕ TooLarge} (g : Grown (step (room_at at most (length now)) (code label)) at count now after r) where
     abbrev rest : List ℕ → Building
     rest = each step_here (drop (i + 1) (take end before))
 
@@ -83,19 +83,19 @@ module _ {step : ℕ → ℕ → List ℕ → Building} {at most : ℕ} {before 
     unfolding each
     walk-going = going-as _ x.going (λ s. rw (slice-cons i end before 0 l x.within.1, ← read-before, add-one i))
 
-    pub walk-holds : {n : ℕ} → r ≡ Holds n → Walk step at most before start end from after n (i + 1)
+    pub walk-holds : {n : ℕ} → r ≡ Ok n → Walk step at most before start end from after n (i + 1)
     walk-holds {n} f = record {
       within = x.within;
       going = going-holds most (λ room. step room (code label)) rest (λ room. steady room (code label)) walk-going g n f;
     }
 
-    pub walk-large : r ≡ TooLarge → Walked after TooLarge
+    pub walk-large : r ≡ Err (record {}) → Walked after (Err (record {}))
     walk-large f =
         let q = going-large most (λ room. step room (code label)) rest (λ room. steady room (code label)) walk-going g f in
         record { answer = q.0; words = q.1 }
 
 -- The part that was to be walked over, as far as it lies before the set, and the set, as far as it lies in the list.
-pub walked-part : (step : ℕ → ℕ → List ℕ → Building) (t : Target) (p : Part) {before after : List ℕ} {start end : ℕ} {r : Built}
+pub walked-part : (step : ℕ → ℕ → List ℕ → Building) (t : Target) (p : Part) {before after : List ℕ} {start end : ℕ} {r : Result ℕ TooLarge}
     → start ≡ reach_of t.at t.len (length before) → end ≡ min (min p.to t.at) (length before)
     → Grown (each (step (room_at t.at t.most (length before))) (drop p.from (take end before))) t.at start before after r
     → GrownAt t (λ room. each (step room) (words_of t.at p before)) before after r

@@ -17,14 +17,12 @@ pub fn ascends(words: &[u64], at: usize, len: usize) -> bool
         return true;
     }
     let mut last = read_label(words, at);
-    let mut i = 1;
-    while i < count {
+    for i in 1..count {
         let next = read_label(words, at + i);
         if !below(last, next) {
             return false;
         }
         last = next;
-        i += 1;
     }
     true
 }

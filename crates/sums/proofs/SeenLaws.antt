@@ -1,6 +1,6 @@
 -- A table of labels that a set is known to have: one that stands in it is passed over, and one that is put in is kept.
 -- Assumes nothing.
-use Rattle.std.proofs.Common.{◌≡◌, ℕ, ◌+◌, ◌<◌, ◌≤◌, true, not, eqb, List, length, get_or, set, replicate, sym, refl, ap, ◌∙◌, subst, ap₂, inl, inr, arith, length-set, get_or-set_other, get_or-set_same, eqb-true}
+use Rattle.std.proofs.Common.{◌≡◌, ℕ, ◌+◌, ◌<◌, ◌≤◌, true, not, eqb, List, length, get_or, set, replicate, sym, refl, ap, ◌∙◌, subst, ap₂, inl, inr, arith, length-set, get_or-set_other, get_or-set_same, eqb-true, Result, Ok, Err}
 use native.Mathlib.Decide.{dec_lt, ℕ_discrete}
 use borrow.Author.Tests.{eqb-false, not-true}
 use lib.ListN.{get_or-replicate, length-replicate, get_or-eq_default}
@@ -10,8 +10,7 @@ use Rattle.labels.specs.declared.Label.{Label}
 use Rattle.labels.specs.Packing.{code, packed}
 use Rattle.parts.specs.Parts.{set_at, most_labels, room_at, reach_of}
 use Rattle.parts.proofs.LaidSets.{length-set_at, set_at-reach, laid-self, set_at-laid}
-use Rattle.sets.specs.declared.Built.{Built}
-use Rattle.sets.specs.declared.Built.TheVariants.{TooLarge, Holds}
+use Rattle.sets.specs.declared.TooLarge.{TooLarge}
 use Rattle.sets.specs.Inserting.{inserted, insert_number}
 use Rattle.sets.specs.Building.{Building, done, answer_of, each, enter, GrownAt}
 use Rattle.sets.proofs.Steps.{Steady, steady-enter, steady-fits, built-holds, laid-set}
@@ -69,7 +68,7 @@ enter-there : (room w : ℕ) (s : List ℕ) → Rising s → w ∈ s → enter r
 unfolding inserted
 enter-there room w s r m = rw (in-present s w r m)
 
-same_count : {m n : ℕ} → Holds m ≡ Holds n → m ≡ n
+same_count : {m n : ℕ} → ◌≡◌ {A = Result ℕ TooLarge} (Ok m) (Ok n) → m ≡ n
 same_count e = cc
 
 -- the same of the set as far as it lies in the words
@@ -78,21 +77,21 @@ kept-reached : {seen : List ℕ} {count : ℕ} (len : ℕ) (words : List ℕ) �
 kept-reached len words e x = rw (e, set_at-reach 0 len words) x
 
 pub passed_over : {seen words : List ℕ} {len count : ℕ} (slot w : ℕ) → Kept seen (set_at 0 len words) → true ≡ is_kept seen slot w
-    → count ≡ reach_of 0 len (length words) → GrownKept len (λ room. enter room w) words words seen (Holds count)
+    → count ≡ reach_of 0 len (length words) → GrownKept len (λ room. enter room w) words words seen (Ok count)
 passed_over {seen} {words} {len} {count} slot w x k e =
     let p = kept_there slot w x (sym k) in
     let same = enter-there (room_at 0 most_labels (length words)) w (set_at 0 len words) p.0 p.1 in
     record {
       grown = record {
-        answer = ap Holds (e ∙ sym (length-set_at 0 len words)) ∙ ap answer_of (sym same);
+        answer = ap Ok (e ∙ sym (length-set_at 0 len words)) ∙ ap answer_of (sym same);
         words = sym (laid-self 0 len words) ∙ laid-set 0 words (sym same);
       };
       table = λ n d. subst (λ (m : ℕ). Kept seen (set_at 0 m words)) (same_count d) (kept-reached len words e x);
     }
 
 -- A set that would pass a limit: nothing is asked of the table any more.
-pub grown-stops : {len : ℕ} {build : ℕ → List ℕ → Building} {before after seen : List ℕ} {r : Built}
-    → GrownAt (at_start len) build before after r → r ≡ TooLarge → GrownKept len build before after seen TooLarge
+pub grown-stops : {len : ℕ} {build : ℕ → List ℕ → Building} {before after seen : List ℕ} {r : Result ℕ TooLarge}
+    → GrownAt (at_start len) build before after r → r ≡ Err (record {}) → GrownKept len build before after seen (Err (record {}))
 grown-stops {len} {build} {before} {after} g e = record {
   grown = subst (GrownAt (at_start len) build before after) e g;
   table = λ n d. absurd (let z : ◌≡◌ {A = ℕ} 0 1 = cc d in omega arith);
@@ -115,9 +114,9 @@ kept-entered {seen} {s} room slot w x h = elim (dec_lt 0 (length seen)) [
       (kept-with slot w (kept_more x (rising-insert w s r) (λ v m. (in_insert w s v).1 (inr m))) ((in_insert w s w).1 (inl refl)))
 ]
 
-pub now-kept : {seen before after : List ℕ} {len n : ℕ} {r : Built} (slot w : ℕ) → Kept seen (set_at 0 len before)
-    → GrownAt (at_start len) (λ room. enter room w) before after r → r ≡ Holds n
-    → GrownKept len (λ room. enter room w) before after (set seen slot w) (Holds n)
+pub now-kept : {seen before after : List ℕ} {len n : ℕ} {r : Result ℕ TooLarge} (slot w : ℕ) → Kept seen (set_at 0 len before)
+    → GrownAt (at_start len) (λ room. enter room w) before after r → r ≡ Ok n
+    → GrownKept len (λ room. enter room w) before after (set seen slot w) (Ok n)
 now-kept {seen} {before} {after} {len} {n} slot w x g e =
     let room = room_at 0 most_labels (length before) in
     let b = enter room w (set_at 0 len before) in
@@ -143,14 +142,14 @@ table-start {len = len} {before = before} x e f = record { walk = row-start e f;
 
 module _ {step : ℕ → ℕ → List ℕ → Building} {labels : List ℕ} {len : ℕ} {before : List ℕ} {end : ℕ} {seen now : List ℕ} {count i : ℕ}
     (x : TableWalk step labels len before end seen now count i) where
-  pub table-end : end ≤ i → GrownKept len (λ room. each (step room) labels) before now seen (Holds count)
+  pub table-end : end ≤ i → GrownKept len (λ room. each (step room) labels) before now seen (Ok count)
   table-end h = record { grown = row-end x.walk h; table = λ n e. subst (λ (m : ℕ). Kept seen (set_at 0 m now)) (same_count e) x.kept }
 
   -- a label is read and goes through a step that a function takes
   module _ (steady : (room w : ℕ) → Steady room (step room w)) (l : i < end) {label : Label} (read : label ≡ packed (get_or labels i 0))
-      {after more : List ℕ} {r : Built} (g : GrownKept count (λ room. step room (code label)) now after more r) where
-    pub table-holds : {n : ℕ} → r ≡ Holds n → TableWalk step labels len before end more after n (i + 1)
+      {after more : List ℕ} {r : Result ℕ TooLarge} (g : GrownKept count (λ room. step room (code label)) now after more r) where
+    pub table-holds : {n : ℕ} → r ≡ Ok n → TableWalk step labels len before end more after n (i + 1)
     table-holds {n} e = record { walk = row-holds x.walk steady l read g.grown e; kept = g.table n e }
 
-    pub table-large : r ≡ TooLarge → GrownKept len (λ room. each (step room) labels) before after more TooLarge
+    pub table-large : r ≡ Err (record {}) → GrownKept len (λ room. each (step room) labels) before after more (Err (record {}))
     table-large e = grown-stops (row-large x.walk steady l read g.grown e) refl

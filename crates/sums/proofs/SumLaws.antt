@@ -1,22 +1,21 @@
 -- The sums of two rows, row by row, and what they make of the numbers of labels.
 -- Assumes nothing.
-use Rattle.std.proofs.Common.{◌≡◌, ℕ, ◌≤◌, Bool, true, false, ltb, List, [], ◌∷◌, ◌++◌, map, length, refl, ap, subst, ltb-false, ltb-true}
+use Rattle.std.proofs.Common.{◌≡◌, ℕ, ◌≤◌, Bool, true, false, ltb, List, [], ◌∷◌, ◌++◌, map, length, refl, ap, subst, ltb-false, ltb-true, Some, None}
 use Rattle.meaning.specs.Labels.{Label, size, number, plus}
 use Rattle.meaning.specs.Sets.{ascending, spread, product}
 use Rattle.meaning.specs.Rounds.{pick}
 use Rattle.meaning.proofs.Bags.{length-plus}
-use Rattle.labels.specs.declared.Sum.TheVariants.{Over, Of}
 use Rattle.labels.specs.Packing.{packed}
 use Rattle.labels.specs.Bags.{sum_of}
 use Rattle.labels.proofs.Refinement.{Packs, sum_number}
-use Rattle.sets.specs.Building.{enter, summed}
+use Rattle.sets.specs.Building.{enter}
 use Rattle.sets.proofs.Refinement.{AllPack, each-outcome}
-use Rattle.sets.proofs.Outcomes.{Offered, one, over, Anything, Result, taken-outcome}
-use Rattle.sets.proofs.Steps.{Steady, steady-each, steady-enter, steady-taken}
+use Rattle.sets.proofs.Outcomes.{Summed, total, over, Anything, Result, summed-outcome}
+use Rattle.sets.proofs.Steps.{Steady, steady-each, steady-enter, steady-summed}
 use Rattle.sums.specs.Sums.{sum_in, row_of, sums_of}
 
 pub steady-sum_in : (room a w : ℕ) → Steady room (sum_in room a w)
-steady-sum_in room a w = steady-taken room (enter room) (summed (sum_of a w)) (steady-enter room)
+steady-sum_in room a w = steady-summed room (enter room) (sum_of a w) (steady-enter room)
 
 pub steady-row_of : (room : ℕ) (bs : List ℕ) (a : ℕ) → Steady room (row_of room bs a)
 steady-row_of room bs a = steady-each room (sum_in room a) bs (steady-sum_in room a)
@@ -25,22 +24,22 @@ pub steady-sums_of : (room : ℕ) (ls bs : List ℕ) → Steady room (sums_of ro
 steady-sums_of room ls bs = steady-each room (row_of room bs) ls (steady-row_of room bs)
 
 -- What they make of the numbers of labels.
-plus-offers : {names : ℕ} (t : Bool) (c : Label) → ltb 31 (size c) ≡ t → length c ≡ names
-    → Offered names (summed (pick t Over (Of (packed (number c))))) (c ∷ [])
-plus-offers true c e w = over c (ltb-true 31 (size c) e)
-plus-offers false c e w = one c (record { wide = w; few = ltb-false 31 (size c) e })
+plus-sums : {names : ℕ} (t : Bool) (c : Label) → ltb 31 (size c) ≡ t → length c ≡ names
+    → Summed names (pick t None (Some (packed (number c)))) (c ∷ [])
+plus-sums true c e w = over c (ltb-true 31 (size c) e)
+plus-sums false c e w = total c (record { wide = w; few = ltb-false 31 (size c) e })
 
-sum-offers : (names : ℕ) → names ≤ 24 → (a b : Label) → Packs names a → Packs names b
-    → Offered names (summed (sum_of (number a) (number b))) (plus a b ∷ [])
-sum-offers names few a b p q =
-    rw (sum_number a b few p q) (plus-offers _ (plus a b) refl (length-plus names a b p.wide q.wide))
+sum-sums : (names : ℕ) → names ≤ 24 → (a b : Label) → Packs names a → Packs names b
+    → Summed names (sum_of (number a) (number b)) (plus a b ∷ [])
+sum-sums names few a b p q =
+    rw (sum_number a b few p q) (plus-sums _ (plus a b) refl (length-plus names a b p.wide q.wide))
 
 row-outcome : (names room : ℕ) → names ≤ 24 → (a : Label) → Packs names a
     → (l M : List Label) → AllPack names l → AllPack names M
     → Result names room (spread (λ b. plus a b ∷ []) l ++ M) (row_of room (map number l) (number a) (map number (ascending M)))
 row-outcome names room few a x l M p q =
     each-outcome names room Anything (λ K L w v i. tt) (sum_in room (number a)) (λ b. plus a b ∷ [])
-    (λ b N r s i. taken-outcome names room (sum-offers names few a b x r) N s) l M p q tt
+    (λ b N r s i. summed-outcome names room (sum-sums names few a b x r) N s) l M p q tt
 
 spread-turn : (f : Label → Label) (t : List Label) → spread (λ b. f b ∷ []) t ≡ map f t
 unfolding spread

@@ -2,11 +2,11 @@
 -- Assumes nothing.
 use Rattle.std.specs.Prelude.{ℕ, ◌<◌, ◌≤◌, List, length, slice_index}
 use Rattle.labels.specs.Bags.{sum_of, size_of}
-use Rattle.sets.specs.Building.{Building, each, enter, taken, summed}
+use Rattle.sets.specs.Building.{Building, each, enter, summed}
 
 -- Each label of the first added to each of the second.
 abbrev pub sum_in : ℕ → ℕ → ℕ → List ℕ → Building
-sum_in room a w = taken (enter room) (summed (sum_of a w))
+sum_in room a w = summed (enter room) (sum_of a w)
 
 abbrev pub row_of : ℕ → List ℕ → ℕ → List ℕ → Building
 row_of room bs a = each (sum_in room a) bs

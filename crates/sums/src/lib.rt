@@ -8,7 +8,7 @@ ghost use Rattle.labels.specs.Bags.{size_of, sum_of};
 ghost use Rattle.labels.specs.Packing.{code};
 ghost use Rattle.parts.specs.Parts.{set_at};
 ghost use Rattle.extents.specs.Extents.{at_start};
-ghost use Rattle.sets.specs.Building.{GrownAt, enter, taken, summed};
+ghost use Rattle.sets.specs.Building.{GrownAt, enter, summed};
 ghost use Rattle.sums.specs.Seen.{Kept, GrownKept};
 ghost use Rattle.sums.specs.Sums.{row_of, sums_of, NoLarger};
 
@@ -16,9 +16,9 @@ use crate::few::put_each;
 use crate::seen::{SLOTS_WORDS, enter_once};
 use areas::rows::{labels_in, read_label};
 use labels::bags::{joined, size, sum};
-use labels::{Label, MOST_ACTIONS, Sum};
+use labels::{Label, MOST_ACTIONS};
 use parts::placing::reach;
-use sets::Built;
+use sets::TooLarge;
 use sets::ascending::ascends;
 
 mod few;
@@ -30,24 +30,27 @@ const FEW: usize = 511;
 const SHORT: usize = 4;
 
 // A sum goes into the set, unless it has over 31 actions.
-fn take_sum(seen: &mut [u64], out: &mut [u64], len: usize, res: Sum) -> Built
+fn take_sum(
+    seen: &mut [u64],
+    out: &mut [u64],
+    len: usize,
+    res: Option<Label>,
+) -> Result<usize, TooLarge>
     requires { Kept (held seen.old) (set_at 0 len (held out.old)) }
-    ensures { GrownKept len (λ room. taken (enter room) (summed res))
+    ensures { GrownKept len (λ room. summed (enter room) res)
         (held out.old) (held out.new) (held seen.new) result }
 {
-    match res {
-        Sum::Over => Built::TooLarge,
-        Sum::Of(total) => enter_once(seen, out, len, total),
-    }
+    let total = res.ok_or(TooLarge)?;
+    enter_once(seen, out, len, total)
 }
 
 // The sum of two labels. Where it is known that they have at most 31 actions together these are not counted once more.
-fn sum_of(fits: bool, a: Label, b: Label) -> Sum
+fn sum_of(fits: bool, a: Label, b: Label) -> Option<Label>
     requires { fits ≡ true → size_of (code a) + size_of (code b) ≤ 31 }
     ensures { result ≡ sum_of (code a) (code b) }
 {
     if fits {
-        return Sum::Of(joined(a, b));
+        return Some(joined(a, b));
     }
     sum(a, b)
 }
@@ -58,13 +61,8 @@ fn largest(row: &[u64]) -> u64
 {
     let mut most = 0;
     let end = labels_in(row);
-    let mut i = 0;
-    while i < end {
-        let here = size(read_label(row, i));
-        if most < here {
-            most = here;
-        }
-        i += 1;
+    for i in 0..end {
+        most = most.max(size(read_label(row, i)));
     }
     most
 }
@@ -77,57 +75,46 @@ fn add_row(
     seen: &mut [u64],
     out: &mut [u64],
     len: usize,
-) -> Built
+) -> Result<usize, TooLarge>
     requires { Kept (held seen.old) (set_at 0 len (held out.old)) × (fits ≡ true → NoLarger (31 - size_of (code label)) (held by.now)) }
     ensures { GrownKept len (λ room. row_of room (held by.now) (code label))
         (held out.old) (held out.new) (held seen.new) result }
 {
     let mut count = reach(out, 0, len);
     let end = labels_in(by);
-    let mut i = 0;
-    while i < end {
+    for i in 0..end {
         let result = sum_of(fits, label, read_label(by, i));
-        let step = take_sum(seen, out, count, result);
-        let Built::Holds(n) = step else {
-            return Built::TooLarge;
-        };
-        count = n;
-        i += 1;
+        count = take_sum(seen, out, count, result)?;
     }
-    Built::Holds(count)
+    Ok(count)
 }
 
 // The sums of two rows, with a table that is kept from one label of the first row to the next. No label of the second has more actions
 // than a number says.
-fn add_each(a: &[u64], b: &[u64], most: u64, seen: &mut [u64], out: &mut [u64], len: usize) -> Built
+fn add_each(
+    a: &[u64],
+    b: &[u64],
+    most: u64,
+    seen: &mut [u64],
+    out: &mut [u64],
+    len: usize,
+) -> Result<usize, TooLarge>
     requires { Kept (held seen.old) (set_at 0 len (held out.old)) × (most ≤ 31) × NoLarger most (held b.now) }
     ensures { GrownAt (at_start len) (λ room. sums_of room (held a.now) (held b.now))
         (held out.old) (held out.new) result }
 {
     let mut count = reach(out, 0, len);
     let end = labels_in(a);
-    let mut i = 0;
-    while i < end {
+    for i in 0..end {
         let label = read_label(a, i);
-        let step = add_row(
-            label,
-            b,
-            size(label) + most <= MOST_ACTIONS,
-            seen,
-            out,
-            count,
-        );
-        let Built::Holds(n) = step else {
-            return Built::TooLarge;
-        };
-        count = n;
-        i += 1;
+        let fits = size(label) + most <= MOST_ACTIONS;
+        count = add_row(label, b, fits, seen, out, count)?;
     }
-    Built::Holds(count)
+    Ok(count)
 }
 
 // The same with a table whose slots are still empty, if the set ascends: one with no slots keeps nothing.
-fn add_many(a: &[u64], b: &[u64], out: &mut [u64], len: usize) -> Built
+fn add_many(a: &[u64], b: &[u64], out: &mut [u64], len: usize) -> Result<usize, TooLarge>
     ensures { GrownAt (at_start len) (λ room. sums_of room (held a.now) (held b.now))
         (held out.old) (held out.new) result }
 {
@@ -149,7 +136,7 @@ fn many_sums(a: &[u64], b: &[u64]) -> bool {
 
 // The sums of two rows, with a table if they are many. As two ways lead to the table, the compiler keeps it in a frame of its own: in the
 // frame of this function its pages would be touched by every call. The rows are lent anew: as they came they would be copied whole.
-pub fn add_sums(a: &[u64], b: &[u64], out: &mut [u64], len: usize) -> Built
+pub fn add_sums(a: &[u64], b: &[u64], out: &mut [u64], len: usize) -> Result<usize, TooLarge>
     ensures { GrownAt (at_start len) (λ room. sums_of room (held a.now) (held b.now))
         (held out.old) (held out.new) result }
 {

@@ -12,7 +12,7 @@ use extents::at_start;
 use labels::Label;
 use labels::packing::{same, tau};
 use parts::placing::reach;
-use sets::Built;
+use sets::TooLarge;
 use sets::inserting::enter;
 
 // How many slots a table has: a prime number by which nearly all labels over a few names have slots of their own. And its words.
@@ -23,8 +23,8 @@ pub const SLOTS_WORDS: usize = 7418;
 // The slot of a label: by its number while that takes one word, and else by a sum in which the upper word tells. It decides on the time
 // that is taken and on nothing else.
 fn slot(label: Label) -> usize {
-    let upper = std::num::wrapping_add_u64(label.upper, label.upper << 17);
-    std::num::wrapping_add_u64(label.lower, upper) as usize % SLOTS
+    let upper = label.upper.wrapping_add(label.upper << 17);
+    label.lower.wrapping_add(upper) as usize % SLOTS
 }
 
 // Whether a slot keeps a label; a slot past the end of the table keeps none.
@@ -38,19 +38,21 @@ fn is_kept(seen: &[u64], at: usize, label: Label) -> bool
 }
 
 // Puts a label into the set at the start of the words, unless the table keeps it, and keeps it then.
-pub fn enter_once(seen: &mut [u64], out: &mut [u64], len: usize, label: Label) -> Built
+pub fn enter_once(
+    seen: &mut [u64],
+    out: &mut [u64],
+    len: usize,
+    label: Label,
+) -> Result<usize, TooLarge>
     requires { Kept (held seen.old) (set_at 0 len (held out.old)) }
     ensures { GrownKept len (λ room. enter room (code label))
         (held out.old) (held out.new) (held seen.new) result }
 {
     let at = slot(label);
     if is_kept(seen, at, label) {
-        return Built::Holds(reach(out, 0, len));
+        return Ok(reach(out, 0, len));
     }
-    let answer = enter(out, at_start(len), label);
-    let Built::Holds(n) = answer else {
-        return Built::TooLarge;
-    };
+    let count = enter(out, at_start(len), label)?;
     write_label(seen, at, label);
-    Built::Holds(n)
+    Ok(count)
 }

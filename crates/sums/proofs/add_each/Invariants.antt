@@ -1,6 +1,6 @@
 -- `sums::add_each` meets its contract. The loop's invariant: the sums with the labels from the i-th on are to come, and the set has those in
--- the table; the measure is how many are to come. Assumes nothing.
-use Rattle.std.proofs.Common.{◌≡◌, ◌-◌, length}
+-- the table. Assumes nothing.
+use Rattle.std.proofs.Common.{◌≡◌, length}
 use Rattle.areas.specs.Rows.{held}
 use Rattle.sums.specs.Sums.{row_of}
 use Rattle.sums.proofs.SeenLaws.{TableWalk}
@@ -10,6 +10,3 @@ abbrev pub invariant-loop-i : goal.invariant-loop-i
 invariant-loop-i l =
     TableWalk (λ room. row_of room (held l.b)) (held l.a) l.len (held l.initial.out) l.end (held l.seen) (held l.out) l.count l.i
     × (length l.seen ≡ length l.initial.seen) × (length l.out ≡ length l.initial.out)
-
-abbrev pub decreases-loop-i : goal.decreases-loop-i
-decreases-loop-i l = l.end - l.i

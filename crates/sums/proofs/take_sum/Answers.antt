@@ -2,14 +2,15 @@
 use Rattle.std.proofs.Common.{sym, refl}
 use Rattle.areas.specs.Rows.{held}
 use Rattle.parts.proofs.LaidSets.{laid-self}
+use Rattle.sets.proofs.Steps.{handed_on}
 use Rattle.sums.proofs.SeenLaws.{grown-stops}
 use Rattle.sums.proofs.take_sum.Goals as goal
 
-pub returns-in-Over : goal.returns-in-Over
-returns-in-Over c =
+pub returns-in_err-total : goal.returns-in_err-total
+returns-in_err-total c =
     let a = c.args in
-    grown-stops (rw c.in-Over.is (record { answer = refl; words = sym (laid-self 0 a.len (held a.out.now)) })) refl
+    rw (handed_on c.from_residual.result c.from_residual.ensures.0, c.in_err-total.ensures.ok_part)
+    (grown-stops (record { answer = refl; words = sym (laid-self 0 a.len (held a.out.now)) }) refl)
 
-pub returns-in-Of : goal.returns-in-Of
-returns-in-Of c =
-    rw c.in-Of.is c.enter_once.ensures
+pub returns : goal.returns
+returns c = rw c.in_ok-total.ensures.ok_part c.enter_once.ensures

@@ -1,6 +1,7 @@
 use mathlib.Core.Path.{refl, ◌∙◌}
 use native.Mathlib.Omega.{arith}
 use Rattle.areas.proofs.Held.{held-long}
+use Rattle.sets.proofs.Steps.{handed_on}
 use Rattle.extents.proofs.RowWalks.{row-end}
 use Rattle.exchanges.proofs.LabelByLabel.{closing-start, closing-holds, closing-large}
 use Rattle.exchanges.proofs.closing.put_each.Goals as goal
@@ -8,33 +9,28 @@ use Rattle.exchanges.proofs.closing.put_each.Goals as goal
 pub loop-i-init : goal.loop-i-init
 loop-i-init c = (closing-start c.requires c.labels_in-end.ensures, refl, refl)
 
-pub put-grown-requires : goal.put-grown-requires
-put-grown-requires c = c.loop-i.invariant.0.walking
+pub put-requires : goal.put-requires
+put-requires c = c.loop-i.invariant.0.walking
 
-pub shape_of-states-in_default : goal.shape_of-states-in_default
-shape_of-states-in_default c =
-    c.put-grown.auto.states ∙ c.loop-i.invariant.1
+pub shape_of-states-in_err-count : goal.shape_of-states-in_err-count
+shape_of-states-in_err-count c =
+    c.put.auto.states ∙ c.loop-i.invariant.1
 
-pub shape_of-out-in_default : goal.shape_of-out-in_default
-shape_of-out-in_default c =
-    c.put-grown.auto.out ∙ c.loop-i.invariant.2
+pub shape_of-out-in_err-count : goal.shape_of-out-in_err-count
+shape_of-out-in_err-count c =
+    c.put.auto.out ∙ c.loop-i.invariant.2
 
-pub returns-in_default : goal.returns-in_default
-returns-in_default c =
-    closing-large c.loop-i.invariant.0 c.loop-i-test.true c.read_label-label.ensures c.labels_in-last.ensures
-    c.put-grown.ensures c.in_default.is
-
-pub overflow_add-i : goal.overflow_add-i
-overflow_add-i c = omega arith
-
-pub loop-i-smaller : goal.loop-i-smaller
-loop-i-smaller c = omega arith
+pub returns-in_err-count : goal.returns-in_err-count
+returns-in_err-count c =
+    rw (handed_on c.from_residual.result c.from_residual.ensures.0)
+    (closing-large c.loop-i.invariant.0 c.loop-i-test.true c.read_label-label.ensures c.labels_in-last.ensures
+    c.in_err-count.ensures refl)
 
 pub loop-i-preserved : goal.loop-i-preserved
 loop-i-preserved c =
-    let kept = c.put-grown.auto in (
+    let kept = c.put.auto in (
       closing-holds c.loop-i.invariant.0 c.loop-i-test.true c.read_label-label.ensures c.labels_in-last.ensures
-          c.put-grown.ensures c.in-Holds.is (held-long _ _ kept.states),
+          c.in_ok-count.ensures refl (held-long _ _ kept.states),
       kept.states ∙ c.loop-i.invariant.1,
       kept.out ∙ c.loop-i.invariant.2,
     )

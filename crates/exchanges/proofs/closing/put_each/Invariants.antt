@@ -1,7 +1,6 @@
 -- `exchanges::closing::put_each` meets its contract. The loop's invariant: what the labels from the i-th on give is to come, and what
--- is kept is true of the set; the measure is how many labels are left. Assumes nothing.
+-- is kept is true of the set. Assumes nothing.
 use mathlib.Core.Path.{◌≡◌}
-use Prim.Native.Nat.{◌-◌}
 use lib.ListN.{length}
 use Rattle.areas.specs.Rows.{held}
 use Rattle.exchanges.proofs.LabelByLabel.{Closing}
@@ -11,6 +10,3 @@ abbrev pub invariant-loop-i : goal.invariant-loop-i
 invariant-loop-i l =
     Closing (held l.labels) (held l.operand) (held l.rules) (held l.initial.out) l.len l.end (held l.states) (held l.out) l.count l.i
     × (length l.states ≡ length l.initial.states) × (length l.out ≡ length l.initial.out)
-
-abbrev pub decreases-loop-i : goal.decreases-loop-i
-decreases-loop-i l = l.end - l.i

@@ -1,5 +1,6 @@
 use mathlib.Core.Path.{refl, ◌∙◌}
 use native.Mathlib.Omega.{arith}
+use Rattle.sets.proofs.Steps.{handed_on}
 use Rattle.extents.proofs.RowWalks.{row-start, row-length, row-end, row-holds, row-large}
 use Rattle.images.specs.Imaging.{taken_by}
 use Rattle.images.proofs.Images.{steady-offered, taken_made, lower-small}
@@ -11,33 +12,28 @@ loop-i-init c = (row-start c.reach-count.ensures c.labels_in-end.ensures, refl)
 pub made-offer-requires : goal.made-offer-requires
 made-offer-requires c = (c.requires, lower-small _ c.read_label-label.ensures)
 
-pub take-step-requires : goal.take-step-requires
-take-step-requires c = (row-length c.loop-i.invariant.0).1
+pub take-requires : goal.take-requires
+take-requires c = (row-length c.loop-i.invariant.0).1
 
-pub shape_of-out-in_default : goal.shape_of-out-in_default
-shape_of-out-in_default c =
-    c.take-step.auto.out ∙ c.loop-i.invariant.1
+pub shape_of-out-in_err-count : goal.shape_of-out-in_err-count
+shape_of-out-in_err-count c =
+    c.take.auto.out ∙ c.loop-i.invariant.1
 
-pub returns-in_default : goal.returns-in_default
-returns-in_default c =
+pub returns-in_err-count : goal.returns-in_err-count
+returns-in_err-count c =
     let a = c.args in
     let list = taken_by a.way a.list.now in
-    row-large c.loop-i.invariant.0 (λ room. steady-offered room a.way list) c.loop-i-test.true c.read_label-label.ensures
-    (taken_made a.way list c.read_label-label.result c.made-offer.ensures c.take-step.ensures) c.in_default.is
-
-pub overflow_add-i : goal.overflow_add-i
-overflow_add-i c = omega arith
-
-pub loop-i-smaller : goal.loop-i-smaller
-loop-i-smaller c = omega arith
+    rw (handed_on c.from_residual.result c.from_residual.ensures.0)
+    (row-large c.loop-i.invariant.0 (λ room. steady-offered room a.way list) c.loop-i-test.true c.read_label-label.ensures
+    (taken_made a.way list c.read_label-label.result c.made-offer.ensures c.in_err-count.ensures) refl)
 
 pub loop-i-preserved : goal.loop-i-preserved
 loop-i-preserved c =
     let a = c.args in
     let list = taken_by a.way a.list.now in (
       row-holds c.loop-i.invariant.0 (λ room. steady-offered room a.way list) c.loop-i-test.true c.read_label-label.ensures
-          (taken_made a.way list c.read_label-label.result c.made-offer.ensures c.take-step.ensures) c.in-Holds.is,
-      c.take-step.auto.out ∙ c.loop-i.invariant.1,
+          (taken_made a.way list c.read_label-label.result c.made-offer.ensures c.in_ok-count.ensures) refl,
+      c.take.auto.out ∙ c.loop-i.invariant.1,
     )
 
 pub shape_of-out : goal.shape_of-out

@@ -1,6 +1,7 @@
 -- `rules::steps::step` meets its contract: the tests are whether the rule applies, and whether the label is followed by itself. Where
 -- no rule stands, what is read is one that takes nothing.
 -- Assumes nothing.
+use Rattle.std.specs.Prelude.{Some, None}
 use mathlib.Core.Path.{◌≡◌, sym, ap, ap₂, ◌∙◌}
 use mathlib.Core.Bool.{Bool, true, false}
 use mathlib.Core.List.{List}
@@ -12,7 +13,6 @@ use Rattle.areas.specs.Rows.{held}
 use Rattle.parts.specs.Parts.{words_of}
 use Rattle.sets.specs.Inserting.{present}
 use Rattle.rules.specs.declared.State.{State}
-use Rattle.rules.specs.declared.Step.TheVariants.{Nothing, To}
 use Rattle.rules.specs.Rules.{exchange_at, applies, replaced_by, pick_step}
 use Rattle.rules.proofs.steps.step.Goals as goal
 use Rattle.rules.proofs.steps.step.Goals.{After-applies, After-contains}
@@ -44,13 +44,13 @@ known c =
     c.contains.ensures ∙ ap (present (words_of a.before a.operand (held a.words.now))) (code_of (made c))
 
 -- where it leads, by the two tests
-not-applied : {t : Bool} (k : Bool) (s : State) → false ≡ t → Nothing ≡ pick_step t k s
+not-applied : {t : Bool} (k : Bool) (s : State) → false ≡ t → None ≡ pick_step t k s
 not-applied k s e = rw (← e)
 
-by_itself : {t k : Bool} (s : State) → true ≡ t → true ≡ k → Nothing ≡ pick_step t k s
+by_itself : {t k : Bool} (s : State) → true ≡ t → true ≡ k → None ≡ pick_step t k s
 by_itself s e f = rw (← e, ← f)
 
-leads-on : {t k : Bool} (s : State) → true ≡ t → false ≡ k → To s ≡ pick_step t k s
+leads-on : {t k : Bool} (s : State) → true ≡ t → false ≡ k → Some s ≡ pick_step t k s
 leads-on s e f = rw (← e, ← f)
 
 pub returns-then-labels_in-i : goal.returns-then-labels_in-i
@@ -67,7 +67,7 @@ pub returns-else-contains : goal.returns-else-contains
 returns-else-contains c =
     let w = code c.args.state.rest in
     let rest = c.difference-rest.ensures ∙ ap (λ x. packed (w - x)) (code_of c.read_label-left.ensures) in
-    ap₂ (λ x y. To (record { rest = x; sum = y })) rest (made (goal.at.returns-else-contains c).After-contains)
+    ap₂ (λ x y. Some (record { rest = x; sum = y })) rest (made (goal.at.returns-else-contains c).After-contains)
     ∙ leads-on _ (sym c.if-applies.true ∙ fits (goal.at.returns-else-contains c).After-applies)
     (sym c.if-contains.false ∙ known (goal.at.returns-else-contains c).After-contains)
 

@@ -1,6 +1,4 @@
--- `sets::ascending::ascends` meets its contract. The loop's invariant is `Climbing`; the measure is how many labels are left.
--- Assumes nothing.
-use Prim.Native.Nat.{◌-◌}
+-- `sets::ascending::ascends` meets its contract. The loop's invariant is `Climbing`. Assumes nothing.
 use Rattle.areas.specs.Rows.{held}
 use Rattle.labels.specs.Packing.{code}
 use Rattle.parts.specs.Parts.{set_at}
@@ -9,6 +7,3 @@ use Rattle.sets.proofs.ascending.ascends.Given as goal
 
 abbrev pub invariant-loop-i : goal.invariant-loop-i
 invariant-loop-i l = Climbing (set_at l.at l.len (held l.words)) (code l.last) l.i
-
-abbrev pub decreases-loop-i : goal.decreases-loop-i
-decreases-loop-i l = l.count - l.i

@@ -1,6 +1,5 @@
--- `sums::few::put_row` meets its contract. The loop's invariant: the sums with the labels from the i-th on are to come; the measure is how
--- many they are. Assumes nothing.
-use Rattle.std.proofs.Common.{◌≡◌, ◌-◌, length}
+-- `sums::few::put_row` meets its contract. The loop's invariant: the sums with the labels from the i-th on are to come. Assumes nothing.
+use Rattle.std.proofs.Common.{◌≡◌, length}
 use Rattle.labels.specs.Packing.{code}
 use Rattle.areas.specs.Rows.{held}
 use Rattle.extents.proofs.RowWalks.{RowWalk}
@@ -10,6 +9,3 @@ use Rattle.sums.proofs.few.put_row.Given as goal
 abbrev pub invariant-loop-i : goal.invariant-loop-i
 invariant-loop-i l =
     RowWalk (λ room. sum_in room (code l.label)) (held l.by) l.len (held l.initial.out) l.end (held l.out) l.count l.i × (length l.out ≡ length l.initial.out)
-
-abbrev pub decreases-loop-i : goal.decreases-loop-i
-decreases-loop-i l = l.end - l.i

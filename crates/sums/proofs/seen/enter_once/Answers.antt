@@ -1,6 +1,7 @@
 -- `sums::seen::enter_once` meets its contract. Assumes nothing.
-use Rattle.std.proofs.Common.{sym, ◌∙◌}
+use Rattle.std.proofs.Common.{sym, refl, ◌∙◌}
 use Rattle.labels.specs.Packing.{code}
+use Rattle.sets.proofs.Steps.{handed_on}
 use Rattle.sums.proofs.SeenLaws.{passed_over, grown-stops, now-kept}
 use Rattle.sums.proofs.seen.enter_once.Goals as goal
 
@@ -9,12 +10,12 @@ returns-then-is_kept c =
     passed_over c.slot-at.result (code c.args.label) c.requires (sym c.if-is_kept.true ∙ c.is_kept.ensures)
     c.reach.ensures
 
-pub returns-in_default : goal.returns-in_default
-returns-in_default c =
-    grown-stops (rw c.at_start.ensures at c.enter-answer.ensures) c.in_default.is
+pub returns-in_err-count : goal.returns-in_err-count
+returns-in_err-count c =
+    rw (handed_on c.from_residual.result c.from_residual.ensures.0)
+    (grown-stops (rw c.at_start.ensures at c.in_err-count.ensures) refl)
 
 pub returns : goal.returns
 returns c =
     rw c.write_label.ensures
-    (now-kept c.slot-at.result (code c.args.label) c.requires (rw c.at_start.ensures at c.enter-answer.ensures)
-    c.in-Holds.is)
+    (now-kept c.slot-at.result (code c.args.label) c.requires (rw c.at_start.ensures at c.in_ok-count.ensures) refl)
