@@ -7,7 +7,7 @@ ghost use Rattle.courses.specs.Courses.{Coursed, HandedOn};
 use advances::advance;
 use arrivals::news_of;
 use extents::{is_empty, part_at, set_part};
-use sets::Built;
+use sets::TooLarge;
 
 // All terms. Where the log then ends is returned, or that a limit is passed.
 pub fn course(
@@ -19,14 +19,14 @@ pub fn course(
     log: &mut [u64],
     end: usize,
     out: &mut [u64],
-) -> Built
+) -> Result<usize, TooLarge>
     ensures { Coursed slots.now lists.now end
         sets.old news.old (held work.old) (held log.old) (held out.old)
         sets.new news.new (held work.new) (held log.new) (held out.new) result }
 {
     let mut to = end;
     for n in 0..slots.len() {
-        let step = advance(
+        to = advance(
             slots[n],
             lists,
             slots.len(),
@@ -37,13 +37,9 @@ pub fn course(
             log,
             to,
             out,
-        );
-        let Built::Holds(next) = step else {
-            return Built::TooLarge;
-        };
-        to = next;
+        )?;
     }
-    Built::Holds(to)
+    Ok(to)
 }
 
 // What is new in the bodies is what is new for the refs in the next round. Whether there is anything is returned.
