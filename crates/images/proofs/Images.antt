@@ -1,7 +1,7 @@
 -- What a way makes of a label, put into a set at the start of words of its own; it never shortens a set nor takes it past the room.
 -- Assumes nothing.
 use Rattle.std.specs.Prelude.{Option, None, Result, Ok}
-use mathlib.Core.Path.{◌≡◌, refl, sym, ap, subst}
+use mathlib.Core.Path.{◌≡◌, refl, ap, subst}
 use mathlib.Core.Bool.{false}
 use mathlib.Core.List.{List, [], ◌∷◌}
 use Prim.Native.Nat.{ℕ, ◌^◌, ◌≤◌, ◌<◌}

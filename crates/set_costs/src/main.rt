@@ -8,17 +8,14 @@ use images::imaging::add_image;
 use labels::bags::single;
 use merging::joining::union_of;
 use parts::{MOST_WORDS, Part};
-use sets::Built;
+use sets::TooLarge;
 use sets::inserting::insert;
 use std::io;
 use sums::add_sums;
 
 // How many labels a set holds; none if it would pass a limit.
-fn count(answer: Built) -> usize {
-    match answer {
-        Built::TooLarge => 0,
-        Built::Holds(n) => n,
-    }
+fn count(answer: Result<usize, TooLarge>) -> usize {
+    answer.unwrap_or(0)
 }
 
 // Twice as many dies: the labels of both, and their sums.
@@ -38,9 +35,10 @@ fn show(output: &impl Print, text: &str, n: usize) -> io::Result<()> {
 fn show_dies(output: &impl Print) -> io::Result<()> {
     let mut dies = [0u64; MOST_WORDS];
     let mut twice = [0u64; MOST_WORDS];
-    insert(&mut dies, at_start(0), single(0));
-    insert(&mut dies, at_start(1), single(1));
-    insert(&mut dies, at_start(2), single(2));
+    for n in 0..3 {
+        // there is room for each
+        let _ = insert(&mut dies, at_start(n), single(n as u64));
+    }
     let two = merged(&dies, 3, &mut twice);
     show(output, "two=", two)?;
     let four = merged(&twice, two, &mut dies);

@@ -7,9 +7,8 @@ ghost use Rattle.std.specs.Prelude.{◌≤◌};
 use areas::rows::{read_label, write_label};
 use labels::packing::label_of;
 use merging::joining::union_of;
-use merging::walking::{Drawn, Rest, draw, rest_of};
+use merging::walking::{Rest, draw, rest_of};
 use parts::{MOST_LABELS, Part, Target};
-use sets::Built;
 use sets::inserting::{insert, place};
 use std::io;
 
@@ -26,24 +25,22 @@ const ALL_WORDS: usize = 4096;
 
 // The first numbers that are even, and behind them the first that are odd.
 fn interleaved(words: &mut [u64]) {
-    let mut i: u64 = 0;
-    while i < 512 {
-        let at = i as usize;
-        write_label(words, at, label_of(2 * i));
-        write_label(words, SIZE + at, label_of(2 * i + 1));
-        i += 1;
+    for i in 0..SIZE {
+        let even = 2 * i as u64;
+        write_label(words, i, label_of(even));
+        write_label(words, SIZE + i, label_of(even + 1));
     }
 }
 
 // The labels of both sets inserted at a place one after the other: how many labels had to move up for them.
 fn moved_by_insertions(words: &mut [u64], at: usize) -> usize {
     let mut moved = 0;
-    let mut len = 0;
-    while len < BOTH {
+    for len in 0..BOTH {
         let label = read_label(words, len);
         let p = place(words, at, len, label);
         moved += len - p;
-        insert(
+        // there is room for each
+        let _ = insert(
             words,
             Target {
                 at,
@@ -52,7 +49,6 @@ fn moved_by_insertions(words: &mut [u64], at: usize) -> usize {
             },
             label,
         );
-        len += 1;
     }
     moved
 }
@@ -79,19 +75,16 @@ fn has_read(before: Rest, after: Rest) -> usize
 fn walked(words: &[u64], part: Part, other: Part, at: usize) -> Cost {
     let mut left = rest_of(words, part, at);
     let mut right = rest_of(words, other, at);
-    let mut drawn = 0;
     let mut read = 2;
-    while drawn < ALL {
-        let next = draw(words, left, right);
-        let Drawn::Lowest(_, more, other_more) = next else {
+    for drawn in 0..ALL {
+        let Some(next) = draw(words, left, right) else {
             return Cost { drawn, read };
         };
-        read += has_read(left, more) + has_read(right, other_more);
-        left = more;
-        right = other_more;
-        drawn += 1;
+        read += has_read(left, next.left) + has_read(right, next.right);
+        left = next.left;
+        right = next.right;
     }
-    Cost { drawn, read }
+    Cost { drawn: ALL, read }
 }
 
 // A line: what is counted, and how many.
@@ -112,8 +105,7 @@ fn main(rt: HostRuntime) -> io::Result<()> {
     show(&rt, "drawn=", cost.drawn)?;
     show(&rt, "read=", cost.read)?;
     let mut both = [0u64; BOTH_WORDS];
-    let joined = union_of(&area, evens, odds, &mut both);
-    if let Built::Holds(labels) = joined {
+    if let Ok(labels) = union_of(&area, evens, odds, &mut both) {
         show(&rt, "union=", labels)?;
     }
     Ok(())

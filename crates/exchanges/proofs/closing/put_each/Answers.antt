@@ -1,5 +1,4 @@
 use mathlib.Core.Path.{refl, ◌∙◌}
-use native.Mathlib.Omega.{arith}
 use Rattle.areas.proofs.Held.{held-long}
 use Rattle.sets.proofs.Steps.{handed_on}
 use Rattle.extents.proofs.RowWalks.{row-end}

@@ -1,5 +1,4 @@
 use mathlib.Core.Path.{refl, ◌∙◌}
-use native.Mathlib.Omega.{arith}
 use Rattle.sets.proofs.Steps.{handed_on}
 use Rattle.extents.proofs.RowWalks.{row-start, row-length, row-end, row-holds, row-large}
 use Rattle.images.specs.Imaging.{taken_by}

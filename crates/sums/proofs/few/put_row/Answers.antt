@@ -1,4 +1,4 @@
-use Rattle.std.proofs.Common.{refl, ◌∙◌, arith}
+use Rattle.std.proofs.Common.{refl, ◌∙◌}
 use Rattle.labels.specs.Packing.{code}
 use Rattle.sets.proofs.Steps.{handed_on}
 use Rattle.extents.proofs.RowWalks.{row-start, row-end, row-holds, row-large}
