@@ -1,5 +1,6 @@
 -- What advancing a term comes to: nothing is new in what its set is made of, or what is given is kept, or it passes a limit.
 -- Assumes nothing.
+use Rattle.std.specs.Prelude.{Result, Ok, Err}
 use mathlib.Core.Path.{◌≡◌, refl, sym, ap, subst, ◌∙◌}
 use mathlib.Core.Logic.{inl, inr}
 use mathlib.Core.Bool.{Bool, true, false}
@@ -19,8 +20,7 @@ use Rattle.table.specs.Holding.{HoldsLists}
 use Rattle.shapes.specs.declared.Shape.{Shape}
 use Rattle.shapes.specs.Shaping.{shape_for}
 use Rattle.parts.specs.Parts.{laid, most_labels, room_at}
-use Rattle.sets.specs.declared.Built.{Built}
-use Rattle.sets.specs.declared.Built.TheVariants.{TooLarge, Holds}
+use Rattle.sets.specs.declared.TooLarge.{TooLarge}
 use Rattle.sets.specs.Building.{Building, answer_of}
 use Rattle.sets.proofs.Steps.{built-holds, built-large}
 use Rattle.sets.proofs.Refinement.{AllPack}
@@ -115,7 +115,7 @@ unfolding laid
 laid-fits s ls e = let l = simp (length-append, length-take, length-drop) at e in omega arith
 
 -- a set that is whole stands there
-whole_set : (b : Building) {count : ℕ} (out : List ℕ) {out' : List ℕ} → Holds count ≡ answer_of b → out' ≡ laid 0 b.set out → length out' ≡ length out
+whole_set : (b : Building) {count : ℕ} (out : List ℕ) {out' : List ℕ} → Ok count ≡ answer_of b → out' ≡ laid 0 b.set out → length out' ≡ length out
     → (b.whole ≡ true) × (words_in (record { from = 0; to = count }) out' ≡ b.set)
 whole_set b {count} out e f long =
     let p = built-holds b.whole (length b.set) count e in
@@ -124,7 +124,7 @@ whole_set b {count} out e f long =
 
 module _ {term : Term} {lists : List ℕ} {terms n end : ℕ} {sets news work log out : List ℕ} where
   pub advanced-quiet : {shape : Shape} {asked : Bool} → shape ≡ shape_for term → asked ≡ quiet sets news n shape → asked ≡ true → {news' : List ℕ}
-      → news' ≡ with_part news n (record { from = end; to = end }) → Advanced term lists terms n end sets news work log out sets news' work log out (Holds end)
+      → news' ≡ with_part news n (record { from = end; to = end }) → Advanced term lists terms n end sets news work log out sets news' work log out (Ok end)
   advanced-quiet f g q row = record {
     kept = record {
       sets_long = refl;
@@ -137,15 +137,15 @@ module _ {term : Term} {lists : List ℕ} {terms n end : ℕ} {sets news work lo
   }
 
   module _ {out' : List ℕ} (long : length out' ≡ length out) where
-    pub advanced-large : Arrives (shape_for term) lists work sets log news out out' TooLarge
-        → Advanced term lists terms n end sets news work log out sets news work log out' TooLarge
+    pub advanced-large : Arrives (shape_for term) lists work sets log news out out' (Err (record {}))
+        → Advanced term lists terms n end sets news work log out sets news work log out' (Err (record {}))
     advanced-large a = record {
       kept = record { sets_long = refl; news_long = refl; work_long = refl; log_long = refl; out_long = long };
       right = λ d k t s e h x. given-large x h lists s (let b = rw t at a in built-large _ _ b.answer);
     }
 
-    pub advanced-kept : {count : ℕ} → Arrives (shape_for term) lists work sets log news out out' (Holds count) → {made : List ℕ}
-        → made ≡ words_in (record { from = 0; to = count }) out' → {sets' news' work' log' : List ℕ} {r : Built}
+    pub advanced-kept : {count : ℕ} → Arrives (shape_for term) lists work sets log news out out' (Ok count) → {made : List ℕ}
+        → made ≡ words_in (record { from = 0; to = count }) out' → {sets' news' work' log' : List ℕ} {r : Result ℕ TooLarge}
         → KeptNew terms n end made sets news work log sets' news' work' log' r
         → Advanced term lists terms n end sets news work log out sets' news' work' log' out' r
     advanced-kept {count} a {made} read {sets'} {news'} {work'} {log'} {r} new = record {

@@ -1,5 +1,6 @@
 -- New labels are kept: one term more is done, or the sets of the round pass a limit.
 -- Assumes nothing.
+use Rattle.std.specs.Prelude.{Ok, Err}
 use mathlib.Core.Path.{◌≡◌, refl, sym, ap, subst, ◌∙◌}
 use mathlib.Core.Bool.{true}
 use mathlib.Core.List.{List, [], map}
@@ -13,7 +14,6 @@ use Rattle.meaning.specs.Labels.{number}
 use Rattle.meaning.specs.Sets.{at}
 use Rattle.meaning.specs.Descriptions as D
 use Rattle.meaning.specs.Rounds.{round_sets}
-use Rattle.sets.specs.declared.Built.TheVariants.{TooLarge, Holds}
 use Rattle.parts.proofs.LaidSets.{laid_nil}
 use Rattle.parts.specs.declared.Part.{Part}
 use Rattle.extents.specs.Extents.{part_at, with_part, is_empty, words_in}
@@ -76,15 +76,15 @@ module _ {d : D.Description} {k n : ℕ} {sets news work log out : List ℕ} {en
         omega (arith, counts)
 
 module _ {known made sets news work log log' : List ℕ} {terms n end : ℕ} (read : known ≡ words_in (part_at sets n) work) where
-  pub new-large : Appended known made end log log' TooLarge → KeptNew terms n end made sets news work log sets news work log' TooLarge
+  pub new-large : Appended known made end log log' (Err (record {})) → KeptNew terms n end made sets news work log sets news work log' (Err (record {}))
   new-large a = record {
     kept = λ out. record { sets_long = refl; news_long = refl; work_long = refl; log_long = a.long; out_long = refl };
     right = λ d k out e h x p all. rw a.long (no_room x h made read all (a.right x.within));
   }
 
-  pub new-kept : {to : ℕ} {sets' news' work' : List ℕ} → Appended known made end log log' (Holds to)
+  pub new-kept : {to : ℕ} {sets' news' work' : List ℕ} → Appended known made end log log' (Ok to)
       → TakenIn terms n (record { from = end; to = to }) log' sets news work sets' news' work'
-      → KeptNew terms n end made sets news work log sets' news' work' log' (Holds to)
+      → KeptNew terms n end made sets news work log sets' news' work' log' (Ok to)
   new-kept {to} {sets'} {news'} {work'} a t = record {
     kept = λ out. record {
       sets_long = t.grown.long_row;

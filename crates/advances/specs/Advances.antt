@@ -1,6 +1,6 @@
 -- What stands where while a round is worked out, and what advancing a term comes to, for the table of a legal description.
 -- Assumes nothing.
-use Rattle.std.specs.Prelude.{◌≡◌, List, map, ℕ, suc, ◌≤◌, ◌<◌, min, T, length}
+use Rattle.std.specs.Prelude.{◌≡◌, List, map, ℕ, suc, ◌≤◌, ◌<◌, min, T, length, Result, Ok, Err}
 use Rattle.meaning.specs.Labels.{number}
 use Rattle.meaning.specs.Sets.{◌∈◌, at}
 use Rattle.meaning.specs.Labels.{Label}
@@ -13,8 +13,7 @@ use Rattle.syncs.specs.Merges.{SyncsJoin}
 use Rattle.table.specs.Encoded.{term_for}
 use Rattle.table.specs.Holding.{HoldsLists}
 use Rattle.parts.specs.declared.Part.{Part}
-use Rattle.sets.specs.declared.Built.{Built}
-use Rattle.sets.specs.declared.Built.TheVariants.{TooLarge, Holds}
+use Rattle.sets.specs.declared.TooLarge.{TooLarge}
 use Rattle.extents.specs.Extents.{part_at, words_in}
 use Rattle.layout.specs.Layout.{Standing, half_of}
 use Rattle.deltas.specs.Deltas.{arrived, mixed, over_in, labels_in}
@@ -56,11 +55,11 @@ pub record Kept (sets news work log out sets' news' work' log' out' : List ℕ) 
   pub out_long : length out' ≡ length out
 
 -- A limit is passed by the sets of the round; or one term more is done, and the log ends at a place.
-abbrev pub Onward : D.Description → (k n : ℕ) (sets news work log out : List ℕ) → Built → Type 0
-Onward d k n sets news work log out TooLarge = T (over_in (length log) (round_sets d (suc k)))
-Onward d k n sets news work log out (Holds end) = Midway d k n sets news work log out end
+abbrev pub Onward : D.Description → (k n : ℕ) (sets news work log out : List ℕ) → Result ℕ TooLarge → Type 0
+Onward d k n sets news work log out (Err e) = T (over_in (length log) (round_sets d (suc k)))
+Onward d k n sets news work log out (Ok end) = Midway d k n sets news work log out end
 
-pub record Advanced (term : Term) (lists : List ℕ) (terms n end : ℕ) (sets news work log out sets' news' work' log' out' : List ℕ) (r : Built) : Type 0 where
+pub record Advanced (term : Term) (lists : List ℕ) (terms n end : ℕ) (sets news work log out sets' news' work' log' out' : List ℕ) (r : Result ℕ TooLarge) : Type 0 where
   pub kept : Kept sets news work log out sets' news' work' log' out'
   pub right : (d : D.Description) (k : ℕ) → term ≡ term_for n (D.term_at d n) → HoldsLists d lists → terms ≡ D.term_count d
       → n < D.term_count d → Midway d k n sets news work log out end → Onward d k (suc n) sets' news' work' log' out' r

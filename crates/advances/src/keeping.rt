@@ -7,21 +7,18 @@ use extents::{is_empty, labels_of, part_at, set_part};
 use layout::grow;
 use logs::log_new;
 use parts::Part;
-use sets::Built;
+use sets::TooLarge;
 
 // Those of the labels that are given which a set does not have are written behind the end of the log. Where it then ends is
 // returned.
-fn append_new(known: &[u64], made: &[u64], log: &mut [u64], end: usize) -> Built
+fn append_new(known: &[u64], made: &[u64], log: &mut [u64], end: usize) -> Result<usize, TooLarge>
     ensures { Appended (held known.now) (held made.now) end (held log.old) (held log.new) result }
 {
     if labels_in(log) < end {
-        return Built::TooLarge;
+        return Err(TooLarge);
     }
-    let logged = log_new(known, made, log, end);
-    let Built::Holds(count) = logged else {
-        return Built::TooLarge;
-    };
-    Built::Holds(end + count)
+    let count = log_new(known, made, log, end)?;
+    Ok(end + count)
 }
 
 // What stands in a part at the end of the log is what is new for the n-th of so many terms, and goes into its set.
@@ -54,16 +51,13 @@ pub fn keep_new(
     work: &mut [u64],
     log: &mut [u64],
     end: usize,
-) -> Built
+) -> Result<usize, TooLarge>
     ensures { KeptNew terms n end (held made.now)
         sets.old news.old (held work.old) (held log.old)
         sets.new news.new (held work.new) (held log.new) result }
 {
     let known = labels_of(work, part_at(sets, n));
-    let logged = append_new(known, made, log, end);
-    let Built::Holds(to) = logged else {
-        return Built::TooLarge;
-    };
+    let to = append_new(known, made, log, end)?;
     take_in(terms, n, Part { from: end, to }, log, sets, news, work);
-    Built::Holds(to)
+    Ok(to)
 }

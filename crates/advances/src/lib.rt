@@ -14,7 +14,7 @@ use arrivals::arriving::arrive;
 use arrivals::looking::is_quiet;
 use extents::{labels_of, set_part};
 use parts::Part;
-use sets::Built;
+use sets::TooLarge;
 use shapes::Shape;
 use shapes::shaping::shape_of;
 use slots::packing::unpack;
@@ -38,7 +38,7 @@ pub fn advance(
     log: &mut [u64],
     end: usize,
     out: &mut [u64],
-) -> Built
+) -> Result<usize, TooLarge>
     ensures { Advanced (word_term n slot) lists.now terms n end
         sets.old news.old (held work.old) (held log.old) (held out.old)
         sets.new news.new (held work.new) (held log.new) (held out.new) result }
@@ -46,12 +46,9 @@ pub fn advance(
     let shape = shape_in(slot, n);
     if is_quiet(shape, sets, news, n) {
         set_part(news, n, Part { from: end, to: end });
-        return Built::Holds(end);
+        return Ok(end);
     }
-    let given = arrive(shape, lists, work, sets, log, news, out);
-    let Built::Holds(count) = given else {
-        return Built::TooLarge;
-    };
+    let count = arrive(shape, lists, work, sets, log, news, out)?;
     let made = labels_of(out, Part { from: 0, to: count });
     keep_new(terms, n, made, sets, news, work, log, end)
 }

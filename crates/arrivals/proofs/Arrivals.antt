@@ -1,6 +1,7 @@
 -- What is given for a term of a legal description, of the sets and the new labels that stand there for its operands: labels that make
 -- this round's set of that of the round before; and a term that is quiet has nothing new.
 -- Assumes nothing.
+use Rattle.std.specs.Prelude.{Ok, Err}
 use mathlib.Core.Path.{◌≡◌, refl, sym, ap, subst, ◌∙◌}
 use mathlib.Core.Bool.{Bool, true, false, not, ◌&&◌, false≢true}
 use mathlib.Core.Logic.{inl, inr}
@@ -31,7 +32,6 @@ use Rattle.table.specs.Encoded.{term_for}
 use Rattle.table.specs.Holding.{HoldsLists}
 use Rattle.syncs.specs.Merges.{sync_or, as_merge, SyncsJoin}
 use Rattle.parts.specs.Parts.{laid, most_labels, room_at}
-use Rattle.sets.specs.declared.Built.TheVariants.{TooLarge, Holds}
 use Rattle.sets.specs.Building.{Building, answer_of, enter, GrownAt}
 use Rattle.sets.proofs.Ascent.{and-true}
 use Rattle.sets.proofs.Refinement.{AllPack, TooMuch}
@@ -77,7 +77,7 @@ pub record Given (d : Description) (k n room : ℕ) (b : Building) : Type 0 wher
 -- What a function that builds it answers, in words of its own: the words of the labels, or that they pass a limit.
 module _ {d : Description} {k n : ℕ} (build : ℕ → List ℕ → Building) (before after : List ℕ)
     (x : Given d k n (room_at 0 most_labels (length before)) (build (room_at 0 most_labels (length before)) [])) where
-  pub given-words : (count : ℕ) → GrownAt (at_start 0) build before after (Holds count)
+  pub given-words : (count : ℕ) → GrownAt (at_start 0) build before after (Ok count)
       → AllPack (names d) x.labels × (words_in (record { from = 0; to = count }) after ≡ map number (ascending x.labels))
   unfolding laid
   given-words count g = go x.result
@@ -86,18 +86,18 @@ module _ {d : Description} {k n : ℕ} (build : ℕ → List ℕ → Building) (
           → AllPack (names d) x.labels × (words_in (record { from = 0; to = count }) after ≡ map number (ascending x.labels))
       go (inl y) =
           let words = map number (ascending x.labels) in
-          let size : Holds count ≡ Holds (length words) = g.answer ∙ ap answer_of y.built in
+          let size : Ok count ≡ Ok (length words) = g.answer ∙ ap answer_of y.built in
           let all : after ≡ words ++ drop (0 + length words) before = g.words ∙ laid-set 0 before y.built in
           (y.packs, ap (take count) all ∙ take_at words (drop (0 + length words) before) count (cc))
       go (inr y) = absurd (false≢true (sym y.0 ∙ (built-holds _ _ count g.answer).0))
 
-  pub given-over : GrownAt (at_start 0) build before after TooLarge → TooMuch (room_at 0 most_labels (length before)) x.labels
+  pub given-over : GrownAt (at_start 0) build before after (Err (record {})) → TooMuch (room_at 0 most_labels (length before)) x.labels
   given-over g = go x.result
     where
       go : Result (names d) (room_at 0 most_labels (length before)) x.labels (build (room_at 0 most_labels (length before)) [])
           → TooMuch (room_at 0 most_labels (length before)) x.labels
       go (inl y) =
-          let none : TooLarge ≡ Holds (length (map number (ascending x.labels))) = g.answer ∙ ap answer_of y.built in
+          let none : (Err (record {})) ≡ Ok (length (map number (ascending x.labels))) = g.answer ∙ ap answer_of y.built in
           let z : ◌≡◌ {A = ℕ} 0 1 = cc in
           absurd (omega arith)
       go (inr y) = y.1

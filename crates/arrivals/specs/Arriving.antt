@@ -1,9 +1,9 @@
 -- What the new labels of a term's operands give, over lists of numbers, each the number of a label. That with the set of the round
 -- before it is the set of this round is a law: proofs/Arrivals.antt.
 -- Assumes nothing.
-use Rattle.std.specs.Prelude.{Bool, true, false, List, [], ℕ, ◌+◌, min, eqb, length}
+use Rattle.std.specs.Prelude.{Bool, true, false, List, [], ℕ, ◌+◌, min, eqb, length, Result}
 use Rattle.labels.specs.Packing.{code}
-use Rattle.sets.specs.declared.Built.{Built}
+use Rattle.sets.specs.declared.TooLarge.{TooLarge}
 use Rattle.sets.specs.Building.{Building, done, and_then, enter, GrownAt}
 use Rattle.extents.specs.Extents.{part_at, words_in, at_start}
 use Rattle.merging.specs.Joining.{in_one, cut_to}
@@ -46,6 +46,6 @@ arriving room lists sets news (Two t u sums) s = two_new sums room (news t) (set
 arriving room lists sets news (Joint t u) s = sums_new room (news t) (sets t) (news u) (sets u) s
 arriving room lists sets news (Through o t) s = passed room (way_for o) (words_for lists (news t) o) (news t) (sets t) s
 
-abbrev pub Arrives : Shape → (lists work sets log news before after : List ℕ) → Built → Type 0
+abbrev pub Arrives : Shape → (lists work sets log news before after : List ℕ) → Result ℕ TooLarge → Type 0
 Arrives shape lists work sets log news before after r =
     GrownAt (at_start 0) (λ room. arriving room lists (labels_of sets work) (labels_of news log) shape) before after r

@@ -11,25 +11,21 @@ use extents::{at_start, is_empty, labels_of, part_at};
 use merging::joining::{copy_of, union_of};
 use operators::through;
 use parts::Part;
-use sets::Built;
+use sets::TooLarge;
 use sets::inserting::enter;
 use shapes::Shape;
 use sums::add_sums;
 
 // The new labels of a set, as they are.
-fn copied(log: &[u64], part: Part, out: &mut [u64]) -> Built
+fn copied(log: &[u64], part: Part, out: &mut [u64]) -> Result<usize, TooLarge>
     ensures { GrownAt (at_start 0) (λ room. union_new room (words_in part (held log.now)) [])
         (held out.old) (held out.new) result }
 {
-    let made = copy_of(log, part, out);
-    let Built::Holds(count) = made else {
-        return Built::TooLarge;
-    };
-    Built::Holds(count)
+    copy_of(log, part, out)
 }
 
 // The new labels of two sets, of which one mostly has none.
-fn joined(log: &[u64], left: Part, right: Part, out: &mut [u64]) -> Built
+fn joined(log: &[u64], left: Part, right: Part, out: &mut [u64]) -> Result<usize, TooLarge>
     ensures { GrownAt (at_start 0)
         (λ room. union_new room (words_in left (held log.now)) (words_in right (held log.now)))
         (held out.old) (held out.new) result }
@@ -40,11 +36,7 @@ fn joined(log: &[u64], left: Part, right: Part, out: &mut [u64]) -> Built
     if is_empty(left) {
         return copied(log, right, out);
     }
-    let made = union_of(log, left, right, out);
-    let Built::Holds(count) = made else {
-        return Built::TooLarge;
-    };
-    Built::Holds(count)
+    union_of(log, left, right, out)
 }
 
 // Every sum of labels of two sets of which one is new. Where all labels of the first set are new, those of the second need not be
@@ -58,7 +50,7 @@ fn add_new_sums(
     u: usize,
     out: &mut [u64],
     len: usize,
-) -> Built
+) -> Result<usize, TooLarge>
     ensures { GrownAt (at_start len) (λ room. sums_new room
         (labels_of news.now (held log.now) t) (labels_of sets.now (held work.now) t)
         (labels_of news.now (held log.now) u) (labels_of sets.now (held work.now) u))
@@ -66,18 +58,11 @@ fn add_new_sums(
 {
     let new = labels_of(log, part_at(news, t));
     let all = labels_of(work, part_at(sets, t));
-    let first = add_sums(new, labels_of(work, part_at(sets, u)), out, len);
-    let Built::Holds(count) = first else {
-        return Built::TooLarge;
-    };
+    let count = add_sums(new, labels_of(work, part_at(sets, u)), out, len)?;
     if labels_in(new) == labels_in(all) {
-        return Built::Holds(count);
+        return Ok(count);
     }
-    let second = add_sums(labels_of(log, part_at(news, u)), all, out, count);
-    let Built::Holds(total) = second else {
-        return Built::TooLarge;
-    };
-    Built::Holds(total)
+    add_sums(labels_of(log, part_at(news, u)), all, out, count)
 }
 
 // The new labels of two sets, and if they are asked for every sum with one of them.
@@ -90,24 +75,18 @@ fn of_two(
     u: usize,
     sums: bool,
     out: &mut [u64],
-) -> Built
+) -> Result<usize, TooLarge>
     ensures { GrownAt (at_start 0) (λ room. two_new sums room
         (labels_of news.now (held log.now) t) (labels_of sets.now (held work.now) t)
         (labels_of news.now (held log.now) u) (labels_of sets.now (held work.now) u))
         (held out.old) (held out.new) result }
 {
-    let first = joined(log, part_at(news, t), part_at(news, u), out);
-    let Built::Holds(count) = first else {
-        return Built::TooLarge;
-    };
-    if !sums {
-        return Built::Holds(count);
+    let count = joined(log, part_at(news, t), part_at(news, u), out)?;
+    if sums {
+        add_new_sums(work, sets, log, news, t, u, out, count)
+    } else {
+        Ok(count)
     }
-    let made = add_new_sums(work, sets, log, news, t, u, out, count);
-    let Built::Holds(total) = made else {
-        return Built::TooLarge;
-    };
-    Built::Holds(total)
 }
 
 // What is given for a term, by its shape.
@@ -119,12 +98,12 @@ pub fn arrive(
     log: &[u64],
     news: &[usize],
     out: &mut [u64],
-) -> Built
+) -> Result<usize, TooLarge>
     ensures { Arrives shape lists.now (held work.now) sets.now (held log.now) news.now
         (held out.old) (held out.new) result }
 {
     match shape {
-        Shape::Empty => Built::Holds(0),
+        Shape::Empty => Ok(0),
         Shape::Leaf(label) => enter(out, at_start(0), label),
         Shape::Body(e) => copied(log, part_at(news, news_of(e)), out),
         Shape::One(t) => copied(log, part_at(news, t), out),

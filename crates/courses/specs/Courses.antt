@@ -1,16 +1,16 @@
 -- One round: all terms, and what is handed on to the next.
 -- Assumes nothing.
-use Rattle.std.specs.Prelude.{◌≡◌, Bool, false, not, ◌||◌, List, [], ◌∷◌, map, ℕ, suc}
+use Rattle.std.specs.Prelude.{◌≡◌, Bool, false, not, ◌||◌, List, [], ◌∷◌, map, ℕ, suc, Result}
 use Rattle.meaning.specs.Descriptions as D
 use Rattle.table.specs.Encoded.{slot_of}
 use Rattle.table.specs.Holding.{HoldsLists}
-use Rattle.sets.specs.declared.Built.{Built}
+use Rattle.sets.specs.declared.TooLarge.{TooLarge}
 use Rattle.extents.specs.Extents.{part_at, with_part, is_empty}
 use Rattle.arrivals.specs.Arriving.{news_of}
 use Rattle.advances.specs.Advances.{Midway, Kept, Onward}
 
 -- All terms of the table of a legal description.
-pub record Coursed (slots lists : List ℕ) (end : ℕ) (sets news work log out sets' news' work' log' out' : List ℕ) (r : Built) : Type 0 where
+pub record Coursed (slots lists : List ℕ) (end : ℕ) (sets news work log out sets' news' work' log' out' : List ℕ) (r : Result ℕ TooLarge) : Type 0 where
   pub kept : Kept sets news work log out sets' news' work' log' out'
   pub right : (d : D.Description) (k : ℕ) → slots ≡ map slot_of d.terms → HoldsLists d lists → Midway d k 0 sets news work log out end
       → Onward d k (D.term_count d) sets' news' work' log' out' r

@@ -7,7 +7,7 @@ ghost use Rattle.courses.specs.Courses.{Coursed, HandedOn};
 use advances::advance;
 use arrivals::news_of;
 use extents::{is_empty, part_at, set_part};
-use sets::Built;
+use sets::TooLarge;
 
 // All terms. Where the log then ends is returned, or that a limit is passed.
 pub fn course(
@@ -19,23 +19,27 @@ pub fn course(
     log: &mut [u64],
     end: usize,
     out: &mut [u64],
-) -> Built
+) -> Result<usize, TooLarge>
     ensures { Coursed slots.now lists.now end
         sets.old news.old (held work.old) (held log.old) (held out.old)
         sets.new news.new (held work.new) (held log.new) (held out.new) result }
 {
     let mut to = end;
-    let mut n = 0;
-    while n < slots.len() {
-        let slot = slots[n];
-        let step = advance(slot, lists, slots.len(), n, sets, news, work, log, to, out);
-        let Built::Holds(next) = step else {
-            return Built::TooLarge;
-        };
-        to = next;
-        n += 1;
+    for n in 0..slots.len() {
+        to = advance(
+            slots[n],
+            lists,
+            slots.len(),
+            n,
+            sets,
+            news,
+            work,
+            log,
+            to,
+            out,
+        )?;
     }
-    Built::Holds(to)
+    Ok(to)
 }
 
 // What is new in the bodies is what is new for the refs in the next round. Whether there is anything is returned.
@@ -43,14 +47,12 @@ pub fn hand_on(bodies: &[u64], news: &mut [usize]) -> bool
     ensures { HandedOn bodies.now news.old news.new result }
 {
     let mut some = false;
-    let mut e = 0;
-    while e < bodies.len() {
+    for e in 0..bodies.len() {
         let part = part_at(news, bodies[e] as usize);
         set_part(news, news_of(e), part);
         if !is_empty(part) {
             some = true;
         }
-        e += 1;
     }
     some
 }

@@ -16,7 +16,7 @@ use labels::{LABEL_WORDS, Label};
 fn admitted(all: bool, list: &[u64], label: Label) -> bool
     ensures { result ≡ allows all (held list.now) (code label) }
 {
-    if all { true } else { allowed(list, label) }
+    all || allowed(list, label)
 }
 
 // The labels that the order allows go into the answer area, from its start, two words each; how many they are is returned. Where there
@@ -31,8 +31,7 @@ pub fn cut(all: bool, list: &[u64], set: &[u64], answer: &mut [u64]) -> usize
         return 0;
     }
     let mut n = 0;
-    let mut i = 0;
-    while i < end {
+    for i in 0..end {
         let label = read_label(set, i);
         if admitted(all, list, label) {
             let at = LABEL_WORDS * n;
@@ -40,7 +39,6 @@ pub fn cut(all: bool, list: &[u64], set: &[u64], answer: &mut [u64]) -> usize
             answer[at + 1] = label.upper;
             n += 1;
         }
-        i += 1;
     }
     n
 }

@@ -17,19 +17,18 @@ pub const WORK_WORDS: usize = 8192;
 
 const WORK_LABELS: usize = 4096;
 
-// Labels from a place on are copied to the start. None is read after it was written, since each goes to where an earlier one stood.
+// Labels from a place on are copied to the start, without the bits of a word that are no label's: `copy_within` would keep them. None is
+// read after it was written, since each goes to where an earlier one stood.
 fn bring(work: &mut [u64], from: usize, count: usize)
     requires { from + count ≤ length (held work.old) }
     ensures { work.new
         ≡ put (in_words (take count (drop from (held work.old)))) work.old }
 {
-    let mut i = 0;
-    while i < count {
+    for i in 0..count {
         let label = read_label(work, from + i);
         let at = LABEL_WORDS * i;
         work[at] = label.lower;
         work[at + 1] = label.upper;
-        i += 1;
     }
 }
 

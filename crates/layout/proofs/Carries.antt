@@ -1,19 +1,17 @@
--- Words after a set was laid in them: what stands beside it is as it was. Labels are copied one after the other.
+-- Words after a set was laid in them: what stands beside it is as it was. Labels are copied with their words.
 -- Assumes nothing.
-use mathlib.Core.Path.{◌≡◌, refl, sym, ap, ap₂, ◌∙◌, ◌≡⟨◌⟩◌, ◌∎}
-use mathlib.Core.Logic.{◌⊎◌, inl, inr, ⊎_elim}
+use mathlib.Core.Path.{◌≡◌, refl, sym, ap, ◌∙◌}
+use mathlib.Core.Logic.{◌⊎◌, inl, inr}
 use mathlib.Core.List.{List, ◌++◌}
-use Prim.Native.Nat.{ℕ, suc, ◌+◌, ◌-◌, ◌≤◌, ◌<◌}
-use native.Mathlib.Numerals.{add-one}
+use Prim.Native.Nat.{ℕ, ◌+◌, ◌-◌, ◌*◌, ◌≤◌}
 use native.Mathlib.Omega.{arith}
-use lib.ListN.{length, get_or, set, take, drop, length-append, length-take}
-use lib.Seq.{drop-drop, drop_at, get_or-drop, length-take-le, take_all, paste, paste-suc}
-use Rattle.labels.specs.declared.Label.{Label}
-use Rattle.labels.specs.Packing.{code, packed}
-use Rattle.labels.proofs.Codes.{code_of}
+use lib.ListN.{length, take, drop, length-append, length-take}
+use lib.Seq.{drop-drop, drop_at, paste}
+use Rattle.areas.specs.Rows.{held}
+use Rattle.areas.proofs.Held.{length-held, held-take, held-drop, held-append}
 use Rattle.parts.specs.declared.Part.{Part}
 use Rattle.parts.specs.Parts.{part, set_at, laid}
-use Rattle.parts.proofs.LaidSets.{length-set_at, get_d-set_at, laid_nil, get_d-laid, take-laid, set_at-laid}
+use Rattle.parts.proofs.LaidSets.{length-set_at, take-laid, set_at-laid}
 use Rattle.extents.specs.Extents.{words_in}
 use Rattle.extents.proofs.Rows.{words-grown, words-cut}
 
@@ -28,15 +26,6 @@ module _ (at : ℕ) (s ls : List ℕ) (fits : at + length s ≤ length ls) where
       ap (λ (k : ℕ). drop k (laid at s ls)) (sym e) ∙ sym (drop-drop (m - n) n (laid at s ls))
       ∙ ap (drop (m - n)) (drop_at (take at ls ++ s) (drop n ls) n front) ∙ drop-drop (m - n) n ls ∙ ap (λ (k : ℕ). drop k ls) e
 
-  -- one label that stands before it or behind it
-  label-beside : (i : ℕ) → (i < at) ⊎ (at + length s ≤ i) → i < length ls → get_or (laid at s ls) i 0 ≡ get_or ls i 0
-  label-beside i (inl h) k = get_d-laid at s ls i h k
-  label-beside i (inr h) k =
-      let e : at + length s + (i - (at + length s)) ≡ i = omega arith in
-      let d = at + length s in
-      ap (λ (n : ℕ). get_or (laid at s ls) n 0) (sym e) ∙ sym (get_or-drop d (laid at s ls) (i - d) 0)
-      ∙ ap (λ (l : List ℕ). get_or l (i - d) 0) (laid-behind d (omega arith)) ∙ get_or-drop d ls (i - d) 0 ∙ ap (λ (n : ℕ). get_or ls n 0) e
-
   -- A part that stands before it or behind it, and its own part.
   pub words-beside : (p : Part) → (p.to ≤ at) ⊎ (at + length s ≤ p.from) → words_in p (laid at s ls) ≡ words_in p ls
   words-beside p (inl h) = words-grown p ls (laid at s ls) (sym (take-laid at s ls (omega arith))) h
@@ -50,56 +39,33 @@ module _ (at : ℕ) (s ls : List ℕ) (fits : at + length s ≤ length ls) where
       let p : Part = record { from = at; to = to } in
       sym (words-cut at to p (laid at s ls) refl refl) ∙ ap (λ (k : ℕ). take k (drop at (laid at s ls))) n ∙ set_at-laid at s ls (omega arith)
 
--- So many labels are copied.
-pub record Carrying (from to count : ℕ) (before : List ℕ) (i : ℕ) (now : List ℕ) : Type 0 where
-  pub done : i ≤ count
-  pub apart : (from + count ≤ to) ⊎ (to + count ≤ from)
-  pub places : (from + count ≤ length before) × (to + count ≤ length before)
-  pub words : now ≡ laid to (take i (set_at from count before)) before
+-- What is laid by words is laid by labels.
+held-laid : (at n : ℕ) (s ws : List ℕ) → length s ≡ 2 * n → 2 * at ≤ length ws → held (laid (2 * at) s ws) ≡ laid at (held s) (held ws)
+unfolding laid
+held-laid at n s ws e h =
+    let front : length (take (2 * at) ws) ≡ 2 * at = simp length-take (omega arith) in
+    let both : length (take (2 * at) ws ++ s) ≡ 2 * (at + n) = simp (length-append, length-take) (omega arith) in
+    let end : 2 * at + length s ≡ 2 * (at + n) = omega arith in
+    let labels : length (held s) ≡ n = omega (arith, length-held s) in
+    rw (
+      end,
+      held-append (at + n) (take (2 * at) ws ++ s) (drop (2 * (at + n)) ws) both,
+      held-append at (take (2 * at) ws) s front,
+      held-take at ws,
+      held-drop (at + n) ws,
+      labels,
+    )
 
-pub carrying-start : {from to count : ℕ} {before : List ℕ} → (from + count ≤ to) ⊎ (to + count ≤ from)
-    → from + count ≤ length before → to + count ≤ length before → Carrying from to count before 0 before
-carrying-start {to = to} {before = before} a h k =
-    record { done = omega arith; apart = a; places = (h, k); words = sym (laid_nil to before) }
-
-module _ {from to count : ℕ} {before : List ℕ} {i : ℕ} {now : List ℕ} (x : Carrying from to count before i now) where
-  abbrev all : List ℕ
-  all = set_at from count before
-
-  length-all : length all ≡ count
-  length-all = let b = x.places in length-set_at from count before ∙ omega arith
-
-  laid-paste : (n : ℕ) → n ≤ count → laid to (take n all) before ≡ paste before to all n
-  unfolding laid
-  laid-paste n h = ap (λ (k : ℕ). take to before ++ take n all ++ drop (to + k) before) (length-take-le n all (omega (arith, length-all)))
-
-  -- the labels that are to come stand where they stood
-  coming : i < count → get_or now (from + i) 0 ≡ get_or all i 0
-  coming h =
-      let b = x.places in
-      let l = length-take-le i all (omega (arith, length-all)) in
-      ap (λ (m : List ℕ). get_or m (from + i) 0) x.words
-      ∙ label-beside to (take i all) before (omega arith) (from + i)
-      (⊎_elim (λ a. inl (omega arith)) (λ a. inr (omega arith)) x.apart) (omega arith)
-      ∙ sym (get_d-set_at from count before i h)
-
-  pub carrying-step : i < count → {label : Label} → label ≡ packed (get_or now (from + i) 0) → {now' : List ℕ} → now' ≡ set now (to + i) (code label)
-      → Carrying from to count before (i + 1) now'
-  carrying-step h {label} e {now'} w =
-      let b = x.places in
-      record {
-        done = omega arith;
-        apart = x.apart;
-        places = b;
-        words =
-            now'
-            ≡⟨ w ⟩ set now (to + i) (code label)
-            ≡⟨ ap₂ (λ (m : List ℕ) (v : ℕ). set m (to + i) v) (x.words ∙ laid-paste i x.done) (code_of e ∙ coming h) ⟩
-            set (paste before to all i) (to + i) (get_or all i 0)
-            ≡⟨ paste-suc before to all i 0 (omega arith) (omega (arith, length-all)) ⟩ paste before to all (suc i)
-            ≡⟨ ap (paste before to all) (sym (add-one i)) ⟩ paste before to all (i + 1)
-            ≡⟨ sym (laid-paste (i + 1) (omega arith)) ⟩ laid to (take (i + 1) all) before ∎;
-      }
-
-  pub carrying-end : count ≤ i → now ≡ laid to (set_at from count before) before
-  carrying-end h = x.words ∙ ap (λ (s : List ℕ). laid to s before) (take_all i all (omega (arith, length-all)))
+-- Labels are copied with their words.
+pub carried : (from to count n : ℕ) (ws : List ℕ) {now : List ℕ} → now ≡ paste ws (2 * to) (drop (2 * from) ws) n → n ≡ 2 * count
+    → from + count ≤ length (held ws) → to + count ≤ length (held ws)
+    → held now ≡ laid to (set_at from count (held ws)) (held ws)
+unfolding laid
+carried from to count n ws w e h k =
+    let s = set_at (2 * from) (2 * count) ws in
+    let long : length s ≡ 2 * count = length-set_at (2 * from) (2 * count) ws ∙ omega (arith, length-held ws) in
+    let words : paste ws (2 * to) (drop (2 * from) ws) (2 * count) ≡ laid (2 * to) s ws =
+    ap (λ (m : ℕ). take (2 * to) ws ++ s ++ drop (2 * to + m) ws) (sym long) in
+    let labels : held s ≡ set_at from count (held ws) = held-take count (drop (2 * from) ws) ∙ ap (take count) (held-drop from ws) in
+    ap held (w ∙ rw e words) ∙ held-laid to count s ws long (omega (arith, length-held ws))
+    ∙ ap (λ (l : List ℕ). laid to l (held ws)) labels

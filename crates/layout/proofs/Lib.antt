@@ -1,10 +1,9 @@
 -- The laws of sets that stand in one half of the work area and grow there, each file after those that it cites.
--- raised: labels moved up by so many places; length-raised, take-raised, drop-raised: what they leave; raised-one, raising-start,
--- raising-length, raising-step, raising-end: the promise of `raise`
+-- raised: labels moved up by so many places; length-raised, take-raised, drop-raised: what they leave; raised-one: by one
 pub mod Raises
 -- weaving-start, weaving-old, weaving-new, weaving-end: the loop of `weave`; weaving-place, weaving-block: that of `insert_each`
 pub mod Weaves
--- words-beside, words-laid: words after a set was laid in them; carrying-start, carrying-step, carrying-end: the loop of `carry`
+-- words-beside, words-laid: words after a set was laid in them; carried: the promises of `carry` and `raise`
 pub mod Carries
 -- standing-order, standing-begins, standing-next, standing-within, standing-upper: where the sets stand; standing-length: how long they
 -- are; standing-as: the same of equal sets; standing-start: empty sets; sizes-mono, length-joined, sizes-joined: how many labels there

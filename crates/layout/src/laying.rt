@@ -6,21 +6,18 @@ ghost use Rattle.parts.specs.Parts.{laid, set_at};
 ghost use Rattle.extents.specs.Extents.{part_at};
 ghost use Rattle.layout.specs.Laying.{Tells, Movable, Moved, Free, Gap, RoomMade};
 
-use areas::rows::{labels_in, read_label, write_label};
+use areas::rows::labels_in;
 use extents::{part_at, set_part};
+use labels::LABEL_WORDS;
 use parts::Part;
 
-// Labels from a place on are copied to another place that they do not reach.
+// Labels from a place on are copied to another place.
 fn carry(work: &mut [u64], from: usize, to: usize, count: usize)
-    requires { ((from + count ≤ to) ⊎ (to + count ≤ from)) × (from + count ≤ length (held work.old)) × (to + count ≤ length (held work.old)) }
+    requires { (from + count ≤ length (held work.old)) × (to + count ≤ length (held work.old)) }
     ensures { held work.new ≡ laid to (set_at from count (held work.old)) (held work.old) }
 {
-    let mut i = 0;
-    while i < count {
-        let label = read_label(work, from + i);
-        write_label(work, to + i, label);
-        i += 1;
-    }
+    let first = LABEL_WORDS * from;
+    work.copy_within(first..first + LABEL_WORDS * count, LABEL_WORDS * to);
 }
 
 // Whether a set stands in the first so many words outside the half from `start` up to `end`, and has room there from a place on.
@@ -114,10 +111,8 @@ pub fn lay_anew(
     let start = free_half(sets, terms, half);
     let end = start + half;
     let mut at = start;
-    let mut t = 0;
-    while t < terms {
+    for t in 0..terms {
         at = move_set(work, sets, t, start, end, at) + room_after(t, n, gap, more);
-        t += 1;
     }
     set_part(sets, terms, Part { from: end, to: end });
 }

@@ -25,9 +25,9 @@ fn room_behind(sets: &[usize], n: usize) -> usize
     if sets.len() <= n {
         return 0;
     }
-    let end = part_at(sets, n).to;
-    let limit = part_at(sets, n + 1).from;
-    if end < limit { limit - end } else { 0 }
+    part_at(sets, n + 1)
+        .from
+        .saturating_sub(part_at(sets, n).to)
 }
 
 // The labels of a set are woven into those that stand for a term.

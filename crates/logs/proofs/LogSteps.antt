@@ -1,5 +1,6 @@
 -- The log as it is written: the first of the new labels stand at the place, and the others are to come.
 -- Assumes nothing.
+use Rattle.std.specs.Prelude.{Result, Ok, Err}
 use mathlib.Core.Path.{◌≡◌, refl, sym, ap, ap₂, ◌∙◌, ◌≡⟨◌⟩◌, ◌∎}
 use mathlib.Core.Bool.{Bool, true, false, not}
 use mathlib.Core.List.{List, ◌∷◌, ◌++◌}
@@ -12,8 +13,7 @@ use lib.Seq.{drop-cons, length-take-le, take_all, paste, paste-suc}
 use Rattle.labels.specs.declared.Label.{Label}
 use Rattle.labels.specs.Packing.{code, packed}
 use Rattle.labels.proofs.Codes.{code_of}
-use Rattle.sets.specs.declared.Built.{Built}
-use Rattle.sets.specs.declared.Built.TheVariants.{TooLarge, Holds}
+use Rattle.sets.specs.declared.TooLarge.{TooLarge}
 use Rattle.parts.specs.Parts.{laid, words_of}
 use Rattle.parts.proofs.LaidSets.{laid_nil}
 use Rattle.sets.specs.Inserting.{present}
@@ -50,7 +50,7 @@ module _ (known made : List ℕ) (at space : ℕ) (ls : List ℕ) where
     pub coming : drop len new ≡ less_of known (drop i made)
     pub count : (len ≤ space) × (len ≤ length new) × (space ≤ length ls - at)
 
-  abbrev pub Logged : List ℕ → Built → Type 0
+  abbrev pub Logged : List ℕ → Result ℕ TooLarge → Type 0
   Logged now r = Grown (λ s. cut_to space new) at 0 ls now r
 
   pub logging-start : space ≤ length ls - at → Logging ls 0 0
@@ -62,7 +62,7 @@ module _ (known made : List ℕ) (at space : ℕ) (ls : List ℕ) where
     laid-paste n h = ap (λ (k : ℕ). take at ls ++ take n new ++ drop (at + k) ls) (length-take-le n new h)
 
     -- all labels are read: those that are new are written
-    pub logging-end : length made ≤ i → Logged now (Holds len)
+    pub logging-end : length made ≤ i → Logged now (Ok len)
     unfolding less_of
     logging-end h =
         let c = x.count in
@@ -70,7 +70,7 @@ module _ (known made : List ℕ) (at space : ℕ) (ls : List ℕ) where
         let all : length new ≤ len = omega (arith, length-drop len new, ap length none) in
         let n : len ≡ length new = omega arith in
         record {
-          answer = rw (le-leb (length new) space (omega arith), take_all space new (omega arith)) (ap Holds n);
+          answer = rw (le-leb (length new) space (omega arith), take_all space new (omega arith)) (ap Ok n);
           words = x.words ∙ ap (λ (s : List ℕ). laid at s ls) (take_all len new all ∙ sym (take_all space new (omega arith)));
         }
 
@@ -115,7 +115,7 @@ module _ (known made : List ℕ) (at space : ℕ) (ls : List ℕ) where
             }
 
         -- unless there is no room for it
-        pub logging-full : space ≤ len → Logged now TooLarge
+        pub logging-full : space ≤ len → Logged now (Err (record {}))
         logging-full h =
             let c = x.count in
             let n : len ≡ space = omega arith in

@@ -11,7 +11,7 @@ use areas::rows::{labels_in, read_label, write_label};
 use labels::Label;
 use parts::placing::room;
 use parts::{MOST_LABELS, Part};
-use sets::Built;
+use sets::TooLarge;
 use sets::inserting::contains;
 
 // Whether a set has a label.
@@ -27,32 +27,25 @@ fn is_known(known: &[u64], label: Label) -> bool
 fn space(known: &[u64], log: &[u64], at: usize) -> usize
     ensures { result ≡ space_for (held known.now) at (held log.now) }
 {
-    let count = labels_in(known);
-    if count < MOST_LABELS {
-        room(log, at, MOST_LABELS - count)
-    } else {
-        0
-    }
+    room(log, at, MOST_LABELS.saturating_sub(labels_in(known)))
 }
 
 // Those labels of a row that a set does not have are written from a place on, until there is no room for the next.
-pub fn log_new(known: &[u64], made: &[u64], log: &mut [u64], at: usize) -> Built
+pub fn log_new(known: &[u64], made: &[u64], log: &mut [u64], at: usize) -> Result<usize, TooLarge>
     ensures { Logs (held known.now) (held made.now) at (held log.old) (held log.new) result }
 {
     let most = space(known, log, at);
     let end = labels_in(made);
     let mut len = 0;
-    let mut i = 0;
-    while i < end {
+    for i in 0..end {
         let label = read_label(made, i);
         if !is_known(known, label) {
             if most <= len {
-                return Built::TooLarge;
+                return Err(TooLarge);
             }
             write_label(log, at + len, label);
             len += 1;
         }
-        i += 1;
     }
-    Built::Holds(len)
+    Ok(len)
 }

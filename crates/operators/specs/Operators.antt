@@ -1,6 +1,6 @@
 -- The ways of operators, with their lists from those of the terms.
 -- Assumes nothing.
-use Rattle.std.specs.Prelude.{List, ℕ, take}
+use Rattle.std.specs.Prelude.{List, ℕ, take, Result}
 use Rattle.slots.specs.declared.Operator.{Operator}
 use Rattle.slots.specs.declared.Place.{Place}
 use Rattle.slots.specs.declared.Operator.TheVariants as O
@@ -8,7 +8,7 @@ use Rattle.table.specs.Decoded.{words_at}
 use Rattle.areas.specs.Rows.{held}
 use Rattle.images.specs.declared.Way.{Way}
 use Rattle.images.specs.declared.Way.TheVariants.{Block, Hide, Rename, Comm, Allow}
-use Rattle.sets.specs.declared.Built.{Built}
+use Rattle.sets.specs.declared.TooLarge.{TooLarge}
 use Rattle.sets.specs.Building.{Building, each, GrownAt}
 use Rattle.extents.specs.Extents.{at_start}
 use Rattle.ordering.specs.Ordering.{rules_for}
@@ -45,5 +45,5 @@ words_for lists labels (O.Allow p) = held (words_at lists p 2)
 abbrev pub passed : ℕ → Way → (list labels operand : List ℕ) → List ℕ → Building
 passed room way list labels operand s = each (imaged room way list operand) labels s
 
-abbrev pub Passes : Way → (list labels operand before after : List ℕ) → Built → Type 0
+abbrev pub Passes : Way → (list labels operand before after : List ℕ) → Result ℕ TooLarge → Type 0
 Passes way list labels operand before after r = GrownAt (at_start 0) (λ room. passed room way list labels operand) before after r

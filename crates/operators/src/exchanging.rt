@@ -15,10 +15,7 @@ const FIRST_WORDS: usize = 24;
 pub fn first_rules(rules: &[u64]) -> &[u64]
     ensures { result.now ≡ take 24 rules.now }
 {
-    if FIRST_WORDS < rules.len() {
-        return &rules[..FIRST_WORDS];
-    }
-    rules
+    &rules[..rules.len().min(FIRST_WORDS)]
 }
 
 // A rule's right side is a name; the closure wants the label of that one action.
@@ -27,17 +24,14 @@ pub fn exchanges(rules: &[u64]) -> [u64; 32]
     ensures { held result ≡ exchange_list rules.now }
 {
     let mut list = [0u64; 32];
-    let mut at = 0;
-    let mut i = 0;
-    while at + 2 < rules.len() {
+    for i in 0..rules.len() / RULE_WORDS {
+        let at = RULE_WORDS * i;
         let left = Label {
             lower: rules[at] % WORD_END,
             upper: rules[at + 1],
         };
-        write_label(&mut list, i, left);
-        write_label(&mut list, i + 1, single(rules[at + 2]));
-        at += RULE_WORDS;
-        i += 2;
+        write_label(&mut list, 2 * i, left);
+        write_label(&mut list, 2 * i + 1, single(rules[at + 2]));
     }
     list
 }

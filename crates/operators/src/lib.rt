@@ -15,7 +15,7 @@ use images::Way;
 use images::imaging::add_image;
 use labels::LABEL_WORDS;
 use ordering::{in_order, many_choices};
-use sets::Built;
+use sets::TooLarge;
 use slots::{Operator, Place};
 use table::RULE_WORDS;
 use table::lists::{label_words_of, rule_words_of, words_of};
@@ -34,18 +34,19 @@ fn rules_for(labels: &[u64], list: [u64; 32], end: usize) -> [u64; 32]
 }
 
 // The rules in the order in which they are followed. No more words of them are lent than they have.
-fn communicate(rules: &[u64], labels: &[u64], operand: &[u64], out: &mut [u64]) -> Built
+fn communicate(
+    rules: &[u64],
+    labels: &[u64],
+    operand: &[u64],
+    out: &mut [u64],
+) -> Result<usize, TooLarge>
     ensures { Passes Comm (rules_for (held labels.now) (rule_list rules.now)) (held labels.now)
         (held operand.now) (held out.old) (held out.new) result }
 {
     let first = first_rules(rules);
     let end = first.len() / RULE_WORDS * 2;
     let list = rules_for(labels, exchanges(first), end);
-    let closed = close_each(labels, operand, &list[..LABEL_WORDS * end], out, 0);
-    let Built::Holds(n) = closed else {
-        return Built::TooLarge;
-    };
-    Built::Holds(n)
+    close_each(labels, operand, &list[..LABEL_WORDS * end], out, 0)
 }
 
 // The way of an operator.
@@ -81,12 +82,12 @@ pub fn through(
     labels: &[u64],
     operand: &[u64],
     out: &mut [u64],
-) -> Built
+) -> Result<usize, TooLarge>
     ensures { Passes (way_for operator) (words_for lists.now (held labels.now) operator) (held labels.now)
         (held operand.now) (held out.old) (held out.new) result }
 {
     let place = list_place(operator);
-    let made = match operator {
+    match operator {
         Operator::Comm(_) => communicate(rule_words_of(lists, place), labels, operand, out),
         Operator::Allow(_) => add_image(
             Way::Allow,
@@ -104,9 +105,5 @@ pub fn through(
             out,
             0,
         ),
-    };
-    let Built::Holds(n) = made else {
-        return Built::TooLarge;
-    };
-    Built::Holds(n)
+    }
 }

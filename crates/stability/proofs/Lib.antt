@@ -6,9 +6,7 @@ pub mod Turning
 pub mod Rounding
 -- midway-start: what the first round begins with
 pub mod Starting
--- copying-start, copying-step, copying-end: the loop of `copy`
-pub mod Copies
--- copied-merged, ran-unready, ran-turned: the promise of `run`; ready-zeros: areas that are enough, with rows of zeros; length-zeros
+-- ran-unready, ran-turned: the promise of `run`; ready-zeros: areas that are enough, with rows of zeros; length-zeros
 pub mod Runs
 -- passing-large: what a log that is always enough tells; reached-short, reached-run: the promise of `until_stable`; reached-unique: it settles
 -- all

@@ -1,5 +1,6 @@
 -- Round after round: what holds before each, and what the last comes to.
 -- Assumes nothing.
+use Rattle.std.specs.Prelude.{Ok, Err}
 use mathlib.Core.Path.{◌≡◌, refl, ap, subst, ◌∙◌}
 use mathlib.Core.Logic.{inr}
 use mathlib.Core.Bool.{Bool, true, false}
@@ -19,7 +20,6 @@ use Rattle.meaning.proofs.Stability.{Stable, unstable-total}
 use Rattle.meaning.proofs.Outcomes.{stable-answer}
 use Rattle.table.specs.Encoded.{slot_of}
 use Rattle.table.specs.Holding.{HoldsLists}
-use Rattle.sets.specs.declared.Built.TheVariants.{TooLarge, Holds}
 use Rattle.deltas.proofs.Passing.{few-together}
 use Rattle.advances.specs.Advances.{Midway, Kept}
 use Rattle.advances.proofs.Keepings.{kept_self, kept_trans}
@@ -67,7 +67,7 @@ module _ {slots lists bodies sets₀ news₀ work₀ log₀ out₀ : List ℕ} w
     }
 
     module _ {sets' news' work' log' out' : List ℕ} where
-      module _ (c : Coursed slots lists end sets news work log out sets' news' work' log' out' TooLarge) where
+      module _ (c : Coursed slots lists end sets news work log out sets' news' work' log' out' (Err (record {}))) where
         pub turned-large : LastMade slots lists bodies sets₀ news₀ work₀ log₀ out₀ sets' news' work' log' out' L.TooLarge
         turned-large = record {
           kept = kept_trans t.kept c.kept;
@@ -76,7 +76,7 @@ module _ {slots lists bodies sets₀ news₀ work₀ log₀ out₀ : List ℕ} w
               inr (record { round = suc k; passed = rw (c.kept.log_long ∙ t.kept.log_long) at passed });
         }
 
-      module _ {end' : ℕ} (c : Coursed slots lists end sets news work log out sets' news' work' log' out' (Holds end')) {news'' : List ℕ} where
+      module _ {end' : ℕ} (c : Coursed slots lists end sets news work log out sets' news' work' log' out' (Ok end')) {news'' : List ℕ} where
         kept-handed : {some : Bool} → HandedOn bodies news' news'' some → Kept sets₀ news₀ work₀ log₀ out₀ sets' news'' work' log' out'
         kept-handed h =
             let same = ap length h.row ∙ handed-length 0 bodies news' in

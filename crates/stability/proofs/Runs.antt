@@ -3,12 +3,11 @@
 -- Assumes nothing.
 use mathlib.Core.Path.{◌≡◌, refl, sym, ap, subst, ◌∙◌}
 use mathlib.Core.Logic.{◌⊎◌, inl, inr}
-use mathlib.Core.List.{List, [], ◌∷◌, ◌++◌, map}
+use mathlib.Core.List.{List, [], ◌∷◌, map}
 use Prim.Native.Nat.{ℕ, zero, suc, ◌+◌, ◌*◌, ◌/◌, ◌≤◌, ◌<◌, min}
 use native.Mathlib.Omega.{arith}
 use lib.Dec.{T}
-use lib.ListN.{length, take, drop, replicate, length-map, length-replicate}
-use lib.Seq.{take_at}
+use lib.ListN.{length, take, replicate, length-map, length-replicate}
 use Rattle.meaning.specs.Labels.{Label}
 use Rattle.meaning.specs.Sets.{at}
 use Rattle.meaning.specs.Descriptions as D
@@ -23,7 +22,7 @@ use Rattle.table.proofs.Holdings.{bodies-held, slots-held}
 use Rattle.syncs.specs.Merging.{merged_to}
 use Rattle.syncs.specs.Merges.{with_merges}
 use Rattle.syncs.proofs.MergedSets.{merged-count, merged-legal, merged-join, merged-rounds, merged-answer, merged-lists}
-use Rattle.syncs.proofs.MergedSlots.{length_merged, merged-slots}
+use Rattle.syncs.proofs.MergedSlots.{merged-slots}
 use Rattle.layout.proofs.Stands.{standing-within}
 use Rattle.deltas.specs.Deltas.{over_in}
 use Rattle.deltas.proofs.Passing.{few-together}
@@ -142,12 +141,3 @@ module _ {table lists slots sets news work log out : List ℕ} where
         ends-merged d o l sets' work' (length log) r
         (made.right (with_merges d) (merged ∙ slots-merged d o l h) (merged-lists d lists h.listed) (bodies-held h l.equation_count) (begins d o l a));
   }
-
--- Words at the start of which others were copied, with those gone through.
-pub copied-merged : (terms slots : List ℕ) {copied part : List ℕ} → copied ≡ terms ++ drop (length terms) slots
-    → part ≡ merged_to (length (take (length terms) copied)) (take (length terms) copied)
-    → take (length terms) (part ++ drop (length terms) copied) ≡ merged_to (length terms) terms
-copied-merged terms slots {copied} {part} e f =
-    let here : take (length terms) copied ≡ terms = ap (take (length terms)) e ∙ take_at terms (drop (length terms) slots) (length terms) refl in
-    let done : part ≡ merged_to (length terms) terms = f ∙ ap (λ (ws : List ℕ). merged_to (length ws) ws) here in
-    take_at part (drop (length terms) copied) (length terms) (ap length done ∙ length_merged (length terms) terms) ∙ done

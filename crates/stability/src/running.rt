@@ -10,26 +10,14 @@ use areas::rows::labels_in;
 use syncs::merge_wholes;
 use table::{bodies_of, slots_of};
 
-// Words are copied to the start of others.
-fn copy(words: &[u64], to: &mut [u64])
-    requires { length words.now ≤ length to.old }
-    ensures { to.new ≡ words.now ++ drop (length words.now) to.old }
-{
-    let mut i = 0;
-    while i < words.len() {
-        to[i] = words[i];
-        i += 1;
-    }
-}
-
 // The terms, with a merge in place of every sync of whole processes, at the start of other words.
 fn copy_merged(terms: &[u64], slots: &mut [u64])
     requires { length terms.now ≤ length slots.old }
     ensures { take (length terms.now) slots.new ≡ merged_to (length terms.now) terms.now }
 {
-    copy(terms, slots);
-    let count = terms.len();
-    merge_wholes(&mut slots[..count]);
+    let copied = &mut slots[..terms.len()];
+    copied.copy_from_slice(terms);
+    merge_wholes(copied);
 }
 
 // The rounds of the description that a table and its lists hold. How many labels all sets may have together is how many the log holds. Where

@@ -28,16 +28,14 @@ pub fn turn_on(
         sets.new news.new (held work.new) (held log.new) (held out.new) result }
 {
     let mut end = 0;
-    let mut k = 0;
-    while k < MOST_ROUNDS {
+    for k in 0..MOST_ROUNDS {
         let to = course(slots, lists, sets, news, work, log, end, out);
         let Built::Holds(next) = to else {
             return Last::TooLarge;
         };
         end = next;
-        k += 1;
         if !hand_on(bodies, news) {
-            return Last::Stable(k);
+            return Last::Stable(k + 1);
         }
     }
     Last::TooLarge

@@ -1,10 +1,10 @@
 use mathlib.Core.Path.{◌≡◌, refl, ◌∙◌}
-use native.Mathlib.Omega.{arith}
 use lib.ListN.{length}
 use Rattle.areas.specs.Rows.{held}
+use Rattle.sets.proofs.Steps.{handed_on}
 use Rattle.courses.proofs.Coursing.{coursing-start, coursing-step, coursing-large, coursing-end}
 use Rattle.courses.proofs.course.Goals as goal
-use Rattle.courses.proofs.course.Goals.{After-advance-step}
+use Rattle.courses.proofs.course.Goals.{After-advance}
 
 pub loop-n-init : goal.loop-n-init
 loop-n-init c =
@@ -13,56 +13,39 @@ loop-n-init c =
     coursing-start a.slots.now a.lists.now a.end a.sets.now a.news.now (held a.work.now) (held a.log.now) (held a.out.now) in
     (start, refl, refl, refl)
 
-pub offset_bounds-slots-n : goal.offset_bounds-slots-n
-offset_bounds-slots-n c = omega (arith, c.well_formed.0)
-
-pub bounds-slots-n : goal.bounds-slots-n
-bounds-slots-n c = omega arith
-
-pub advance-step-requires : goal.advance-step-requires
-advance-step-requires c = tt
-
 -- the words of the areas after a term
-kept-words : (c : After-advance-step) → let last = c.advance-step.new in
+kept-words : (c : After-advance) → let last = c.advance.new in
     let a = c.args in
     (length last.work ≡ length a.work.now) × (length last.log ≡ length a.log.now) × (length last.out ≡ length a.out.now)
 kept-words c =
     let inv = c.loop-n.invariant in
-    let kept = c.advance-step.auto in
+    let kept = c.advance.auto in
     (kept.work ∙ inv.1, kept.log ∙ inv.2, kept.out ∙ inv.3)
 
-pub returns-in_default : goal.returns-in_default
-returns-in_default c =
-    coursing-large c.loop-n.invariant.0 c.loop-n-test.true
-    (rw c.in_default.is at c.advance-step.ensures)
+pub returns-in_err-to : goal.returns-in_err-to
+returns-in_err-to c =
+    rw (handed_on c.from_residual.result c.from_residual.ensures.0)
+    (coursing-large c.loop-n.invariant.0 c.loop-n-test.true c.in_err-to.ensures)
 
-pub shape_of-sets-in_default : goal.shape_of-sets-in_default
-shape_of-sets-in_default c = (returns-in_default c).kept.sets_long
+pub shape_of-sets-in_err-to : goal.shape_of-sets-in_err-to
+shape_of-sets-in_err-to c = (returns-in_err-to c).kept.sets_long
 
-pub shape_of-news-in_default : goal.shape_of-news-in_default
-shape_of-news-in_default c = (returns-in_default c).kept.news_long
+pub shape_of-news-in_err-to : goal.shape_of-news-in_err-to
+shape_of-news-in_err-to c = (returns-in_err-to c).kept.news_long
 
-pub shape_of-work-in_default : goal.shape_of-work-in_default
-shape_of-work-in_default c = (kept-words (goal.at.shape_of-work-in_default c).After-advance-step).0
+pub shape_of-work-in_err-to : goal.shape_of-work-in_err-to
+shape_of-work-in_err-to c = (kept-words (goal.at.shape_of-work-in_err-to c).After-advance).0
 
-pub shape_of-log-in_default : goal.shape_of-log-in_default
-shape_of-log-in_default c = (kept-words (goal.at.shape_of-log-in_default c).After-advance-step).1
+pub shape_of-log-in_err-to : goal.shape_of-log-in_err-to
+shape_of-log-in_err-to c = (kept-words (goal.at.shape_of-log-in_err-to c).After-advance).1
 
-pub shape_of-out-in_default : goal.shape_of-out-in_default
-shape_of-out-in_default c = (kept-words (goal.at.shape_of-out-in_default c).After-advance-step).2
-
-pub overflow_add-n : goal.overflow_add-n
-overflow_add-n c =
-    omega (arith, c.loop-n-test.true, c.well_formed.0)
-
-pub loop-n-smaller : goal.loop-n-smaller
-loop-n-smaller c =
-    omega (arith, c.loop-n-test.true)
+pub shape_of-out-in_err-to : goal.shape_of-out-in_err-to
+shape_of-out-in_err-to c = (kept-words (goal.at.shape_of-out-in_err-to c).After-advance).2
 
 pub loop-n-preserved : goal.loop-n-preserved
 loop-n-preserved c =
-    let words = kept-words (goal.at.loop-n-preserved c).After-advance-step in (
-      coursing-step c.loop-n.invariant.0 c.loop-n-test.true (rw c.in-Holds.is at c.advance-step.ensures),
+    let words = kept-words (goal.at.loop-n-preserved c).After-advance in (
+      coursing-step c.loop-n.invariant.0 c.loop-n-test.true c.in_ok-to.ensures,
       words.0,
       words.1,
       words.2,

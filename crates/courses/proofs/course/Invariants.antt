@@ -1,7 +1,6 @@
 -- `courses::course` meets its contract. The loop's invariant: so many terms are done, and the areas have as many words as before.
 -- Assumes nothing.
 use mathlib.Core.Path.{◌≡◌}
-use Prim.Native.Nat.{◌-◌}
 use lib.ListN.{length}
 use Rattle.areas.specs.Rows.{held}
 use Rattle.courses.proofs.Coursing.{Coursing}
@@ -14,6 +13,3 @@ invariant-loop-n l =
     × (length l.work ≡ length l.initial.work)
     × (length l.log ≡ length l.initial.log)
     × (length l.out ≡ length l.initial.out)
-
-abbrev pub decreases-loop-n : goal.decreases-loop-n
-decreases-loop-n l = length l.slots - l.n

@@ -1,12 +1,7 @@
 -- `courses::hand_on` meets its contract. The loop's invariant: what is entered so far, with what is to come, is all that is entered.
 -- Assumes nothing.
-use Prim.Native.Nat.{◌-◌}
-use lib.ListN.{length}
 use Rattle.courses.proofs.Handing.{HandingOn}
 use Rattle.courses.proofs.hand_on.Given as goal
 
 abbrev pub invariant-loop-e : goal.invariant-loop-e
 invariant-loop-e l = HandingOn l.bodies l.initial.news l.news l.some l.e
-
-abbrev pub decreases-loop-e : goal.decreases-loop-e
-decreases-loop-e l = length l.bodies - l.e

@@ -6,13 +6,10 @@ use Rattle.areas.specs.Rows.{held}
 use Rattle.cutting.proofs.Cuts.{allows-all, allows-listed}
 use Rattle.cutting.proofs.admitted.Goals as goal
 
-pub allowed-requires : goal.allowed-requires
-allowed-requires c = tt
-
 pub returns-then-all : goal.returns-then-all
 returns-then-all c =
     let a = c.args in
-    allows-all a.all (held a.list.now) (code a.label) c.if-all.true
+    c.if-all.true ∙ allows-all a.all (held a.list.now) (code a.label) c.if-all.true
 
 pub returns-else-all : goal.returns-else-all
 returns-else-all c =

@@ -6,9 +6,6 @@ use Rattle.cutting.proofs.Cuts.{cut_short, cut-start, cut-room, cut-keep, cut-sk
 use Rattle.cutting.proofs.cut.Goals as goal
 use Rattle.cutting.proofs.cut.Goals.{Then-admitted}
 
-pub labels_in-end-requires : goal.labels_in-end-requires
-labels_in-end-requires c = tt
-
 pub returns-then-answer-end : goal.returns-then-answer-end
 returns-then-answer-end c =
     let a = c.args in
@@ -17,12 +14,6 @@ returns-then-answer-end c =
 
 pub loop-i-init : goal.loop-i-init
 loop-i-init c = cut-start (omega arith)
-
-pub read_label-label-requires : goal.read_label-label-requires
-read_label-label-requires c = tt
-
-pub admitted-requires : goal.admitted-requires
-admitted-requires c = tt
 
 -- there is room for a label that is allowed
 room : (c : Then-admitted) → 2 * c.loop-i.n + 1 < length c.loop-i.answer
@@ -48,12 +39,6 @@ bounds-answer-at-then-admitted c = simp length-set (room (goal.at.bounds-answer-
 
 pub overflow_add-n : goal.overflow_add-n
 overflow_add-n c = omega (arith, room (goal.at.overflow_add-n c).Then-admitted)
-
-pub overflow_add-i : goal.overflow_add-i
-overflow_add-i c = omega arith
-
-pub loop-i-smaller : goal.loop-i-smaller
-loop-i-smaller c = omega arith
 
 pub loop-i-preserved : goal.loop-i-preserved
 loop-i-preserved c =

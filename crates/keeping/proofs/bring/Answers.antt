@@ -9,9 +9,6 @@ loop-i-init c = bringing-start c.requires
 pub overflow_add-from : goal.overflow_add-from
 overflow_add-from c = let room = bringing-room c.loop-i.invariant c.loop-i-test.true in omega arith
 
-pub read_label-label-requires : goal.read_label-label-requires
-read_label-label-requires c = tt
-
 pub overflow_mul-at : goal.overflow_mul-at
 overflow_mul-at c = let room = bringing-room c.loop-i.invariant c.loop-i-test.true in omega arith
 
@@ -29,12 +26,6 @@ offset_bounds-work-at-in-loop-i c = let room = bringing-room c.loop-i.invariant 
 
 pub bounds-work-at-in-loop-i : goal.bounds-work-at-in-loop-i
 bounds-work-at-in-loop-i c = simp length-set (bringing-room c.loop-i.invariant c.loop-i-test.true).1
-
-pub overflow_add-i : goal.overflow_add-i
-overflow_add-i c = omega arith
-
-pub loop-i-smaller : goal.loop-i-smaller
-loop-i-smaller c = omega arith
 
 pub loop-i-preserved : goal.loop-i-preserved
 loop-i-preserved c = bringing-step c.loop-i.invariant c.loop-i-test.true c.read_label-label.ensures

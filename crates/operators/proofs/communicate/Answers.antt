@@ -4,15 +4,9 @@ use Prim.Native.Nat.{◌*◌, ◌/◌, ◌≤◌}
 use native.Mathlib.Omega.{arith}
 use lib.ListN.{length, length-take}
 use Rattle.areas.specs.Rows.{held}
-use Rattle.ordering.specs.Ordering.{rules_for}
-use Rattle.images.specs.declared.Way.TheVariants.{Comm}
-use Rattle.operators.specs.Operators.{Passes, rule_list}
 use Rattle.operators.proofs.Exchanged.{first-few, lent-rules}
 use Rattle.operators.proofs.communicate.Goals as goal
-use Rattle.operators.proofs.communicate.Goals.{After-close_each-closed, After-first_rules-first}
-
-pub first_rules-first-requires : goal.first_rules-first-requires
-first_rules-first-requires c = tt
+use Rattle.operators.proofs.communicate.Goals.{After-first_rules-first}
 
 few : (c : After-first_rules-first) → length c.first_rules-first.result.now ≤ 24
 few c = first-few c.args.rules.now c.first_rules-first.result.now c.first_rules-first.ensures
@@ -40,22 +34,8 @@ slice_bounds-close_each-end c =
       length-take (2 * (length c.first_rules-first.result.now / 3 * 2)) c.rules_for-list.result,
     )
 
-pub close_each-closed-requires : goal.close_each-closed-requires
-close_each-closed-requires c = tt
-
--- what goes into the set by the words that are lent
-passes : (c : After-close_each-closed) →
-    let a = c.args in
-    Passes Comm (rules_for (held a.labels.now) (rule_list a.rules.now)) (held a.labels.now) (held a.operand.now)
-    (held a.out.now) (held c.close_each-closed.new.out) c.close_each-closed.result
-passes c =
-    let a = c.args in
-    rw (lent-rules (held a.labels.now) a.rules.now c.exchanges.result c.rules_for-list.result c.first_rules-first.ensures
-    c.exchanges.ensures c.rules_for-list.ensures)
-    at c.close_each-closed.ensures
-
-pub returns-in_default : goal.returns-in_default
-returns-in_default c = rw c.in_default.is at (passes (goal.at.returns-in_default c).After-close_each-closed)
-
 pub returns : goal.returns
-returns c = rw c.in-Holds.is at (passes (goal.at.returns c).After-close_each-closed)
+returns c =
+    rw (lent-rules (held c.args.labels.now) c.args.rules.now c.exchanges.result c.rules_for-list.result c.first_rules-first.ensures
+    c.exchanges.ensures c.rules_for-list.ensures)
+    at c.close_each.ensures

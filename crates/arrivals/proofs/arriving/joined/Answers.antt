@@ -24,9 +24,3 @@ returns-then-is_empty-2 c =
     let last = held c.copied-then-is_empty-2.new.out in
     subst (λ (u : List ℕ). GrownAt (at_start 0) (λ room s. cut_to room u) (held a.out.now) last c.copied-then-is_empty-2.result) (sym same)
     c.copied-then-is_empty-2.ensures
-
-pub returns-in_default : goal.returns-in_default
-returns-in_default c = rw c.in_default.is at c.union_of-made.ensures
-
-pub returns : goal.returns
-returns c = rw c.in-Holds.is at c.union_of-made.ensures

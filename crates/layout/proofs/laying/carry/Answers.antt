@@ -1,40 +1,30 @@
-use mathlib.Core.Path.{refl, ◌∙◌}
+-- `layout::laying::carry` meets its contract: the labels are copied with their words. Assumes nothing.
+use Prim.Native.Nat.{◌+◌, ◌-◌, ◌*◌}
 use native.Mathlib.Omega.{arith}
 use Rattle.areas.proofs.Held.{length-held}
-use Rattle.layout.proofs.Carries.{carrying-start, carrying-step, carrying-end}
+use Rattle.layout.proofs.Carries.{carried}
 use Rattle.layout.proofs.laying.carry.Goals as goal
 
-pub loop-i-init : goal.loop-i-init
-loop-i-init c = let p = c.requires in (carrying-start p.0 p.1 p.2, refl)
+pub overflow_mul-first : goal.overflow_mul-first
+overflow_mul-first c = omega (arith, length-held c.args.work.now)
 
-pub overflow_add-from : goal.overflow_add-from
-overflow_add-from c =
-    omega (arith, c.loop-i-test.true, c.loop-i.invariant.0.places, c.well_formed.0.0, length-held c.args.work.now)
+pub overflow_mul-count : goal.overflow_mul-count
+overflow_mul-count c = omega (arith, length-held c.args.work.now)
 
-pub read_label-label-requires : goal.read_label-label-requires
-read_label-label-requires c = tt
+pub overflow_add-first : goal.overflow_add-first
+overflow_add-first c = omega (arith, length-held c.args.work.now)
 
-pub overflow_add-to : goal.overflow_add-to
-overflow_add-to c =
-    omega (arith, c.loop-i-test.true, c.loop-i.invariant.0.places, c.well_formed.0.0, length-held c.args.work.now)
+pub overflow_mul-to : goal.overflow_mul-to
+overflow_mul-to c = omega (arith, length-held c.args.work.now)
 
-pub write_label-requires : goal.write_label-requires
-write_label-requires c = tt
+pub copy_within-requires-clause-in_bounds : goal.copy_within-requires-clause-in_bounds
+copy_within-requires-clause-in_bounds c = omega (arith, length-held c.args.work.now)
 
-pub overflow_add-i : goal.overflow_add-i
-overflow_add-i c = omega (arith, c.loop-i-test.true, c.ranges.count)
-
-pub loop-i-smaller : goal.loop-i-smaller
-loop-i-smaller c = omega (arith, c.loop-i-test.true)
-
-pub loop-i-preserved : goal.loop-i-preserved
-loop-i-preserved c =
-    let inv = c.loop-i.invariant in
-    let wrote = c.write_label in
-    (carrying-step inv.0 c.loop-i-test.true c.read_label-label.ensures wrote.ensures, wrote.auto.words ∙ inv.1)
-
-pub shape_of-work : goal.shape_of-work
-shape_of-work c = c.loop-i.invariant.1
+pub copy_within-requires-clause-dest_in_bounds : goal.copy_within-requires-clause-dest_in_bounds
+copy_within-requires-clause-dest_in_bounds c = omega (arith, length-held c.args.work.now)
 
 pub returns : goal.returns
-returns c = carrying-end c.loop-i.invariant.0 c.loop-i-test.false
+returns c =
+    let a = c.args in
+    let n = 2 * a.from + 2 * a.count - 2 * a.from in
+    carried a.from a.to a.count n a.work.now c.copy_within.ensures.after (omega arith) c.requires.0 c.requires.1

@@ -6,15 +6,6 @@ use Rattle.areas.proofs.Held.{length-held}
 use Rattle.layout.proofs.Layings.{planned, plan-within, pick_small, anew-within, anew-start, anew-step, anew-end}
 use Rattle.layout.proofs.laying.lay_anew.Goals as goal
 
-pub labels_in-half-requires : goal.labels_in-half-requires
-labels_in-half-requires c = tt
-
-pub gap_behind-gap-requires : goal.gap_behind-gap-requires
-gap_behind-gap-requires c = tt
-
-pub free_half-start-requires : goal.free_half-start-requires
-free_half-start-requires c = tt
-
 pub overflow_add-end : goal.overflow_add-end
 overflow_add-end c =
     let g = c.well_formed.0.1 in
@@ -43,21 +34,11 @@ overflow_add-at c =
     let moved = c.move_set in
     omega (arith, plan-within p, p.few, c.well_formed.0.1, length-held c.args.work.now, moved.ensures.within, c.room_after.ensures)
 
-pub overflow_add-t : goal.overflow_add-t
-overflow_add-t c =
-    omega (arith, c.loop-t-test.true, c.ranges.terms)
-
-pub loop-t-smaller : goal.loop-t-smaller
-loop-t-smaller c = omega (arith, c.loop-t-test.true)
-
 pub loop-t-preserved : goal.loop-t-preserved
 loop-t-preserved c =
     let inv = c.loop-t.invariant in
     let moved = c.move_set in
     (anew-step inv.0 c.loop-t-test.true moved.ensures c.room_after.ensures, moved.auto.work ∙ inv.1)
-
-pub set_part-requires : goal.set_part-requires
-set_part-requires c = tt
 
 pub returns : goal.returns
 returns c =

@@ -9,9 +9,6 @@ use Rattle.stability.proofs.stages.turn_on.Goals.{After-course-to}
 pub loop-k-init : goal.loop-k-init
 loop-k-init c = (turned-start, refl, refl, refl)
 
-pub course-to-requires : goal.course-to-requires
-course-to-requires c = tt
-
 -- the words of the areas after a round
 kept-words : (c : After-course-to) → let last = c.course-to.new in
     let a = c.args in
@@ -40,12 +37,6 @@ shape_of-log-in_default c = (kept-words (goal.at.shape_of-log-in_default c).Afte
 pub shape_of-out-in_default : goal.shape_of-out-in_default
 shape_of-out-in_default c = (kept-words (goal.at.shape_of-out-in_default c).After-course-to).2
 
-pub overflow_add-k : goal.overflow_add-k
-overflow_add-k c = omega arith
-
-pub hand_on-requires : goal.hand_on-requires
-hand_on-requires c = tt
-
 pub returns-then-not-hand_on : goal.returns-then-not-hand_on
 returns-then-not-hand_on c =
     turned-stable c.requires c.loop-k.invariant.0 (rw c.in-Holds.is at c.course-to.ensures)
@@ -68,9 +59,6 @@ shape_of-log-then-not-hand_on c =
 pub shape_of-out-then-not-hand_on : goal.shape_of-out-then-not-hand_on
 shape_of-out-then-not-hand_on c =
     (kept-words (goal.at.shape_of-out-then-not-hand_on c).After-course-to).2
-
-pub loop-k-smaller : goal.loop-k-smaller
-loop-k-smaller c = omega arith
 
 pub loop-k-preserved : goal.loop-k-preserved
 loop-k-preserved c =

@@ -1,7 +1,6 @@
 -- `stability::stages::turn_on` meets its contract: round after round. The areas have as many words as before.
 -- Assumes nothing.
 use mathlib.Core.Path.{◌≡◌}
-use Prim.Native.Nat.{◌-◌}
 use lib.ListN.{length}
 use Rattle.areas.specs.Rows.{held}
 use Rattle.stability.proofs.Rounding.{Turned}
@@ -14,6 +13,3 @@ invariant-loop-k l =
     × (length l.work ≡ length l.initial.work)
     × (length l.log ≡ length l.initial.log)
     × (length l.out ≡ length l.initial.out)
-
-abbrev pub decreases-loop-k : goal.decreases-loop-k
-decreases-loop-k l = 2049 - l.k
