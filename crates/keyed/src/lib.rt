@@ -14,12 +14,18 @@ use faults::Flaw;
 use words::literals::sign_at;
 use words::{Step, stuck_at};
 
-// How far reading has come: past some lines, with the number or the packed name that a single one holds, and how many bytes they
-// took; or the fault of a line with its column, and the line's number.
+// What was read and how many bytes it took.
 #[derive(Clone, Copy)]
-pub enum Progress {
-    To(u64, usize),
-    Bad(Flaw, usize),
+pub struct Taken<T> {
+    pub value: T,
+    pub bytes: usize,
+}
+
+// The fault of a line with its column, and the line's number.
+#[derive(Clone, Copy)]
+pub struct BadLine {
+    pub flaw: Flaw,
+    pub line: usize,
 }
 
 // What was read from a place of the text on, as the last thing of its line: the step goes past the LF.

@@ -7,7 +7,7 @@ ghost use Rattle.words.specs.Steps.{Steps};
 ghost use Rattle.keyed.specs.Ends.{placed_after};
 ghost use Rattle.keyed.specs.Walks.{Walks};
 
-use crate::{Progress, at_end};
+use crate::{BadLine, Taken, at_end};
 use faults::{Fault, flaw_after};
 use words::literals::read_literal;
 use words::names::{find_name, read_word};
@@ -39,16 +39,18 @@ fn is_free(names: &[u64], w: u64) -> bool
 }
 
 // One name more, after those that were given before it.
-pub fn take_name(text: &[u8], line: usize, names: &[u64]) -> Progress
+pub fn take_name(text: &[u8], line: usize, names: &[u64]) -> Result<Taken<u64>, BadLine>
     ensures { Walks (λ w. map (name_of 8) names.now ++ (name_of 8 w ∷ [])) text.now (suc line) result
         (one_line (take_name (map (name_of 8) names.now)) line text.now) }
 {
     let step = read_name_line(text);
     let Step::To(w, took) = step else {
-        return Progress::Bad(flaw_after(text, Fault::Form, stuck_at(step)), line);
+        let flaw = flaw_after(text, Fault::Form, stuck_at(step));
+        return Err(BadLine { flaw, line });
     };
     if !is_free(names, w) {
-        return Progress::Bad(flaw_after(text, Fault::Name, KEY_BYTES), line);
+        let flaw = flaw_after(text, Fault::Name, KEY_BYTES);
+        return Err(BadLine { flaw, line });
     }
-    Progress::To(w, took)
+    Ok(Taken { value: w, bytes: took })
 }

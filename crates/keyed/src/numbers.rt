@@ -7,7 +7,7 @@ ghost use Rattle.words.specs.Steps.{Steps};
 ghost use Rattle.keyed.specs.Ends.{placed_after};
 ghost use Rattle.keyed.specs.Numbers.{between, NumberTo};
 
-use crate::{Progress, at_end};
+use crate::{BadLine, Taken, at_end};
 use faults::{Fault, flaw_after};
 use words::literals::read_literal;
 use words::numbers::read_number;
@@ -33,16 +33,18 @@ pub fn take_number(
     low: u64,
     below: u64,
     fault: Fault,
-) -> Progress
+) -> Result<Taken<u64>, BadLine>
     ensures { NumberTo text.now line below result
         (one_line (take_number key.now (between low below) (fault_of fault)) line text.now) }
 {
     let step = read_count(text, key);
     let Step::To(n, took) = step else {
-        return Progress::Bad(flaw_after(text, Fault::Form, stuck_at(step)), line);
+        let flaw = flaw_after(text, Fault::Form, stuck_at(step));
+        return Err(BadLine { flaw, line });
     };
     if n < low || below <= n {
-        return Progress::Bad(flaw_after(text, fault, key.len()), line);
+        let flaw = flaw_after(text, fault, key.len());
+        return Err(BadLine { flaw, line });
     }
-    Progress::To(n, took)
+    Ok(Taken { value: n, bytes: took })
 }

@@ -16,7 +16,7 @@ returns-in_default c =
     let a = c.args in
     let s = steps-stuck c.read_name_line-step.ensures (stuck_there c.in_default.is c.stuck_at.ensures) in
     record {
-      says = line-bad a.line a.text.now c.flaw_after.ensures (name-stuck (map (name_of 8) a.names.now) a.text.now s);
+      says = line-bad a.line a.text.now c.flaw_after-flaw.ensures (name-stuck (map (name_of 8) a.names.now) a.text.now s);
       within = omega arith;
     }
 
@@ -26,7 +26,7 @@ returns-then-not-is_free c =
     let s = steps-to c.read_name_line-step.ensures c.in-To.is in
     record {
       says =
-          line-bad a.line a.text.now c.flaw_after-then-not-is_free.ensures
+          line-bad a.line a.text.now c.flaw_after-flaw-then-not-is_free.ensures
           (name-held (map (name_of 8) a.names.now) _ s.says (sym c.is_free.ensures ∙ not-true _ c.if-not-is_free.true-raw));
       within = omega arith;
     }

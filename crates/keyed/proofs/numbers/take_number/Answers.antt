@@ -14,7 +14,7 @@ returns-in_default c =
     let a = c.args in
     let s = steps-stuck c.read_count-step.ensures (stuck_there c.in_default.is c.stuck_at.ensures) in
     number_to-bad
-    (line-bad a.line a.text.now c.flaw_after.ensures
+    (line-bad a.line a.text.now c.flaw_after-flaw.ensures
     (number-stuck a.key.now a.low a.below (fault_of a.fault) a.text.now s))
 
 pub returns-then-n-low : goal.returns-then-n-low
@@ -23,7 +23,7 @@ returns-then-n-low c =
     let s = steps-to c.read_count-step.ensures c.in-To.is in
     let n = c.in-To.n in
     number_to-bad
-    (line-bad a.line a.text.now c.flaw_after-then-n-low.ensures
+    (line-bad a.line a.text.now c.flaw_after-flaw-then-n-low.ensures
     (elim c.then-n-low.branch [
       | goal.then-n-low-via-then-n-low w ↦ number-low a.key.now a.low a.below (fault_of a.fault) _ s.says w.if-n-low.true
       | goal.then-n-low-via-else-n-low+then-below-n w ↦
