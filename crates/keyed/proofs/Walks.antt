@@ -12,7 +12,7 @@ use Rattle.faults.specs.declared.Flaw.{Flaw}
 use Rattle.grammar.specs.Reading as G
 use Rattle.grammar.specs.Reading.{faulty, flaw_in, Walk, reached, halted, after_line}
 use Rattle.keyed.specs.Numbers.{NumberTo}
-use Rattle.keyed.specs.Walks.{Walks}
+use Rattle.keyed.specs.Walks.{refusal, Walks}
 use Rattle.keyed.specs.declared.Taken.{Taken}
 use Rattle.keyed.specs.declared.BadLine.{BadLine}
 
@@ -38,5 +38,5 @@ pub line-bad : {A : Type 0} (line : ℕ) (text : Text) {t : G.Taken A} {x : Faul
 line-bad line text e q = ap (λ w. halted w line) e ∙ ap (after_line line text) q
 
 pub number_to-bad : {text : Text} {line below : ℕ} {due : Walk ℕ} {f : Flaw} → halted (flaw_of f) line ≡ due
-    → NumberTo text line below (Err (record { flaw = f; line = line })) due
+    → NumberTo text line below (refusal f line) due
 number_to-bad q = record { walks = record { says = q; within = omega arith }; bounded = tt }
