@@ -28,7 +28,7 @@ module _ (text : Text) (line : ℕ) (due : Walk D.Order) (before after₁ after�
       let x : p.order ≡ q.order = cc in
       let d : drop t.bytes text ≡ drop u.bytes text = cc in (
         ap₂ (λ v n. Ok (record { value = v; bytes = n })) (p.kept ∙ ap order_for x ∙ sym q.kept)
-        (place-unique text t.bytes u.bytes p.within q.within d),
+            (place-unique text t.bytes u.bytes p.within q.within d),
         p.stored ∙ ap (λ o. overlaid (order_words o) before) x ∙ sym q.stored,
       )
   walks-unique (Ok t) (Err b) p q = let e = alike p.says q.says in let z : ◌≡◌ {A = ℕ} 0 1 = cc in absurd (omega arith)
