@@ -31,7 +31,7 @@ slice_bounds-read_number-start c = passed c
 pub shifted-requires : goal.shifted-requires
 shifted-requires c =
     let line = c.args.rest.now in
-    omega (arith, went_within number line 1 (passed (goal.at.shifted-requires c).Else-not-sign_at) c.read_number.ensures)
+    omega (arith, went_within (λ _ n. n) number line 1 (passed (goal.at.shifted-requires c).Else-not-sign_at) c.read_number.ensures)
 
 pub returns : goal.returns
 returns c =
@@ -40,5 +40,5 @@ returns c =
     record {
       stands =
           past-sign a.sign a.rest.now 0 _ (sym c.sign_at.ensures ∙ c.if-not-sign_at.false)
-          (moved number a.rest.now 1 w c.read_number.ensures c.shifted.ensures).stands;
+          (moved (λ _ n. n) number a.rest.now 1 w c.read_number.ensures c.shifted.ensures).stands;
     }
