@@ -11,7 +11,7 @@ use Rattle.meaning.specs.Answers.{range}
 use Rattle.words.proofs.Steps.{rest_at}
 use Rattle.grammar.specs.Reading.{take_number, take_body, walk, one_line}
 use Rattle.keyed.specs.Numbers.{between, NumberTo}
-use Rattle.keyed.specs.declared.Taken.{Taken}
+use Rattle.words.specs.declared.Taken.{Taken}
 use Rattle.keyed.specs.declared.BadLine.{BadLine}
 use Rattle.keyed.proofs.Walks.{gone-to, gone-within, gone-bad}
 use Rattle.keyed.proofs.Sequences.{lines-halt}

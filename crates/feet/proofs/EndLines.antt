@@ -24,7 +24,7 @@ use Rattle.grammar.specs.Reading as M
 use Rattle.grammar.specs.Reading.{Whole, from_order, from_root, from_bodies, described}
 use Rattle.orderlines.specs.Orders.{nothing_after, form_if, order_first, order_last, OrderEnd}
 use Rattle.keyed.specs.Walks.{refusal}
-use Rattle.keyed.specs.declared.Taken.{Taken}
+use Rattle.words.specs.declared.Taken.{Taken}
 use Rattle.keyed.specs.declared.BadLine.{BadLine}
 use Rattle.sections.specs.Sections.{Section, Within}
 use Rattle.sections.proofs.Joins.{walk-walk, ends-bad, ends_on}

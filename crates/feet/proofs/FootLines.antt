@@ -12,7 +12,7 @@ use Rattle.meaning.specs.Answers.{range}
 use Rattle.words.proofs.Steps.{rest_at}
 use Rattle.grammar.specs.Reading.{Walk, take_number, take_body, reached, one_line, lines}
 use Rattle.keyed.specs.Numbers.{between, NumberTo}
-use Rattle.keyed.specs.declared.Taken.{Taken}
+use Rattle.words.specs.declared.Taken.{Taken}
 use Rattle.keyed.specs.declared.BadLine.{BadLine}
 use Rattle.keyed.proofs.Walks.{gone-within}
 use Rattle.sections.specs.Laying.{laid_at}

@@ -14,7 +14,7 @@ use Rattle.table.specs.Encoded.{order_for}
 use Rattle.table.specs.Holding.{names_in}
 use Rattle.grammar.specs.Reading.{Walk, Reading, read, overlong, bad_line, described, from_bodies}
 use Rattle.table.specs.declared.Order.{Order}
-use Rattle.keyed.specs.declared.Taken.{Taken}
+use Rattle.words.specs.declared.Taken.{Taken}
 use Rattle.keyed.specs.declared.BadLine.{BadLine}
 use Rattle.sections.proofs.Uniqueness.{on_ok, given-once}
 use Rattle.feet.specs.Feet.{Footing, foot_text}

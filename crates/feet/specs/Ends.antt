@@ -10,7 +10,7 @@ use Rattle.lists.specs.Lists.{overlaid}
 use Rattle.grammar.specs.Reading.{Walk, reached, Reading, read, overlong, bad_line, at_first, described, from_bodies}
 use Rattle.faults.specs.CodedFaults.{flaw_for}
 use Rattle.table.specs.declared.Order.{Order}
-use Rattle.keyed.specs.declared.Taken.{Taken}
+use Rattle.words.specs.declared.Taken.{Taken}
 use Rattle.keyed.specs.declared.BadLine.{BadLine}
 use Rattle.keyed.specs.Walks.{refusal}
 use Rattle.sections.specs.Laying.{with_foot}

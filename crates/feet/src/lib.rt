@@ -8,9 +8,10 @@ ghost use Rattle.sections.specs.Sections.{Whether};
 
 use faults::{Fault, first_flaw};
 use keyed::numbers::take_number;
-use keyed::{BadLine, Taken};
+use keyed::BadLine;
 use orderlines::take_order;
 use table::{BODIES_AT, EQUATIONS, Order, ROOT_AT, TABLE_WORDS, names_of};
+use words::Taken;
 
 // The largest number that the first of the lines can have, behind twenty-four names, three counts and 96 terms.
 const FIRST_LINE: usize = 124;

@@ -11,7 +11,7 @@ use Rattle.meaning.specs.Answers.{form}
 use Rattle.words.proofs.Steps.{rest_at}
 use Rattle.grammar.specs.Reading.{Walk, take_number, take_name, names_in_range, equations_in_range, terms_in_range, reached, one_line, lines}
 use Rattle.keyed.specs.Numbers.{between, NumberTo}
-use Rattle.keyed.specs.declared.Taken.{Taken}
+use Rattle.words.specs.declared.Taken.{Taken}
 use Rattle.keyed.specs.declared.BadLine.{BadLine}
 use Rattle.keyed.proofs.Walks.{gone-within, gone-below}
 use Rattle.sections.specs.Sections.{Section}

@@ -13,7 +13,7 @@ use Rattle.words.proofs.Steps.{rest_at}
 use Rattle.words.proofs.Looked.{word-name}
 use Rattle.grammar.specs.Reading.{take_name, one_line}
 use Rattle.keyed.specs.Walks.{Walks}
-use Rattle.keyed.specs.declared.Taken.{Taken}
+use Rattle.words.specs.declared.Taken.{Taken}
 use Rattle.keyed.specs.declared.BadLine.{BadLine}
 use Rattle.keyed.proofs.Walks.{gone-to, gone-within, gone-bad}
 use Rattle.keyed.proofs.Sequences.{lines-halt}

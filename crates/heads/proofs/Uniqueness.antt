@@ -8,7 +8,7 @@ use lib.ListN.{length}
 use Rattle.std.specs.Prelude.{Result, OnOk}
 use Rattle.meaning.specs.Bytes.{Text}
 use Rattle.meaning.proofs.Alike.{alike}
-use Rattle.keyed.specs.declared.Taken.{Taken}
+use Rattle.words.specs.declared.Taken.{Taken}
 use Rattle.keyed.specs.declared.BadLine.{BadLine}
 use Rattle.sections.proofs.Uniqueness.{on_ok, comes-once, given-once}
 use Rattle.heads.specs.Heads.{head_text, HeadGiven}

@@ -7,7 +7,7 @@ use Rattle.table.specs.Decoded.{name_of}
 use Rattle.table.specs.Encoded.{word_of}
 use Rattle.grammar.specs.Reading.{take_number, names_in_range, equations_in_range, terms_in_range, take_name, Walk, reached, walk, at_first, one_line, lines}
 use Rattle.faults.specs.CodedFaults.{flaw_for}
-use Rattle.keyed.specs.declared.Taken.{Taken}
+use Rattle.words.specs.declared.Taken.{Taken}
 use Rattle.keyed.specs.declared.BadLine.{BadLine}
 use Rattle.keyed.specs.Walks.{refusal}
 use Rattle.sections.specs.Laying.{laid_at, with_counts}

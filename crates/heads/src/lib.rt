@@ -7,8 +7,9 @@ ghost use Rattle.heads.specs.Heads.{NamesRead, CountsRead, HeadGiven};
 use faults::{Fault, first_flaw};
 use keyed::names::take_name;
 use keyed::numbers::take_number;
-use keyed::{BadLine, Taken};
+use keyed::BadLine;
 use table::{COUNTED_AT, EQUATED_AT, NAMED_AT, NAMES_AT, TABLE_WORDS};
+use words::Taken;
 
 // So many lines of names, from the second line on; each goes to its word of the table. How many bytes they took is returned.
 fn read_names(text: &[u8], named: usize, table: &mut [u64]) -> Result<usize, BadLine>

@@ -17,7 +17,7 @@ use Rattle.words.proofs.Looked.{word-name}
 use Rattle.words.proofs.Uniqueness.{place-unique}
 use Rattle.keyed.specs.Walks.{walk_of, TookOf, Walks}
 use Rattle.keyed.specs.Numbers.{NumberTo}
-use Rattle.keyed.specs.declared.Taken.{Taken}
+use Rattle.words.specs.declared.Taken.{Taken}
 use Rattle.keyed.specs.declared.BadLine.{BadLine}
 
 -- A bad line is settled by its flaw and its number.

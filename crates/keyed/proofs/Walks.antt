@@ -13,7 +13,7 @@ use Rattle.grammar.specs.Reading as G
 use Rattle.grammar.specs.Reading.{faulty, flaw_in, Walk, reached, halted, after_line}
 use Rattle.keyed.specs.Numbers.{NumberTo}
 use Rattle.keyed.specs.Walks.{refusal, Walks}
-use Rattle.keyed.specs.declared.Taken.{Taken}
+use Rattle.words.specs.declared.Taken.{Taken}
 use Rattle.keyed.specs.declared.BadLine.{BadLine}
 
 module _ {A : Type 0} {value : ℕ → A} {text : Text} {next : ℕ} {r : Result (Taken ℕ) BadLine} {due : Walk A} (w : Walks value text next r due) where

@@ -4,7 +4,7 @@ use Rattle.std.specs.Prelude.{Bool, ◌&&◌, ℕ, suc, ◌<◌, leb, ltb, Resul
 use Rattle.meaning.specs.Bytes.{Text}
 use Rattle.grammar.specs.Reading.{Walk}
 use Rattle.keyed.specs.Walks.{Walks}
-use Rattle.keyed.specs.declared.Taken.{Taken}
+use Rattle.words.specs.declared.Taken.{Taken}
 use Rattle.keyed.specs.declared.BadLine.{BadLine}
 
 -- The test of a number: from the first on and below the second.

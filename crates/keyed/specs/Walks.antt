@@ -5,7 +5,7 @@ use Rattle.meaning.specs.Bytes.{Text}
 use Rattle.faults.specs.CodedFaults.{flaw_of}
 use Rattle.faults.specs.declared.Flaw.{Flaw}
 use Rattle.grammar.specs.Reading.{Walk, reached, halted}
-use Rattle.keyed.specs.declared.Taken.{Taken}
+use Rattle.words.specs.declared.Taken.{Taken}
 use Rattle.keyed.specs.declared.BadLine.{BadLine}
 
 -- What was read with the last number, the next line's number and the text from there on.

@@ -31,7 +31,7 @@ use Rattle.keyed.specs.Walks.{refusal}
 use Rattle.lists.proofs.Contents.{labels-few}
 use Rattle.lists.specs.Lists.{overlaid}
 use Rattle.orderlines.specs.Orders.{nothing_after, order_first, form_if, order_last, OrderWalks, OrderWalked, OrderEnd}
-use Rattle.keyed.specs.declared.Taken.{Taken}
+use Rattle.words.specs.declared.Taken.{Taken}
 use Rattle.keyed.specs.declared.BadLine.{BadLine}
 
 module _ {text : Text} {line : ℕ} {due : Walk D.Order} {before after : List ℕ} {f : Flaw} {l : ℕ} where

@@ -15,7 +15,7 @@ use Rattle.table.specs.Encoded.{order_for, order_words}
 use Rattle.grammar.specs.Reading.{Walk}
 use Rattle.lists.specs.Lists.{overlaid}
 use Rattle.words.proofs.Uniqueness.{place-unique}
-use Rattle.keyed.specs.declared.Taken.{Taken}
+use Rattle.words.specs.declared.Taken.{Taken}
 use Rattle.keyed.specs.declared.BadLine.{BadLine}
 use Rattle.keyed.proofs.Uniqueness.{bad-unique}
 use Rattle.orderlines.specs.Orders.{OrderWalks, OrderEnd, order_last}

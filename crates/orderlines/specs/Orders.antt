@@ -15,7 +15,7 @@ use Rattle.faults.specs.CodedFaults.{found_of, flaw_of}
 use Rattle.faults.specs.declared.Found as G
 use Rattle.words.specs.Steps.{Stands}
 use Rattle.lists.specs.Lists.{overlaid}
-use Rattle.keyed.specs.declared.Taken.{Taken}
+use Rattle.words.specs.declared.Taken.{Taken}
 use Rattle.keyed.specs.declared.BadLine.{BadLine}
 use Rattle.orderlines.specs.declared.OrderStep.{OrderStep}
 use Rattle.orderlines.specs.declared.OrderStep.TheVariants as O

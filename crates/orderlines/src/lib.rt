@@ -8,7 +8,7 @@ ghost use Rattle.orderlines.specs.Orders.{order_place, OrderRead, only_these, Or
 
 use areas::clear;
 use faults::{Fault, Found, first_flaw, flaw_after, flaw_in};
-use keyed::{BadLine, Taken};
+use keyed::BadLine;
 use labels::packing::number_of;
 use lists::{ListKind, SaidStep, read_whole, said_stuck_at};
 use slots::Place;

@@ -13,7 +13,7 @@ use Rattle.table.specs.Decoded.{name_of}
 use Rattle.table.specs.Encoded.{word_of}
 use Rattle.table.specs.Holding.{names_in, bodies_in}
 use Rattle.grammar.specs.Reading.{Walk, Reading, read, overlong, bad_line, described, from_bodies, from_terms}
-use Rattle.keyed.specs.declared.Taken.{Taken}
+use Rattle.words.specs.declared.Taken.{Taken}
 use Rattle.keyed.specs.declared.BadLine.{BadLine}
 use Rattle.sections.specs.Laying.{with_counts, with_terms, with_foot, lists_over}
 use Rattle.sections.specs.Sections.{Section, Within}

@@ -12,7 +12,7 @@ use Rattle.grammar.specs.Forms.{count_line}
 use Rattle.grammar.specs.Reading.{taken_if, formed, take_number, reached, halted, after_line, one_line}
 use Rattle.faults.specs.CodedFaults.{flaw_of}
 use Rattle.keyed.specs.Numbers.{between, NumberTo}
-use Rattle.keyed.specs.declared.Taken.{Taken}
+use Rattle.words.specs.declared.Taken.{Taken}
 use Rattle.keyed.specs.declared.BadLine.{BadLine}
 use Rattle.keyed.proofs.Walks.{gone-to, gone-bad}
 

@@ -9,7 +9,7 @@ use Rattle.meaning.specs.Bytes.{Text}
 use Rattle.meaning.proofs.Alike.{alike}
 use Rattle.grammar.specs.Reading.{Walk}
 use Rattle.words.proofs.Uniqueness.{place-unique}
-use Rattle.keyed.specs.declared.Taken.{Taken}
+use Rattle.words.specs.declared.Taken.{Taken}
 use Rattle.keyed.specs.declared.BadLine.{BadLine}
 use Rattle.keyed.proofs.Uniqueness.{bad-unique}
 use Rattle.sections.specs.Sections.{Section, Passes, Comes, Roomed}

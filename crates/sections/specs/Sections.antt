@@ -4,7 +4,7 @@ use Rattle.std.specs.Prelude.{◌≡◌, Bool, true, false, List, ℕ, ◌≤◌
 use Rattle.meaning.specs.Bytes.{Text}
 use Rattle.faults.specs.CodedFaults.{flaw_of}
 use Rattle.grammar.specs.Reading.{Walk, reached, halted}
-use Rattle.keyed.specs.declared.Taken.{Taken}
+use Rattle.words.specs.declared.Taken.{Taken}
 use Rattle.keyed.specs.declared.BadLine.{BadLine}
 
 -- What was read, with the number of the next line and the text from there on; and what is left of it.

@@ -16,7 +16,7 @@ use Rattle.words.proofs.Steps.{rest_at}
 use Rattle.grammar.specs.Reading.{take_term, at_first, one_line}
 use Rattle.faults.specs.CodedFaults.{flaw_of}
 use Rattle.faults.specs.declared.Flaw.{Flaw}
-use Rattle.keyed.specs.declared.Taken.{Taken}
+use Rattle.words.specs.declared.Taken.{Taken}
 use Rattle.keyed.specs.declared.BadLine.{BadLine}
 use Rattle.keyed.specs.Walks.{refusal}
 use Rattle.keyed.proofs.Sequences.{lines-halt}

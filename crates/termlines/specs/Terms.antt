@@ -9,7 +9,7 @@ use Rattle.table.specs.Holding.{names_in}
 use Rattle.lists.specs.Lists.{overlaid}
 use Rattle.grammar.specs.Reading.{take_term, at_first, one_line, lines}
 use Rattle.faults.specs.CodedFaults.{flaw_for}
-use Rattle.keyed.specs.declared.Taken.{Taken}
+use Rattle.words.specs.declared.Taken.{Taken}
 use Rattle.keyed.specs.declared.BadLine.{BadLine}
 use Rattle.keyed.specs.Walks.{refusal}
 use Rattle.sections.specs.Laying.{with_terms, lists_over}

@@ -6,10 +6,11 @@ ghost use Rattle.termlines.specs.Terms.{TermRead, TermsRoom, TermsRead, TermsGiv
 
 use faults::{Fault, Found, first_flaw, flaw_after, flaw_in};
 use forms::terms::{read_term, term_stuck_at};
-use keyed::{BadLine, Taken};
+use keyed::BadLine;
 use slots::packing::pack;
 use table::{LIST_WORDS, TABLE_WORDS, TERMS, TERMS_AT, names_of};
 use tails::TermStep;
+use words::Taken;
 
 // The largest number that the first of the lines can have, behind twenty-four names and three counts.
 const FIRST_LINE: usize = 28;
