@@ -1,6 +1,6 @@
 -- What the order's line gives, by its form and its fault.
 -- Assumes nothing.
-use mathlib.Core.Path.{◌≡◌, refl, sym, ap, ◌∙◌}
+use mathlib.Core.Path.{◌≡◌, sym, ap, ◌∙◌}
 use mathlib.Core.List.{List}
 use Prim.Native.Nat.{ℕ, ◌-◌}
 use lib.ListN.{length, drop}
@@ -45,10 +45,9 @@ module _ (words : List Text) (text : Text) where
     pub order-faulty : {g : F.Fault} {from : ℕ} → f ≡ Faulty g from → faulty (fault_of g) from ≡ take_order words text
     order-faulty e = taken-faulty k.faults (order_said words k.line) (drop took text) order-line e
 
-    pub order-came : (line : ℕ) → f ≡ Fine → OrderTo text line (one_line (take_order words) line text) before after x 0 took
+    pub order-came : (line : ℕ) → f ≡ Fine → OrderTo text line (one_line (take_order words) line text) before after x took
     order-came line e =
         record {
-          plain = refl;
           order = order_said words k.line;
           says = ap (after_line line text) (order-fine e);
           within = k.within;

@@ -15,15 +15,13 @@ pub returns-in_default : goal.returns-in_default
 returns-in_default c =
     let a = c.args in
     let k = rw (order-stuck-there c.in_default.is c.order_stuck_at.ensures) at c.read_order-step.ensures in
-    refused-walked c.refused.ensures
-    (line-bad a.line a.text.now c.flaw_after.ensures (order-formless (map (name_of 8) a.names.now) a.text.now k)) (omega arith)
+    refused-walked (line-bad a.line a.text.now c.flaw_after-flaw.ensures (order-formless (map (name_of 8) a.names.now) a.text.now k)) (omega arith)
 
 pub returns-in-Faulty : goal.returns-in-Faulty
 returns-in-Faulty c =
     let a = c.args in
     let k = rw c.in-To.is at c.read_order-step.ensures in
-    refused-walked c.refused-in-Faulty.ensures
-    (line-bad a.line a.text.now c.flaw_in.ensures
+    refused-walked (line-bad a.line a.text.now c.flaw_in-flaw.ensures
     (order-faulty (map (name_of 8) a.names.now) a.text.now k c.in-Faulty.is)) (omega arith)
 
 pub returns : goal.returns
