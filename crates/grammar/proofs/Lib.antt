@@ -9,7 +9,8 @@ pub mod Cases
 pub mod Writings
 -- decimal-digit, decimal-last, length-decimal: the last digit and those before it, and how many there are
 pub mod Decimal
--- written→printed, short→printed, printed→written, printed-within, printed-unique: what is printed in an area
+-- written→some, some→written, none→short, written-or-none-unique: what is printed in an area, or nothing
+-- written→printed, printed→written, printed-within, printed-unique: the same for C
 pub mod Areas
 -- written-append, underway-start, -byte, -step, -end, lent-room: one text behind another in an area
 pub mod Underway

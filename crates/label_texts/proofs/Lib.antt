@@ -1,5 +1,5 @@
 -- The laws that the writers' proofs cite, each file after those that it cites.
--- name-none, name-first, length-name: a packed name's first byte and those behind it
+-- no-bytes, first-byte, next-byte, length-name: a packed name's next byte and those behind it
 pub mod Names
 -- parts-start, -room, -again, -early, -end: a label's parts, each behind those before it
 pub mod Parts

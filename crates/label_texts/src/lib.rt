@@ -8,7 +8,7 @@ ghost use Rattle.table.specs.Decoded.{name_of};
 ghost use Rattle.grammar.specs.Marks.{part_text, label_text};
 ghost use Rattle.grammar.specs.Printed.{printed_label};
 ghost use Rattle.label_texts.specs.Steps.{next_text};
-ghost use Rattle.grammar.specs.Areas.{Written, Printed};
+ghost use Rattle.grammar.specs.Areas.{Written, WrittenOrNone};
 ghost use Rattle.label_texts.specs.Packed.{name_texts, counts_of};
 
 use labels::packing::{same, tau};
@@ -19,19 +19,23 @@ use table::NAMES;
 // What the first digit of an upper word counts where it goes down to a lower one: 2 to the power 55.
 const TOP_DIGIT: u64 = 36028797018963968;
 
+// A name has at most eight bytes.
+const LONGEST_NAME: usize = 8;
+
 // A name is packed in a word, its first byte lowest.
 fn write_name(text: &mut [u8], name: u64) -> usize
     requires { length (name_of 8 name) ≤ length text.old }
     ensures { Written (name_of 8 name) text.old text.new result }
 {
     let mut rest = name;
-    let mut at = 0;
-    while rest != 0 {
+    for at in 0..LONGEST_NAME {
+        if rest == 0 {
+            return at;
+        }
         text[at] = (rest % 256) as u8;
-        rest = rest / 256;
-        at += 1;
+        rest /= 256;
     }
-    at
+    LONGEST_NAME
 }
 
 fn write_part(text: &mut [u8], name: u64, times: usize) -> usize
@@ -41,7 +45,7 @@ fn write_part(text: &mut [u8], name: u64, times: usize) -> usize
     let end = write_name(text, name);
     text[end] = b':';
     let at = end + 1;
-    at + write_number(&mut text[at..], times)
+    at + write_number(&mut text[at..], times).unwrap()
 }
 
 // The next part of a label of which so many bytes are written: a point stands before it unless it is the first.
@@ -76,15 +80,13 @@ fn write_parts(text: &mut [u8], names: [u64; NAMES], label: Label) -> usize
 {
     let mut rest = label;
     let mut at = 0;
-    let mut i = 0;
-    while i < NAMES {
+    for name in names {
         if same(rest, tau()) {
             return at;
         }
         let times = (rest.lower % 32) as usize;
-        at += write_next(&mut text[at..], at, names[i], times);
+        at += write_next(&mut text[at..], at, name, times);
         rest = behind(rest);
-        i += 1;
     }
     at
 }
@@ -95,7 +97,7 @@ fn write_fitting_label(text: &mut [u8], names: [u64; NAMES], label: Label) -> us
 {
     let size = write_parts(text, names, label);
     if size == 0 {
-        return copy(b"tau", text);
+        return copy(b"tau", text).unwrap();
     }
     size
 }
@@ -121,12 +123,12 @@ fn label_fits(names: [u64; NAMES], label: Label, room: usize) -> bool
     label_length(names, label) <= room
 }
 
-// A label: its length is returned, or 0 where the area is too short for it.
-pub fn write_label(text: &mut [u8], names: [u64; NAMES], label: Label) -> usize
-    ensures { Printed (printed_label (name_texts names) (counts_of (code label))) text.old text.new result }
+// A label: its length is returned, or None where the area is too short for it.
+pub fn write_label(text: &mut [u8], names: [u64; NAMES], label: Label) -> Option<usize>
+    ensures { WrittenOrNone (printed_label (name_texts names) (counts_of (code label))) text.old text.new result }
 {
     if label_fits(names, label, text.len()) {
-        return write_fitting_label(text, names, label);
+        return Some(write_fitting_label(text, names, label));
     }
-    0
+    None
 }

@@ -5,16 +5,18 @@ pub mod lines;
 
 ghost use Rattle.std.specs.Prelude.{◌≡◌, ◌≤◌, leb, length};
 ghost use Rattle.grammar.specs.Marks.{decimal};
-ghost use Rattle.grammar.specs.Areas.{Written, Printed};
+ghost use Rattle.grammar.specs.Areas.{Written, WrittenOrNone};
 
-// A text written to the start of an area.
-pub fn copy(source: &[u8], text: &mut [u8]) -> usize
-    requires { length source.now ≤ length text.old }
-    ensures { Written source.now text.old text.new result }
+// A text written to the start of an area: its length is returned, or None where the area is too short for it.
+pub fn copy(source: &[u8], text: &mut [u8]) -> Option<usize>
+    ensures { WrittenOrNone source.now text.old text.new result }
 {
     let size = source.len();
+    if text.len() < size {
+        return None;
+    }
     text[..size].copy_from_slice(source);
-    size
+    Some(size)
 }
 
 // The digits before the last are those of a tenth of the number.
@@ -45,12 +47,12 @@ fn number_fits(n: usize, room: usize) -> bool
     write_digits(&mut scratch, n) <= room
 }
 
-// A number in decimal: its length is returned, or 0 where the area is too short for it.
-pub fn write_number(text: &mut [u8], n: usize) -> usize
-    ensures { Printed (decimal n) text.old text.new result }
+// A number in decimal: its length is returned, or None where the area is too short for it.
+pub fn write_number(text: &mut [u8], n: usize) -> Option<usize>
+    ensures { WrittenOrNone (decimal n) text.old text.new result }
 {
     if number_fits(n, text.len()) {
-        return write_digits(text, n);
+        return Some(write_digits(text, n));
     }
-    0
+    None
 }

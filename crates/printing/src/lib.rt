@@ -9,7 +9,7 @@ mod lines;
 ghost use Rattle.std.specs.Prelude.{◌≡◌, map, ◌≤◌, leb, length};
 ghost use Rattle.areas.specs.Rows.{held};
 ghost use Rattle.grammar.specs.Printed.{answer_text, refused_text};
-ghost use Rattle.grammar.specs.Areas.{Written, Printed};
+ghost use Rattle.grammar.specs.Areas.{Written, WrittenOrNone};
 ghost use Rattle.label_texts.specs.Packed.{name_texts, counts_of};
 ghost use Rattle.printing.specs.Steps.{answer_head};
 
@@ -45,15 +45,20 @@ fn answer_fits(names: [u64; NAMES], rounds: usize, labels: &[u64], room: usize) 
     label_lines_fit(names, labels, left)
 }
 
-// The text of an answer: its length is returned, or 0 where the area is too short for it.
-pub fn write_answer(text: &mut [u8], names: [u64; NAMES], rounds: usize, labels: &[u64]) -> usize
-    ensures { Printed (answer_text (name_texts names) rounds (map counts_of (held labels.now))) text.old text.new result }
+// The text of an answer: its length is returned, or None where the area is too short for it.
+pub fn write_answer(
+    text: &mut [u8],
+    names: [u64; NAMES],
+    rounds: usize,
+    labels: &[u64],
+) -> Option<usize>
+    ensures { WrittenOrNone (answer_text (name_texts names) rounds (map counts_of (held labels.now))) text.old text.new result }
 {
     if answer_fits(names, rounds, labels, text.len()) {
         let at = write_answer_head(text, rounds, labels_in(labels));
-        return at + write_label_lines(&mut text[at..], names, labels);
+        return Some(at + write_label_lines(&mut text[at..], names, labels));
     }
-    0
+    None
 }
 
 // A head and one number more.
@@ -71,7 +76,7 @@ fn write_fitting_refusal(text: &mut [u8], reason: usize, line: usize, column: us
         b"line=",
         line,
     );
-    at + write_count_line(&mut text[at..], b"column=", column)
+    at + write_count_line(&mut text[at..], b"column=", column).unwrap()
 }
 
 // Where the longest refusal would fit, no length is worked out.
@@ -86,11 +91,11 @@ fn refusal_fits(reason: usize, line: usize, column: usize, room: usize) -> bool
 }
 
 // The text of a refusal, by its number, its line and its column, in the same way.
-pub fn write_refusal(text: &mut [u8], reason: usize, line: usize, column: usize) -> usize
-    ensures { Printed (refused_text reason line column) text.old text.new result }
+pub fn write_refusal(text: &mut [u8], reason: usize, line: usize, column: usize) -> Option<usize>
+    ensures { WrittenOrNone (refused_text reason line column) text.old text.new result }
 {
     if refusal_fits(reason, line, column, text.len()) {
-        return write_fitting_refusal(text, reason, line, column);
+        return Some(write_fitting_refusal(text, reason, line, column));
     }
-    0
+    None
 }

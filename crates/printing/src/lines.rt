@@ -27,17 +27,17 @@ pub(crate) fn write_head(
     requires { length (head_text said.now key.now n next_key.now m) ≤ length text.old }
     ensures { Written (head_text said.now key.now n next_key.now m) text.old text.new result }
 {
-    let first = copy(said, text);
-    let second = first + write_count_line(&mut text[first..], key, n);
-    second + write_count_line(&mut text[second..], next_key, m)
+    let first = copy(said, text).unwrap();
+    let second = first + write_count_line(&mut text[first..], key, n).unwrap();
+    second + write_count_line(&mut text[second..], next_key, m).unwrap()
 }
 
 fn write_label_line(text: &mut [u8], names: [u64; NAMES], label: Label) -> usize
     requires { length (line (ascii "label=") (printed_label (name_texts names) (counts_of (code label)))) ≤ length text.old }
     ensures { Written (line (ascii "label=") (printed_label (name_texts names) (counts_of (code label)))) text.old text.new result }
 {
-    let at = copy(b"label=", text);
-    let end = at + write_label(&mut text[at..], names, label);
+    let at = copy(b"label=", text).unwrap();
+    let end = at + write_label(&mut text[at..], names, label).unwrap();
     text[end] = b'\n';
     end + 1
 }
@@ -46,13 +46,10 @@ pub(crate) fn write_label_lines(text: &mut [u8], names: [u64; NAMES], labels: &[
     requires { length (label_lines (name_texts names) (map counts_of (held labels.now))) ≤ length text.old }
     ensures { Written (label_lines (name_texts names) (map counts_of (held labels.now))) text.old text.new result }
 {
-    let end = labels_in(labels);
     let mut at = 0;
-    let mut i = 0;
-    while i < end {
+    for i in 0..labels_in(labels) {
         let label = read_label(labels, i);
         at += write_label_line(&mut text[at..], names, label);
-        i += 1;
     }
     at
 }
@@ -73,14 +70,12 @@ pub(crate) fn label_lines_fit(names: [u64; NAMES], labels: &[u64], room: usize) 
         return true;
     }
     let mut left = room;
-    let mut i = 0;
-    while i < end {
+    for i in 0..end {
         let size = label_length(names, read_label(labels, i)) + AROUND_A_LABEL;
         if left < size {
             return false;
         }
-        left = left - size;
-        i += 1;
+        left -= size;
     }
     true
 }

@@ -3,7 +3,7 @@
 pub mod TextCases
 -- taken-back, behind-start, behind-room, behind-step, behind-last: a text behind the first bytes of an area, which stay
 pub mod Behind
--- sum-step, reason-joined, reasons-step, reasons-end: the refusals' figures and lines one by one
+-- sum-size, reason-joined, next-reason, no-numbers, no-figures: the refusals' figures and lines one by one
 pub mod Reasons
 -- length-tally, printed-within: for callers, how long a text can be
 pub mod Lengths

@@ -7,7 +7,7 @@ ghost use Rattle.std.specs.Prelude.{◌≡◌, ◌++◌, ◌+◌, ◌≤◌, len
 ghost use Rattle.meaning.specs.Labels.{size};
 ghost use Rattle.grammar.specs.Marks.{decimal};
 ghost use Rattle.grammar.specs.Printed.{line};
-ghost use Rattle.grammar.specs.Areas.{Written, Printed};
+ghost use Rattle.grammar.specs.Areas.{Written, WrittenOrNone};
 ghost use Rattle.tally.specs.Figures.{refusal_numbers};
 ghost use Rattle.tally_texts.specs.Texts.{reason_key, reason_lines, tally_text};
 
@@ -15,24 +15,11 @@ use numerals::lines::write_count_line;
 use numerals::{copy, write_number};
 use tally::{REFUSALS, Tally};
 
-// A function of its own, so that nothing is asked of a figure that is read from an array, and its range is known.
-fn wide(figure: u32) -> usize
-    ensures { (result ≡ figure) × (result ≤ 4294967295) }
-{
-    figure as usize
-}
-
 // The sum of seven figures is far below a word.
 fn refused_in(refusals: [u32; REFUSALS]) -> usize
     ensures { result ≡ size refusals }
 {
-    let mut sum = 0;
-    let mut i = 0;
-    while i < REFUSALS {
-        sum += wide(refusals[i]);
-        i += 1;
-    }
-    sum
+    refusals.iter().map(|figure| *figure as usize).sum()
 }
 
 // A line behind the first bytes of an area, which stay: where it ends is returned.
@@ -40,7 +27,7 @@ fn add_line(text: &mut [u8], at: usize, key: &[u8], n: usize) -> usize
     requires { at + length (line key.now (decimal n)) ≤ length text.old }
     ensures { Written (take at text.old ++ line key.now (decimal n)) text.old text.new result }
 {
-    at + write_count_line(&mut text[at..], key, n)
+    at + write_count_line(&mut text[at..], key, n).unwrap()
 }
 
 // The line of a refusal, whose number is part of the key.
@@ -48,8 +35,8 @@ fn write_reason(text: &mut [u8], number: usize, n: usize) -> usize
     requires { length (line (reason_key number) (decimal n)) ≤ length text.old }
     ensures { Written (line (reason_key number) (decimal n)) text.old text.new result }
 {
-    let named = copy(b"reason", text);
-    let numbered = named + write_number(&mut text[named..], number);
+    let named = copy(b"reason", text).unwrap();
+    let numbered = named + write_number(&mut text[named..], number).unwrap();
     add_line(text, numbered, b"=", n)
 }
 
@@ -60,13 +47,9 @@ fn add_reasons(text: &mut [u8], at: usize, refusals: [u32; REFUSALS]) -> usize
     requires { at + length (reason_lines refusal_numbers refusals) ≤ length text.old }
     ensures { Written (take at text.old ++ reason_lines refusal_numbers refusals) text.old text.new result }
 {
-    // In a local of its own, or the whole table would be laid out again for each line.
-    let numbers = NUMBERS;
     let mut end = at;
-    let mut i = 0;
-    while i < REFUSALS {
-        end += write_reason(&mut text[end..], numbers[i], wide(refusals[i]));
-        i += 1;
+    for (number, figure) in NUMBERS.iter().zip(refusals.iter()) {
+        end += write_reason(&mut text[end..], *number, *figure as usize);
     }
     end
 }
@@ -88,14 +71,11 @@ fn write_lines(text: &mut [u8], tally: Tally) -> usize
 // No tally's text is longer: twelve numbers of at most twenty digits, and 113 bytes around them.
 pub const LONGEST_TALLY: usize = 353;
 
-// The text of a tally: its length is returned, or 0 where the area is too short for it.
-pub fn write_tally(text: &mut [u8], tally: Tally) -> usize
-    ensures { Printed (tally_text tally) text.old text.new result }
+// The text of a tally: its length is returned, or None where the area is too short for it.
+pub fn write_tally(text: &mut [u8], tally: Tally) -> Option<usize>
+    ensures { WrittenOrNone (tally_text tally) text.old text.new result }
 {
     let mut scratch = [0u8; LONGEST_TALLY];
     let size = write_lines(&mut scratch, tally);
-    if text.len() < size {
-        return 0;
-    }
     copy(&scratch[..size], text)
 }

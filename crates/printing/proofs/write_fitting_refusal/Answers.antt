@@ -6,8 +6,8 @@ use lib.ListN.{length}
 use Rattle.meaning.specs.Bytes.{Text}
 use Rattle.grammar.specs.Areas.{Written}
 use Rattle.grammar.specs.Printed.{refused_text}
-use Rattle.grammar.proofs.Areas.{printed→written}
-use Rattle.grammar.proofs.Underway.{Underway, underway-first, underway-last, underway-room, lent-room, written-within, written-length}
+use Rattle.grammar.proofs.Areas.{fits-is_some, some→written}
+use Rattle.grammar.proofs.Underway.{Underway, underway-first, underway-last, lent-room}
 use Rattle.printing.proofs.Refusals.{refusal_head, column_line, refusal-joined, length-refusal-joined}
 use Rattle.printing.proofs.write_fitting_refusal.Goals as goal
 
@@ -21,19 +21,13 @@ write_head-at-requires c =
     let a = c.args in
     omega (arith, c.requires, length-refusal-joined a.reason a.line a.column)
 
-pub slice_bounds-write_count_line-count : goal.slice_bounds-write_count_line-count
-slice_bounds-write_count_line-count c =
+pub unwrap-requires : goal.unwrap-requires
+unwrap-requires c =
     let a = c.args in
-    omega (arith, underway-room (head-written a.reason a.line a.column c.requires c.write_head-at.ensures))
+    fits-is_some (lent-room (head-written a.reason a.line a.column c.requires c.write_head-at.ensures)) c.write_count_line.ensures
 
 pub returns : goal.returns
 returns c =
     let a = c.args in
     let w = head-written a.reason a.line a.column c.requires c.write_head-at.ensures in
-    underway-last w (printed→written (lent-room w) c.write_count_line.ensures)
-
-pub overflow_add-result : goal.overflow_add-result
-overflow_add-result c = omega (arith, written-within c.requires (returns c))
-
-pub shape_of-text : goal.shape_of-text
-shape_of-text c = written-length c.requires (returns c)
+    underway-last w (some→written (lent-room w) c.write_count_line.ensures c.unwrap.ensures)

@@ -1,44 +1,38 @@
 -- Assumes nothing.
-use mathlib.Core.List.{◌++◌}
-use Prim.Native.Nat.{◌+◌}
-use native.Mathlib.Omega.{arith}
-use lib.ListN.{take}
-use Rattle.grammar.proofs.Underway.{Underway, underway-step, underway-end, underway-kept, underway-room, next-room}
+use mathlib.Core.Path.{◌≡◌}
+use mathlib.Core.Logic.{inl, inr}
+use Rattle.grammar.specs.Marks.{decimal}
+use Rattle.grammar.specs.Printed.{line}
+use Rattle.grammar.proofs.Underway.{underway-step, underway-end, next-room}
+use Rattle.tally.specs.Figures.{refusal_numbers}
+use Rattle.tally_texts.specs.Texts.{reason_key, reason_lines}
 use Rattle.tally_texts.proofs.Behind.{behind-start}
-use Rattle.tally_texts.proofs.Reasons.{reason_line, reasons_from, reasons-step, reasons-end}
+use Rattle.tally_texts.proofs.Reasons.{next-reason, no-numbers, no-figures}
 use Rattle.tally_texts.proofs.add_reasons.Goals as goal
-use Rattle.tally_texts.proofs.add_reasons.Goals.{After-wide}
 
-pub loop-i-init : goal.loop-i-init
-loop-i-init c = (behind-start (reasons_from c.args.refusals 0) c.args.text.now c.args.at c.requires, omega arith)
-
-pub slice_bounds-write_reason-count : goal.slice_bounds-write_reason-count
-slice_bounds-write_reason-count c = omega (arith, underway-room c.loop-i.invariant.0)
-
--- the next line, and the lines behind it
-next-line : (c : After-wide) →
+pub loop-number-init : goal.loop-number-init
+loop-number-init c =
     let a = c.args in
-    let l = c.loop-i in
-    Underway (take a.at a.text.now ++ reasons_from a.refusals 0) (reason_line l.i c.wide.result ++ reasons_from a.refusals (l.i + 1)) a.text.now l.text l.end
-next-line c =
-    let l = c.loop-i in
-    rw (reasons-step c.args.refusals l.i c.wide.result (omega arith) (omega arith) c.wide.ensures.0) at l.invariant.0
+    let numbers : c.into_iter-number-iterator.result.a.rest.now ≡ refusal_numbers = cc in
+    let figures : c.into_iter-number-iterator.result.b.rest.now ≡ a.refusals = cc in
+    rw (numbers, figures) (behind-start (reason_lines refusal_numbers a.refusals) a.text.now a.at c.requires)
 
 pub write_reason-end-requires : goal.write_reason-end-requires
 write_reason-end-requires c =
-    let i = c.loop-i.i in
-    next-room (reason_line i c.wide.result) (reasons_from c.args.refusals (i + 1)) (next-line (goal.at.write_reason-end-requires c).After-wide)
+    let l = c.loop-number in
+    let next = next-reason c.in-Some.ensures.steps.0 c.in-Some.ensures.steps.1 in
+    next-room (line (reason_key c.in-Some.number.now) (decimal c.in-Some.figure.now))
+    (reason_lines c.next.new.self.a.rest.now c.next.new.self.b.rest.now) (rw next at l.invariant)
 
-pub loop-i-preserved : goal.loop-i-preserved
-loop-i-preserved c = (underway-step (next-line (goal.at.loop-i-preserved c).After-wide) c.write_reason-end.ensures, omega arith)
-
-pub overflow_add-end : goal.overflow_add-end
-overflow_add-end c =
-    let u = underway-step (next-line (goal.at.overflow_add-end c).After-wide) c.write_reason-end.ensures in
-    omega (arith, underway-room u, underway-kept u)
-
-pub shape_of-text : goal.shape_of-text
-shape_of-text c = underway-kept c.loop-i.invariant.0
+pub loop-number-preserved : goal.loop-number-preserved
+loop-number-preserved c =
+    let next = next-reason c.in-Some.ensures.steps.0 c.in-Some.ensures.steps.1 in
+    underway-step (rw next at c.loop-number.invariant) c.write_reason-end.ensures
 
 pub returns : goal.returns
-returns c = underway-end (rw (reasons-end c.args.refusals c.loop-i.i (omega arith)) at c.loop-i.invariant.0)
+returns c =
+    let l = c.loop-number in
+    elim c.in-None.ensures.steps [
+      | inl h ↦ underway-end (rw (no-numbers l.number-iterator.a.rest.now l.number-iterator.b.rest.now h.1.0) at l.invariant)
+      | inr h ↦ underway-end (rw (no-figures l.number-iterator.a.rest.now l.number-iterator.b.rest.now h.1.0) at l.invariant)
+    ]

@@ -32,9 +32,6 @@ measured c =
 pub loop-i-init : goal.loop-i-init
 loop-i-init c = omega arith
 
-pub label_length-size-requires : goal.label_length-size-requires
-label_length-size-requires c = tt
-
 pub overflow_add-size : goal.overflow_add-size
 overflow_add-size c =
     let a = c.args in
@@ -46,12 +43,6 @@ returns-then-left-size c =
     let m = measured (goal.at.returns-then-left-size c).After-label_length-size in
     sym (lt-leb (length (lines_from a.names (held a.labels.now) 0)) a.room
     (omega (arith, m.1, length-lines a.names (held a.labels.now) c.loop-i.i m.0)))
-
-pub overflow_add-i : goal.overflow_add-i
-overflow_add-i c = omega (arith, c.loop-i-test.true)
-
-pub loop-i-smaller : goal.loop-i-smaller
-loop-i-smaller c = omega arith
 
 pub loop-i-preserved : goal.loop-i-preserved
 loop-i-preserved c =

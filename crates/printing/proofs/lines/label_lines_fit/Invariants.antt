@@ -1,8 +1,7 @@
 -- `printing::lines::label_lines_fit` meets its contract: what is left of the room exceeds the lines to come as the room exceeds all.
--- The measure is the number of labels to come.
 -- Assumes nothing.
 use mathlib.Core.Path.{◌≡◌}
-use Prim.Native.Nat.{◌-◌, ◌+◌, ◌≤◌}
+use Prim.Native.Nat.{◌+◌}
 use lib.ListN.{length}
 use Rattle.areas.specs.Rows.{held}
 use Rattle.printing.proofs.LabelLines.{lines_from}
@@ -10,7 +9,4 @@ use Rattle.printing.proofs.lines.label_lines_fit.Given as goal
 
 abbrev pub invariant-loop-i : goal.invariant-loop-i
 invariant-loop-i l =
-    (length (lines_from l.names (held l.labels) 0) + l.left ≡ length (lines_from l.names (held l.labels) l.i) + l.room) × (l.i ≤ length (held l.labels))
-
-abbrev pub decreases-loop-i : goal.decreases-loop-i
-decreases-loop-i l = l.end - l.i
+    length (lines_from l.names (held l.labels) 0) + l.left ≡ length (lines_from l.names (held l.labels) l.i) + l.room

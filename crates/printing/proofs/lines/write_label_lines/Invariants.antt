@@ -1,16 +1,9 @@
--- `printing::lines::write_label_lines` meets its contract: the lines written and the lines to come make up all. The measure is the
--- number of labels to come.
+-- `printing::lines::write_label_lines` meets its contract: the lines written and the lines to come make up all.
 -- Assumes nothing.
-use Prim.Native.Nat.{◌-◌, ◌≤◌}
-use lib.ListN.{length}
 use Rattle.areas.specs.Rows.{held}
 use Rattle.grammar.proofs.Underway.{Underway}
 use Rattle.printing.proofs.LabelLines.{lines_from}
 use Rattle.printing.proofs.lines.write_label_lines.Given as goal
 
 abbrev pub invariant-loop-i : goal.invariant-loop-i
-invariant-loop-i l =
-    Underway (lines_from l.names (held l.labels) 0) (lines_from l.names (held l.labels) l.i) l.initial.text l.text l.at × (l.i ≤ length (held l.labels))
-
-abbrev pub decreases-loop-i : goal.decreases-loop-i
-decreases-loop-i l = l.end - l.i
+invariant-loop-i l = Underway (lines_from l.names (held l.labels) 0) (lines_from l.names (held l.labels) l.i) l.initial.text l.text l.at
