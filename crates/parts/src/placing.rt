@@ -6,36 +6,25 @@ ghost use Rattle.parts.specs.Parts.{room_at, reach_of};
 use crate::MOST_LABELS;
 use areas::rows::labels_in;
 
-// The smaller of two numbers.
-fn smaller(a: usize, b: usize) -> usize
-    ensures { result ≡ min a b }
-{
-    if a < b { a } else { b }
-}
-
 // How many labels a set at a place may hold.
 pub fn room(words: &[u64], at: usize, most: usize) -> usize
     ensures { result ≡ room_at at most (length (held words.now)) }
 {
-    let end = labels_in(words);
-    if at < end {
-        smaller(smaller(most, MOST_LABELS), end - at)
-    } else {
-        0
-    }
+    let free = labels_in(words).saturating_sub(at);
+    most.min(MOST_LABELS).min(free)
 }
 
 // How many of `len` labels from a place on lie in the slice.
 pub fn reach(words: &[u64], at: usize, len: usize) -> usize
     ensures { result ≡ reach_of at len (length (held words.now)) }
 {
-    let end = labels_in(words);
-    if at < end { smaller(len, end - at) } else { 0 }
+    let there = labels_in(words).saturating_sub(at);
+    len.min(there)
 }
 
 // The end of a part as far as it lies in the slice and before a place.
 pub fn end_before(words: &[u64], to: usize, at: usize) -> usize
     ensures { result ≡ min (min to at) (length (held words.now)) }
 {
-    smaller(smaller(to, at), labels_in(words))
+    to.min(at).min(labels_in(words))
 }
