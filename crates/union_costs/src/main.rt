@@ -26,20 +26,17 @@ const ALL_WORDS: usize = 4096;
 
 // The first numbers that are even, and behind them the first that are odd.
 fn interleaved(words: &mut [u64]) {
-    let mut i: u64 = 0;
-    while i < 512 {
+    for i in 0..512u64 {
         let at = i as usize;
         write_label(words, at, label_of(2 * i));
         write_label(words, SIZE + at, label_of(2 * i + 1));
-        i += 1;
     }
 }
 
 // The labels of both sets inserted at a place one after the other: how many labels had to move up for them.
 fn moved_by_insertions(words: &mut [u64], at: usize) -> usize {
     let mut moved = 0;
-    let mut len = 0;
-    while len < BOTH {
+    for len in 0..BOTH {
         let label = read_label(words, len);
         let p = place(words, at, len, label);
         moved += len - p;
@@ -52,7 +49,6 @@ fn moved_by_insertions(words: &mut [u64], at: usize) -> usize {
             },
             label,
         );
-        len += 1;
     }
     moved
 }
@@ -68,20 +64,15 @@ struct Cost {
 fn has_read(before: Rest, after: Rest) -> usize
     ensures { result ≤ 1 }
 {
-    if before.at < after.at && after.at < after.end {
-        1
-    } else {
-        0
-    }
+    usize::from(before.at < after.at && after.at < after.end)
 }
 
 // The walk over both sets.
 fn walked(words: &[u64], part: Part, other: Part, at: usize) -> Cost {
     let mut left = rest_of(words, part, at);
     let mut right = rest_of(words, other, at);
-    let mut drawn = 0;
     let mut read = 2;
-    while drawn < ALL {
+    for drawn in 0..ALL {
         let next = draw(words, left, right);
         let Drawn::Lowest(_, more, other_more) = next else {
             return Cost { drawn, read };
@@ -89,9 +80,8 @@ fn walked(words: &[u64], part: Part, other: Part, at: usize) -> Cost {
         read += has_read(left, more) + has_read(right, other_more);
         left = more;
         right = other_more;
-        drawn += 1;
     }
-    Cost { drawn, read }
+    Cost { drawn: ALL, read }
 }
 
 // A line: what is counted, and how many.
