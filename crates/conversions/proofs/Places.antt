@@ -40,24 +40,22 @@ none_left [] h = refl
 none_left (l ∷ []) h = refl
 none_left (l ∷ u ∷ ws) h = absurd (omega arith)
 
--- how far it has come: the word at i is the next
-pub record Looked (ws : List ℕ) (i : ℕ) : Type 0 where
-  pub passed : ℕ
-  pub place : i ≡ suc passed
-  pub rest : in_use ws ≡ in_use (drop passed ws)
+-- how far it has come: the label at i is the next
+abbrev pub Looked : (ws : List ℕ) (i : ℕ) → Type 0
+Looked ws i = in_use ws ≡ in_use (drop (2 * i) ws)
 
-pub look-start : (ws : List ℕ) → Looked ws 1
-look-start ws = record { passed = 0; place = refl; rest = refl }
+module _ (ws : List ℕ) (i : ℕ) (c : Looked ws i) where
+  next : i < length ws / 2 → in_use ws ≡ not (eqb (get_or ws (2 * i + 1) 0) 0) || in_use (drop (2 * (i + 1)) ws)
+  next h =
+      let odd : 2 * i + 1 ≡ suc (2 * i) = omega arith in
+      let even : 2 * (i + 1) ≡ suc (suc (2 * i)) = omega arith in
+      c ∙ rw (odd, even) (step ws (2 * i) (omega arith))
 
-module _ {ws : List ℕ} {i : ℕ} (c : Looked ws i) where
-  next : i < length ws → in_use ws ≡ not (eqb (get_or ws i 0) 0) || in_use (drop (suc i) ws)
-  next h = c.rest ∙ rw c.place (step ws c.passed (omega (arith, c.place)))
+  pub look-found : i < length ws / 2 → (get_or ws (2 * i + 1) 0 ≡ 0 → ⊥) → in_use ws ≡ true
+  look-found h d = next h ∙ rw (ne_eqb (get_or ws (2 * i + 1) 0) 0 d)
 
-  pub look-found : i < length ws → (get_or ws i 0 ≡ 0 → ⊥) → in_use ws ≡ true
-  look-found h d = next h ∙ rw (ne_eqb (get_or ws i 0) 0 d)
+  pub look-on : i < length ws / 2 → get_or ws (2 * i + 1) 0 ≡ 0 → Looked ws (i + 1)
+  look-on h z = next h ∙ rw (eq-eqb (get_or ws (2 * i + 1) 0) 0 z)
 
-  pub look-on : i < length ws → get_or ws i 0 ≡ 0 → Looked ws (i + 2)
-  look-on h z = record { passed = suc i; place = omega arith; rest = next h ∙ rw (eq-eqb (get_or ws i 0) 0 z) }
-
-  pub look-end : length ws ≤ i → in_use ws ≡ false
-  look-end h = c.rest ∙ none_left (drop c.passed ws) (omega (arith, c.place, length-drop c.passed ws))
+  pub look-end : length ws / 2 ≤ i → in_use ws ≡ false
+  look-end h = c ∙ none_left (drop (2 * i) ws) (omega (arith, length-drop (2 * i) ws))

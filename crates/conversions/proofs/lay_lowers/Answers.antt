@@ -9,36 +9,12 @@ use Rattle.conversions.proofs.lay_lowers.Goals as goal
 pub loop-i-init : goal.loop-i-init
 loop-i-init c = let a = c.args in filling-start (lowers a.words.now) _ a.numbers.now (length-lowers a.words.now) c.requires
 
-pub overflow_mul-numbers : goal.overflow_mul-numbers
-overflow_mul-numbers c = omega arith
-
-pub offset_bounds-words-i : goal.offset_bounds-words-i
-offset_bounds-words-i c = omega arith
-
-pub bounds-words-i : goal.bounds-words-i
-bounds-words-i c = omega arith
-
-pub offset_bounds-numbers-i : goal.offset_bounds-numbers-i
-offset_bounds-numbers-i c = omega arith
-
-pub bounds-numbers-i : goal.bounds-numbers-i
-bounds-numbers-i c = omega arith
-
-pub overflow_add-i : goal.overflow_add-i
-overflow_add-i c = omega arith
-
-pub loop-i-smaller : goal.loop-i-smaller
-loop-i-smaller c = omega arith
-
 pub loop-i-preserved : goal.loop-i-preserved
 loop-i-preserved c =
     let a = c.args in
     let l = c.loop-i in
     filling_step (lowers a.words.now) _ a.numbers.now l.numbers l.i _ l.invariant (omega arith)
     (sym (lowers-get a.words.now l.i (omega arith)))
-
-pub shape_of-numbers : goal.shape_of-numbers
-shape_of-numbers c = c.loop-i.invariant.same
 
 pub returns : goal.returns
 returns c =

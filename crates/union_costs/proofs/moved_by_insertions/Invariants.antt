@@ -1,8 +1,6 @@
 -- `union_costs::moved_by_insertions` meets its contract: no more labels move at an insertion than there are. Assumes nothing.
-use mathlib.Core.Path.{◌≡◌}
 use Prim.Native.Nat.{◌≤◌, ◌*◌}
-use lib.ListN.{length}
 use Rattle.union_costs.proofs.moved_by_insertions.Given as goal
 
 abbrev pub invariant-loop-len : goal.invariant-loop-len
-invariant-loop-len l = (length l.words ≡ length l.initial.words) × (l.moved ≤ 1024 * l.len)
+invariant-loop-len l = l.moved ≤ 1024 * l.len
