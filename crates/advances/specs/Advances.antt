@@ -59,7 +59,8 @@ abbrev pub Onward : D.Description → (k n : ℕ) (sets news work log out : List
 Onward d k n sets news work log out (Err e) = T (over_in (length log) (round_sets d (suc k)))
 Onward d k n sets news work log out (Ok end) = Midway d k n sets news work log out end
 
-pub record Advanced (term : Term) (lists : List ℕ) (terms n end : ℕ) (sets news work log out sets' news' work' log' out' : List ℕ) (r : Result ℕ TooLarge) : Type 0 where
+pub record Advanced (term : Term) (lists : List ℕ) (terms n end : ℕ) (sets news work log out sets' news' work' log' out' : List ℕ) (r : Result ℕ TooLarge)
+    : Type 0 where
   pub kept : Kept sets news work log out sets' news' work' log' out'
   pub right : (d : D.Description) (k : ℕ) → term ≡ term_for n (D.term_at d n) → HoldsLists d lists → terms ≡ D.term_count d
       → n < D.term_count d → Midway d k n sets news work log out end → Onward d k (suc n) sets' news' work' log' out' r

@@ -66,8 +66,8 @@ module _ (newA a new_b b : List ℕ) where
     pub sums-large : Sums len newA b before now (Err (record {})) → NewSums now (Err (record {}))
     sums-large x = first-large 0 len _ (rest (room_at 0 most_labels (length before))) before now x
 
-    pub sums-last : {n : ℕ} {r : Result ℕ TooLarge} {after : List ℕ} → (length newA ≡ length a → ⊥) → Sums len newA b before now (Ok n) → Sums n new_b a now after r
-        → NewSums after r
+    pub sums-last : {n : ℕ} {r : Result ℕ TooLarge} {after : List ℕ} → (length newA ≡ length a → ⊥) → Sums len newA b before now (Ok n)
+        → Sums n new_b a now after r → NewSums after r
     sums-last {n} other x y =
         grown-as (λ s. rw (ne_eqb (length newA) (length a) other))
         (then-last len n (λ room. sums_of room newA b) (λ room. sums_of room new_b a) before now

@@ -53,7 +53,8 @@ module _ {slots lists : List ℕ} {end : ℕ} {sets₀ news₀ work₀ log₀ ou
         let term = ap (λ (ws : List ℕ). word_term n (get_or ws n 0)) e ∙ term_of_lem d D.all n m.legal l in
         a.right d k term f (counted d e) l (x.right d k e f m)
 
-    pub coursing-large : Advanced (word_term n (get_or slots n 0)) lists (length slots) n to sets news work log out sets' news' work' log' out' (Err (record {}))
+    pub coursing-large :
+        Advanced (word_term n (get_or slots n 0)) lists (length slots) n to sets news work log out sets' news' work' log' out' (Err (record {}))
         → Coursed slots lists end sets₀ news₀ work₀ log₀ out₀ sets' news' work' log' out' (Err (record {}))
     coursing-large a = record { kept = kept_trans x.kept a.kept; right = onward a }
 

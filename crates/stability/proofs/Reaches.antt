@@ -1,6 +1,7 @@
 -- What the rounds of a table come to in areas that are always enough: what is found, and every word of the work area; and that this
 -- settles both.
 -- Assumes nothing.
+use Rattle.std.specs.Prelude.{Result, Ok, Err}
 use mathlib.Core.Path.{◌≡◌, refl, sym, ap, subst, ◌∙◌}
 use mathlib.Core.Logic.{inl, inr}
 use mathlib.Core.List.{List, [], ◌++◌, map}
@@ -28,17 +29,15 @@ use Rattle.extents.specs.Extents.{part_at, words_in}
 use Rattle.extents.proofs.Rows.{words-grown, words-length}
 use Rattle.deltas.proofs.Passing.{over-in}
 use Rattle.stability.specs.declared.Found.{Found}
-use Rattle.stability.specs.declared.Found.TheVariants as F
-use Rattle.stability.specs.declared.Last.{Last}
-use Rattle.stability.specs.declared.Last.TheVariants as L
+use Rattle.sets.specs.declared.TooLarge.{TooLarge}
 use Rattle.stability.specs.Stages.{Passing}
 use Rattle.stability.specs.Running.{RootListed, RunEnds, Ran}
 use Rattle.stability.specs.Settling.{Concluded}
-use Rattle.stability.specs.Endings.{found_of, labels_of, Reached}
+use Rattle.stability.specs.Endings.{found_at, found_of, labels_of, Reached}
 use Rattle.stability.proofs.Runs.{ready-zeros, length-zeros}
 
 -- What is found is right, and every word that is left.
-abbrev Answered : D.Description → (work work' : List ℕ) → Found → Type 0
+abbrev Answered : D.Description → (work work' : List ℕ) → Result Found TooLarge → Type 0
 Answered d work work' r = (r ≡ found_of (answer d D.all)) × (work' ≡ alone (in_words (map number (labels_of (answer d D.all)))) work)
 
 -- A log of 2,048 labels has room for as many labels as there may be.
@@ -54,8 +53,8 @@ behind : (work part labels : List ℕ) → length part ≡ whole → alone label
 behind work part labels used =
     ap (λ (rest : List ℕ). labels ++ (replicate (whole - length labels) 0 ++ rest)) (drop_at part (drop whole work) whole used)
 
-module _ (d : D.Description) (work part : List ℕ) (used : length part ≡ whole) {work' : List ℕ} {r : Found} where
-  answered-large : answer d D.all ≡ too_large → (r ≡ F.TooLarge) × (work' ≡ zeroed whole (after work part)) → Answered d work work' r
+module _ (d : D.Description) (work part : List ℕ) (used : length part ≡ whole) {work' : List ℕ} {r : Result Found TooLarge} where
+  answered-large : answer d D.all ≡ too_large → (r ≡ Err (record {})) × (work' ≡ zeroed whole (after work part)) → Answered d work work' r
   unfolding in_words
   answered-large outcome left =
       let room : whole ≤ length (after work part) = omega (arith, length-append part (drop whole work)) in (
@@ -65,7 +64,7 @@ module _ (d : D.Description) (work part : List ℕ) (used : length part ≡ whol
       )
 
   answered-stable : {sets : List ℕ} {k most : ℕ} → RootListed d k sets (held part) most
-      → Concluded (L.Stable k) (part_at sets d.root) (after work part) work' r → Answered d work work' r
+      → Concluded (Ok k) (part_at sets d.root) (after work part) work' r → Answered d work work' r
   answered-stable {sets} {k} x left =
       let p = part_at sets d.root in
       let same : take whole part ≡ take whole (after work part) = take_all whole part (omega arith) ∙ sym (take_at part (drop whole work) whole used) in
@@ -77,22 +76,22 @@ module _ (d : D.Description) (work part : List ℕ) (used : length part ≡ whol
       let size : p.to - p.from ≡ length x.labels =
       omega (arith, words-length p (held part), ap length x.words, length-map x.labels number, x.within) in
       let settled = left end in (
-        settled.0 ∙ ap (F.At k) size ∙ sym (ap found_of x.outcome),
+        settled.0 ∙ ap (found_at k) size ∙ sym (ap found_of x.outcome),
         settled.1 ∙ ap (λ (v : List ℕ). alone (in_words v) (after work part)) stands ∙ behind work part (in_words (map number x.labels)) used
             ∙ sym (ap (λ (y : Outcome). alone (in_words (map number (labels_of y))) work) x.outcome),
       )
 
-  answered-ends : (sets : List ℕ) (last : Last) → RunEnds d sets (held part) 2048 last → Concluded last (part_at sets d.root) (after work part) work' r
+  answered-ends : (sets : List ℕ) (last : Result ℕ TooLarge) → RunEnds d sets (held part) 2048 last → Concluded last (part_at sets d.root) (after work part) work' r
       → Answered d work work' r
-  answered-ends sets L.TooLarge (inl e) left = answered-large e left
-  answered-ends sets L.TooLarge (inr x) left = answered-large (passing-large x) left
-  answered-ends sets (L.Stable k) x left = answered-stable x left
+  answered-ends sets (Err f) (inl e) left = answered-large e left
+  answered-ends sets (Err f) (inr x) left = answered-large (passing-large x) left
+  answered-ends sets (Ok k) x left = answered-stable x left
 
 module _ {table lists work : List ℕ} where
-  pub reached-short : length work < whole → Reached table lists work work F.TooLarge
+  pub reached-short : length work < whole → Reached table lists work work (Err (record {}))
   reached-short h = record { short = λ x. (refl, refl); right = λ d o l e room. absurd (omega arith) }
 
-  pub reached-run : {slots sets news log out work' : List ℕ} {last : Last} {root : ℕ} {r : Found} (part : List ℕ) → whole ≤ length work
+  pub reached-run : {slots sets news log out work' : List ℕ} {last : Result ℕ TooLarge} {root : ℕ} {r : Result Found TooLarge} (part : List ℕ) → whole ≤ length work
       → Ran table lists (replicate 96 0) (replicate 194 0) (replicate 224 0) (held (take whole work)) (held (replicate 4096 0)) (held (replicate 2048 0))
       slots sets news (held part) log out last → length part ≡ length (take whole work) → root ≡ root_in table
       → Concluded last (part_at sets root) (part ++ drop whole work) work' r
@@ -115,7 +114,7 @@ module _ {table lists work : List ℕ} where
       }
 
 -- What is promised settles what is found and every word of the work area.
-pub reached-unique : {table lists work work₁ work₂ : List ℕ} {r₁ r₂ : Found}
+pub reached-unique : {table lists work work₁ work₂ : List ℕ} {r₁ r₂ : Result Found TooLarge}
     → Reached table lists work work₁ r₁
     → Reached table lists work work₂ r₂
     → (d : D.Description) (o : D.Order)

@@ -25,7 +25,6 @@ use Rattle.advances.specs.Advances.{Midway, Kept}
 use Rattle.advances.proofs.Keepings.{kept_self, kept_trans}
 use Rattle.courses.specs.Courses.{Coursed, HandedOn}
 use Rattle.courses.proofs.Handing.{handed-length}
-use Rattle.stability.specs.declared.Last.TheVariants as L
 use Rattle.stability.specs.Stages.{LastMade}
 use Rattle.stability.proofs.Turning.{few-over, ended-few, ended-stands, handed-stable, handed-unstable, next-begins}
 
@@ -56,7 +55,7 @@ module _ {slots lists bodies sets₀ news₀ work₀ log₀ out₀ : List ℕ} w
   module _ (few : length log₀ ≤ 2048) {sets news work log out : List ℕ} {k end : ℕ}
       (t : Turned slots lists bodies sets₀ news₀ work₀ log₀ out₀ sets news work log out k end) where
     -- 2,049 rounds are enough
-    pub turned-end : 2049 ≤ k → LastMade slots lists bodies sets₀ news₀ work₀ log₀ out₀ sets news work log out L.TooLarge
+    pub turned-end : 2049 ≤ k → LastMade slots lists bodies sets₀ news₀ work₀ log₀ out₀ sets news work log out (Err (record {}))
     turned-end h = record {
       kept = t.kept;
       right = λ d s u b m.
@@ -68,7 +67,7 @@ module _ {slots lists bodies sets₀ news₀ work₀ log₀ out₀ : List ℕ} w
 
     module _ {sets' news' work' log' out' : List ℕ} where
       module _ (c : Coursed slots lists end sets news work log out sets' news' work' log' out' (Err (record {}))) where
-        pub turned-large : LastMade slots lists bodies sets₀ news₀ work₀ log₀ out₀ sets' news' work' log' out' L.TooLarge
+        pub turned-large : LastMade slots lists bodies sets₀ news₀ work₀ log₀ out₀ sets' news' work' log' out' (Err (record {}))
         turned-large = record {
           kept = kept_trans t.kept c.kept;
           right = λ d s u b m.
@@ -83,7 +82,7 @@ module _ {slots lists bodies sets₀ news₀ work₀ log₀ out₀ : List ℕ} w
             kept_trans (kept_trans t.kept c.kept) (record { sets_long = refl; news_long = same; work_long = refl; log_long = refl; out_long = refl })
 
         pub turned-stable : HandedOn bodies news' news'' false
-            → LastMade slots lists bodies sets₀ news₀ work₀ log₀ out₀ sets' news'' work' log' out' (L.Stable (k + 1))
+            → LastMade slots lists bodies sets₀ news₀ work₀ log₀ out₀ sets' news'' work' log' out' (Ok (k + 1))
         turned-stable h = record {
           kept = kept-handed h;
           right = λ d s u b m.

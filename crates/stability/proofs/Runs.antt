@@ -1,6 +1,7 @@
 -- The rounds of a table in lent areas: its terms with a merge in place of every sync of whole processes are those of a description with
 -- the same sets and the same answer.
 -- Assumes nothing.
+use Rattle.std.specs.Prelude.{Result, Ok, Err}
 use mathlib.Core.Path.{◌≡◌, refl, sym, ap, subst, ◌∙◌}
 use mathlib.Core.Logic.{◌⊎◌, inl, inr}
 use mathlib.Core.List.{List, [], ◌∷◌, map}
@@ -28,8 +29,7 @@ use Rattle.deltas.specs.Deltas.{over_in}
 use Rattle.deltas.proofs.Passing.{few-together}
 use Rattle.advances.specs.Advances.{Midway}
 use Rattle.advances.proofs.Keepings.{kept_self}
-use Rattle.stability.specs.declared.Last.{Last}
-use Rattle.stability.specs.declared.Last.TheVariants as L
+use Rattle.sets.specs.declared.TooLarge.{TooLarge}
 use Rattle.stability.specs.Stages.{LastEnds, LastMade}
 use Rattle.stability.specs.Running.{Ready, RunEnds, Ran}
 use Rattle.stability.proofs.Starting.{midway_start}
@@ -82,13 +82,13 @@ module _ (d : D.Description) (o : D.Order) (legal : Legal d o) where
   abbrev d' : D.Description
   d' = with_merges d
 
-  ends-merged : (sets work : List ℕ) (most : ℕ) (r : Last) → LastEnds d' sets work most r → RunEnds d sets work most r
-  ends-merged sets work most L.TooLarge (inl e) = inl (sym (merged-answer d o legal D.all) ∙ e)
-  ends-merged sets work most L.TooLarge (inr x) = inr (record {
+  ends-merged : (sets work : List ℕ) (most : ℕ) (r : Result ℕ TooLarge) → LastEnds d' sets work most r → RunEnds d sets work most r
+  ends-merged sets work most (Err f) (inl e) = inl (sym (merged-answer d o legal D.all) ∙ e)
+  ends-merged sets work most (Err f) (inr x) = inr (record {
     round = x.round;
     passed = subst (λ (s : List (List Label)). T (over_in most s)) (merged-rounds d o legal x.round) x.passed;
   })
-  ends-merged sets work most (L.Stable k) x =
+  ends-merged sets work most (Ok k) x =
       let there = (merged-legal d o legal).root in
       let sets-few = few-together most (round_sets d' k) x.few in
       record {
@@ -117,7 +117,7 @@ module _ (d : D.Description) (o : D.Order) (legal : Legal d o) where
 
 module _ {table lists slots sets news work log out : List ℕ} where
   pub ran-unready : (length slots < length (slots_in table)) ⊎ (2048 < length log)
-      → Ran table lists slots sets news work log out slots sets news work log out L.TooLarge
+      → Ran table lists slots sets news work log out slots sets news work log out (Err (record {}))
   ran-unready short = record {
     kept = kept_self sets news work log out;
     slots_long = refl;
@@ -129,7 +129,7 @@ module _ {table lists slots sets news work log out : List ℕ} where
         absurd (elim short [ inl s ↦ omega arith | inr s ↦ omega arith ]);
   }
 
-  pub ran-turned : {slots' sets' news' work' log' out' : List ℕ} {r : Last} → length (slots_in table) ≤ length slots → length slots' ≡ length slots
+  pub ran-turned : {slots' sets' news' work' log' out' : List ℕ} {r : Result ℕ TooLarge} → length (slots_in table) ≤ length slots → length slots' ≡ length slots
       → take (length (slots_in table)) slots' ≡ merged_to (length (slots_in table)) (slots_in table)
       → LastMade (take (length (slots_in table)) slots') lists (bodies_in table) sets news work log out sets' news' work' log' out' r
       → Ran table lists slots sets news work log out slots' sets' news' work' log' out' r

@@ -1,6 +1,6 @@
 -- What the rounds of a table come to, in areas of any size.
 -- Assumes nothing.
-use Rattle.std.specs.Prelude.{◌≡◌, ◌⊎◌, List, map, ℕ, ◌+◌, ◌*◌, ◌≤◌, ◌<◌, min, length, replicate}
+use Rattle.std.specs.Prelude.{◌≡◌, ◌⊎◌, List, map, ℕ, ◌+◌, ◌*◌, ◌≤◌, ◌<◌, min, length, replicate, Result, Ok, Err}
 use Rattle.meaning.specs.Labels.{Label, number}
 use Rattle.meaning.specs.Descriptions as D
 use Rattle.meaning.specs.Legal.{Legal}
@@ -9,8 +9,7 @@ use Rattle.table.specs.Holding.{slots_in, Holds}
 use Rattle.extents.specs.Extents.{part_at, words_in}
 use Rattle.layout.specs.Layout.{half_of}
 use Rattle.advances.specs.Advances.{Kept}
-use Rattle.stability.specs.declared.Last.{Last}
-use Rattle.stability.specs.declared.Last.TheVariants as L
+use Rattle.sets.specs.declared.TooLarge.{TooLarge}
 use Rattle.stability.specs.Stages.{Passing}
 
 -- What is asked of the areas before the first round, for so many terms: both rows of parts are all 0, each half of the work area has
@@ -35,13 +34,13 @@ pub record RootListed (d : D.Description) (k : ℕ) (sets work : List ℕ) (most
   pub few : length labels ≤ most
 
 -- A limit is passed, be it that of the log alone; or the root's set is known.
-abbrev pub RunEnds : D.Description → (sets work : List ℕ) (most : ℕ) → Last → Type 0
-RunEnds d sets work most L.TooLarge = (answer d D.all ≡ too_large) ⊎ Passing d most
-RunEnds d sets work most (L.Stable k) = RootListed d k sets work most
+abbrev pub RunEnds : D.Description → (sets work : List ℕ) (most : ℕ) → Result ℕ TooLarge → Type 0
+RunEnds d sets work most (Err e) = (answer d D.all ≡ too_large) ⊎ Passing d most
+RunEnds d sets work most (Ok k) = RootListed d k sets work most
 
-pub record Ran (table lists slots sets news work log out slots' sets' news' work' log' out' : List ℕ) (r : Last) : Type 0 where
+pub record Ran (table lists slots sets news work log out slots' sets' news' work' log' out' : List ℕ) (r : Result ℕ TooLarge) : Type 0 where
   pub kept : Kept sets news work log out sets' news' work' log' out'
   pub slots_long : length slots' ≡ length slots
-  pub short : length slots < length (slots_in table) → r ≡ L.TooLarge
+  pub short : length slots < length (slots_in table) → r ≡ Err (record {})
   pub right : (d : D.Description) (o : D.Order) → Legal d o → Holds d table lists → Ready (D.term_count d) slots sets news work log out
       → RunEnds d sets' work' (length log) r

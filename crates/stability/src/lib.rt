@@ -11,6 +11,7 @@ ghost use Rattle.stability.specs.Endings.{Reached};
 use crate::running::run;
 use crate::settling::conclude;
 use parts::MOST_WORDS;
+use sets::TooLarge;
 use table::{TERMS, root_of};
 
 // The words that are used of the work area.
@@ -28,29 +29,22 @@ pub const TOTAL_LABELS: usize = 2048;
 // The words of as many labels.
 const TOTAL_WORDS: usize = 4096;
 
-// What the rounds come to: a limit is passed; or the number of the stable round.
-#[derive(Clone, Copy)]
-pub enum Last {
-    TooLarge,
-    Stable(usize),
-}
-
-// A limit is passed; or the number of the stable round, and how many labels the root's set has.
-#[derive(Clone, Copy)]
-pub enum Found {
-    TooLarge,
-    At(usize, usize),
+// The number of the stable round, and how many labels the root's set has.
+#[derive(Clone, Copy, Debug, PartialEq, Eq)]
+pub struct Found {
+    pub rounds: usize,
+    pub labels: usize,
 }
 
 // The rounds of the description that a table and its lists hold, in areas that are always enough: the log has room for as many labels
 // as all sets may have together, and what a term is given for as many as one set may. The root's set is left at the start of the work
 // area and every other word that is used is 0. A table that holds no legal description gets some answer: of it no more is promised
 // than that there is one.
-pub fn until_stable(table: &[u64], lists: &[u64], work: &mut [u64]) -> Found
+pub fn until_stable(table: &[u64], lists: &[u64], work: &mut [u64]) -> Result<Found, TooLarge>
     ensures { Reached table.now lists.now work.old work.new result }
 {
     if work.len() < WORK_WORDS {
-        return Found::TooLarge;
+        return Err(TooLarge);
     }
     let mut slots = [0u64; TERMS];
     let mut sets = [0usize; SETS_ROW];

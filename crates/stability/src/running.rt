@@ -5,8 +5,9 @@ ghost use Rattle.syncs.specs.Merging.{merged_to};
 ghost use Rattle.stability.specs.Running.{Ran};
 
 use crate::stages::turn_on;
-use crate::{Last, TOTAL_LABELS};
+use crate::TOTAL_LABELS;
 use areas::rows::labels_in;
+use sets::TooLarge;
 use syncs::merge_wholes;
 use table::{bodies_of, slots_of};
 
@@ -32,7 +33,7 @@ pub fn run(
     work: &mut [u64],
     log: &mut [u64],
     out: &mut [u64],
-) -> Last
+) -> Result<usize, TooLarge>
     ensures { Ran table.now lists.now slots.old
         sets.old news.old (held work.old) (held log.old) (held out.old) slots.new
         sets.new news.new (held work.new) (held log.new) (held out.new) result }
@@ -40,10 +41,10 @@ pub fn run(
     let terms = slots_of(table);
     let count = terms.len();
     if slots.len() < count {
-        return Last::TooLarge;
+        return Err(TooLarge);
     }
     if TOTAL_LABELS < labels_in(log) {
-        return Last::TooLarge;
+        return Err(TooLarge);
     }
     copy_merged(terms, slots);
     turn_on(

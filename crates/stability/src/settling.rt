@@ -4,19 +4,26 @@ ghost use Rattle.extents.specs.Extents.{part_at};
 ghost use Rattle.keeping.specs.Settling.{whole};
 ghost use Rattle.stability.specs.Settling.{Concluded};
 
-use crate::{Found, Last, WORK_WORDS};
+use crate::{Found, WORK_WORDS};
 use areas::clear;
 use extents::part_at;
 use keeping::settle;
+use sets::TooLarge;
 
 // What the last round came to: the root's set left alone, or nothing where a limit is passed.
-pub fn conclude(last: Last, sets: &[usize], root: usize, work: &mut [u64]) -> Found
+pub fn conclude(
+    last: Result<usize, TooLarge>,
+    sets: &[usize],
+    root: usize,
+    work: &mut [u64],
+) -> Result<Found, TooLarge>
     requires { whole ≤ length work.old }
     ensures { Concluded last (part_at sets.now root) work.old work.new result }
 {
-    let Last::Stable(rounds) = last else {
+    let Ok(rounds) = last else {
         clear(work, WORK_WORDS);
-        return Found::TooLarge;
+        return Err(TooLarge);
     };
-    Found::At(rounds, settle(work, part_at(sets, root)))
+    let labels = settle(work, part_at(sets, root));
+    Ok(Found { rounds, labels })
 }

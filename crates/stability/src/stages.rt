@@ -3,9 +3,8 @@ ghost use Rattle.std.specs.Prelude.{◌≤◌, length};
 ghost use Rattle.areas.specs.Rows.{held};
 ghost use Rattle.stability.specs.Stages.{LastMade};
 
-use crate::Last;
 use courses::{course, hand_on};
-use sets::Built;
+use sets::TooLarge;
 
 // How many rounds are enough: a round that is not stable logs a label at least, and there are at most 2,048.
 const MOST_ROUNDS: usize = 2049;
@@ -21,7 +20,7 @@ pub fn turn_on(
     work: &mut [u64],
     log: &mut [u64],
     out: &mut [u64],
-) -> Last
+) -> Result<usize, TooLarge>
     requires { length (held log.old) ≤ 2048 }
     ensures { LastMade slots.now lists.now bodies.now
         sets.old news.old (held work.old) (held log.old) (held out.old)
@@ -29,14 +28,10 @@ pub fn turn_on(
 {
     let mut end = 0;
     for k in 0..MOST_ROUNDS {
-        let to = course(slots, lists, sets, news, work, log, end, out);
-        let Built::Holds(next) = to else {
-            return Last::TooLarge;
-        };
-        end = next;
+        end = course(slots, lists, sets, news, work, log, end, out)?;
         if !hand_on(bodies, news) {
-            return Last::Stable(k + 1);
+            return Ok(k + 1);
         }
     }
-    Last::TooLarge
+    Err(TooLarge)
 }
