@@ -1,6 +1,6 @@
 -- The order's line, which is the last of its text.
 -- Assumes nothing.
-use Rattle.std.specs.Prelude.{◌≡◌, Bool, true, false, ◌&&◌, List, [], ◌∷◌, map, ℕ, suc, ◌≤◌, leb, ltb, length, drop, Result, Ok, Err, OnErr}
+use Rattle.std.specs.Prelude.{◌≡◌, Bool, true, false, ◌&&◌, List, [], ◌∷◌, map, ℕ, suc, ◌≤◌, leb, ltb, length, drop, Option, Result, Ok, Err, OnErr}
 use Rattle.meaning.specs.Bytes.{Text}
 use Rattle.meaning.specs.Descriptions as D
 use Rattle.areas.specs.Areas.{zeroed}
@@ -12,25 +12,19 @@ use Rattle.grammar.specs.Forms.{OrderLine, only, label_list}
 use Rattle.grammar.specs.Faults.{fine, order_said, order_fault}
 use Rattle.grammar.specs.Reading.{Flaw, Walk, reached, halted, at_first, one_line, take_order}
 use Rattle.faults.specs.CodedFaults.{found_of, flaw_of}
-use Rattle.faults.specs.declared.Found as G
-use Rattle.words.specs.Steps.{Stands}
+use Rattle.faults.specs.declared.FaultAt.{FaultAt}
+use Rattle.words.specs.Steps.{Reading, Stands}
 use Rattle.lists.specs.Lists.{overlaid}
 use Rattle.words.specs.declared.Taken.{Taken}
 use Rattle.keyed.specs.declared.BadLine.{BadLine}
-use Rattle.orderlines.specs.declared.OrderStep.{OrderStep}
-use Rattle.orderlines.specs.declared.OrderStep.TheVariants as O
-
--- after how many bytes a line was stuck; of one that was read, how many it took
-abbrev pub order_place : OrderStep → ℕ
-order_place (O.To x f took) = took
-order_place (O.Stuck p) = p
+use Rattle.orderlines.specs.declared.OrderSaid.{OrderSaid}
 
 -- LABELS, and the end of the line
 abbrev pub only_these : Text → Past OrderLine
 only_these s = onward (label_list s) (λ ls q. onward (ended q) (λ _ p. past (only ls) p))
 
 -- The order, the fault of its labels, and their words over the start of those that are lent where there is none.
-pub record OrderTaken (words : List Text) (text : Text) (due : Past OrderLine) (before after : List ℕ) (x : Order) (f : G.Found) (took : ℕ) : Type 0 where
+pub record OrderTaken (words : List Text) (text : Text) (due : Past OrderLine) (before after : List ℕ) (x : Order) (f : Option FaultAt) (took : ℕ) : Type 0 where
   pub line : OrderLine
   pub says : past line (drop took text) ≡ due
   pub within : took ≤ length text
@@ -38,9 +32,9 @@ pub record OrderTaken (words : List Text) (text : Text) (due : Past OrderLine) (
   pub faults : found_of f ≡ order_fault words line
   pub stored : order_fault words line ≡ fine → after ≡ overlaid (order_words (order_said words line)) before
 
-abbrev pub OrderRead : List Text → Text → Past OrderLine → List ℕ → List ℕ → OrderStep → Type 0
-OrderRead words text due before after (O.To x f took) = OrderTaken words text due before after x f took
-OrderRead words text due before after (O.Stuck p) = Stands text p (stuck (drop p text)) due
+abbrev pub OrderRead : List Text → Text → Past OrderLine → List ℕ → List ℕ → Reading OrderSaid → Type 0
+OrderRead words text due before after (Ok t) = OrderTaken words text due before after t.value.order t.value.fault t.bytes
+OrderRead words text due before after (Err p) = Stands text p.after (stuck (drop p.after text)) due
 
 -- Bytes after the last line are a fault of the line that they begin.
 abbrev pub nothing_after : {A : Type 0} → Walk A → Walk A

@@ -4,69 +4,68 @@
 ghost use Rattle.std.specs.Prelude.{◌≤◌, map, ◌≡◌, length, drop};
 ghost use Rattle.table.specs.Decoded.{name_of};
 ghost use Rattle.grammar.specs.Forms.{order_line};
-ghost use Rattle.orderlines.specs.Orders.{order_place, OrderRead, only_these, OrderWalked, OrderEnd, order_first, order_last};
+ghost use Rattle.orderlines.specs.Orders.{OrderRead, only_these, OrderWalked, OrderEnd, order_first, order_last};
 
 use areas::clear;
-use faults::{Fault, Found, first_flaw, flaw_after, flaw_in};
+use faults::{Fault, FaultAt, first_flaw, flaw_after, flaw_in};
 use keyed::BadLine;
 use labels::packing::number_of;
-use lists::{ListKind, SaidStep, read_whole, said_stuck_at};
+use lists::{ListKind, read_whole};
 use slots::Place;
 use table::{LIST_WORDS, NAMES, Order};
 use words::literals::{is_rest, read_literal, sign_at};
-use words::{Step, stuck_at};
+use words::{Reading, Stuck, Taken, shifted};
 
-// What a line says: the order, the fault of its labels and how many bytes the line took; or after how many bytes the line was stuck.
+// What a line says: the order, and the fault of its labels.
 #[derive(Clone, Copy)]
-enum OrderStep {
-    To(Order, Found, usize),
-    Stuck(usize),
-}
-
-// After how many bytes a line was stuck; of one that was read, how many it took.
-fn order_stuck_at(s: OrderStep) -> usize
-    ensures { result ≡ order_place s }
-{
-    match s {
-        OrderStep::To(_, _, next) => next,
-        OrderStep::Stuck(p) => p,
-    }
+struct OrderSaid {
+    order: Order,
+    fault: Option<FaultAt>,
 }
 
 // What follows the key where it is not `all`.
-fn read_labels(text: &[u8], at: usize, names: &[u64], listed: &mut [u64]) -> OrderStep
+fn read_labels(text: &[u8], at: usize, names: &[u64], listed: &mut [u64]) -> Reading<OrderSaid>
     requires { (at ≤ length text.now) × (length names.now ≤ 24) }
     ensures { OrderRead (map (name_of 8) names.now) text.now
         (only_these (drop at text.now)) listed.old listed.new result }
 {
     let list = read_whole(ListKind::Labels, &text[at..], names, listed);
-    let SaidStep::To(said, bytes) = list else {
-        return OrderStep::Stuck(at + said_stuck_at(list));
-    };
-    let next = at + bytes;
+    let labels = shifted(list, at)?;
+    let next = labels.bytes;
     if !sign_at(text, next, b'\n') {
-        return OrderStep::Stuck(next);
+        return Err(Stuck { after: next });
     }
-    let entries = said.first;
+    let said = labels.value;
     let place = Place {
         at: 0,
-        entries: number_of(entries) as usize,
+        entries: number_of(said.first) as usize,
     };
-    let fault = said.fault;
-    OrderStep::To(Order::Only(place), fault, next + 1)
+    let value = OrderSaid {
+        order: Order::Only(place),
+        fault: said.fault,
+    };
+    Ok(Taken {
+        value,
+        bytes: next + 1,
+    })
 }
 
-fn read_order(text: &[u8], names: &[u64], listed: &mut [u64]) -> OrderStep
+fn read_order(text: &[u8], names: &[u64], listed: &mut [u64]) -> Reading<OrderSaid>
     requires { length names.now ≤ 24 }
     ensures { OrderRead (map (name_of 8) names.now) text.now
         (order_line text.now) listed.old listed.new result }
 {
-    let key = read_literal(text, b"order=");
-    let Step::To(_, at) = key else {
-        return OrderStep::Stuck(stuck_at(key));
-    };
+    let key = read_literal(text, b"order=")?;
+    let at = key.bytes;
     if is_rest(&text[at..], b"all") {
-        return OrderStep::To(Order::All, Found::Fine, at + 4);
+        let value = OrderSaid {
+            order: Order::All,
+            fault: None,
+        };
+        return Ok(Taken {
+            value,
+            bytes: at + 4,
+        });
     }
     read_labels(text, at, names, listed)
 }
@@ -82,18 +81,20 @@ fn first_line(
     ensures { OrderWalked text.now line (order_first names.now line text.now)
         listed.old listed.new result }
 {
-    let step = read_order(text, names, listed);
-    let OrderStep::To(order, found, took) = step else {
-        let flaw = flaw_after(text, Fault::Form, order_stuck_at(step));
-        return Err(BadLine { flaw, line });
+    let read = match read_order(text, names, listed) {
+        Ok(read) => read,
+        Err(stuck) => {
+            let flaw = flaw_after(text, Fault::Form, stuck.after);
+            return Err(BadLine { flaw, line });
+        }
     };
-    if let Found::Faulty(f, from) = found {
-        let flaw = flaw_in(text, f, from);
+    if let Some(found) = read.value.fault {
+        let flaw = flaw_in(text, found.fault, found.from);
         return Err(BadLine { flaw, line });
     }
     Ok(Taken {
-        value: order,
-        bytes: took,
+        value: read.value.order,
+        bytes: read.bytes,
     })
 }
 
