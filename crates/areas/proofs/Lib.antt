@@ -10,8 +10,8 @@ pub mod Lent
 -- put-step, Filling, filling-start, filling-step, filling-two, filling-end: words put at the start of an area one after the other;
 -- FillingLabels, labels-start, labels-step, labels-end: labels put there, two words each
 pub mod Filling
--- moved_up-within, moved_up-past, moved_up-none, held_copied, set_before: labels that move one place up, as their words are copied two places
--- up
+-- copied_up: words that are copied two places up; moved_up-within, moved_up-past, moved_up-none, held_moved, set_before: the labels that they
+-- hold, which move one place up
 pub mod Moves
 -- label_numbers, pair_words, rule_labels; pairs_in-pair_words: how the lists of operators stand in words
 pub mod Entries

@@ -47,13 +47,21 @@ pub fn write_label(words: &mut [u64], i: usize, label: Label)
     }
 }
 
+// All words move two places up, over the last two. They are copied from the start of the slice, so that the compiler makes one move of it.
+fn shift_up(words: &mut [u64])
+    requires { 2 ≤ length words.old }
+    ensures { words.new ≡ take 2 words.old ++ take (length words.old - 2) words.old }
+{
+    let end = words.len() - LABEL_WORDS;
+    words.copy_within(..end, LABEL_WORDS);
+}
+
 // The labels from one place up to another move one place up, over the label at the second, if that is a place of the slice.
 pub fn move_up(words: &mut [u64], from: usize, to: usize)
     ensures { held words.new ≡ moved_up from to (held words.old) }
 {
     if from < to && to < words.len() / LABEL_WORDS {
-        let at = LABEL_WORDS * from;
-        let end = LABEL_WORDS * to;
-        words.copy_within(at..end, at + LABEL_WORDS);
+        let end = LABEL_WORDS * to + LABEL_WORDS;
+        shift_up(&mut words[LABEL_WORDS * from..end]);
     }
 }

@@ -35,6 +35,7 @@ fn slot(label: Label) -> usize
 pub fn covers(rules: &[u64], before: usize, a: Label, b: Label) -> bool
     ensures { result ≡ covers_in (exchanges_before (held rules.now) before) (code a) (code b) }
 {
+    // Two places back at a time, from any place: a range of rules would have each one's place worked out anew.
     let mut i = before;
     while 2 <= i {
         i -= 2;
@@ -78,12 +79,10 @@ pub fn known(memory: &[u64], rules: &[u64], before: usize, state: State) -> bool
         return false;
     }
     let first = WAYS * slot(state.sum);
-    let mut way = 0;
-    while way < WAYS {
+    for way in 0..WAYS {
         if holds_at(memory, first + way, rules, before, state) {
             return true;
         }
-        way += 1;
     }
     false
 }

@@ -39,9 +39,7 @@ fn merge_in(slots: &[u64], slot: u64) -> u64
 pub fn merge_wholes(slots: &mut [u64])
     ensures { slots.new ≡ merged_to (length slots.old) slots.old }
 {
-    let mut n = 0;
-    while n < slots.len() {
+    for n in 0..slots.len() {
         slots[n] = merge_in(slots, slots[n]);
-        n += 1;
     }
 }

@@ -54,18 +54,12 @@ pub enum Order {
     Only(Place),
 }
 
-fn least(a: usize, b: usize) -> usize
-    ensures { result ≡ min a b }
-{
-    if a <= b { a } else { b }
-}
-
 // So many entries as one of the first words says, from a place on, and never more than there is room for.
 fn entries_in(table: &[u64], count: usize, from: usize, most: usize) -> &[u64]
     ensures { result.now ≡ entries_in count from most table.now }
 {
     let entries = word_at(table, count) as usize;
-    part_of(table, from, least(entries, most))
+    part_of(table, from, entries.min(most))
 }
 
 // The names, packed.
@@ -102,10 +96,6 @@ pub fn names_by_value(table: &[u64]) -> [u64; NAMES]
 {
     let given = names_of(table);
     let mut names = [0u64; NAMES];
-    let mut i = 0;
-    while i < NAMES {
-        names[i] = word_at(given, i);
-        i += 1;
-    }
+    names[..given.len()].copy_from_slice(given);
     names
 }

@@ -48,12 +48,6 @@ returns-then-holds_at c =
     (code a.state.sum) c.loop-way.way c.loop-way-test.true (sym c.if-holds_at.true ∙ c.holds_at.ensures)
     ∙ sym c.loop-way.invariant
 
-pub overflow_add-way : goal.overflow_add-way
-overflow_add-way c = omega arith
-
-pub loop-way-smaller : goal.loop-way-smaller
-loop-way-smaller c = omega arith
-
 pub loop-way-preserved : goal.loop-way-preserved
 loop-way-preserved c =
     let a = c.args in

@@ -1,5 +1,5 @@
--- `memory::known` meets its contract. The loop's invariant: the entries of the slot from a way on decide; the measure is how
--- many they are. Assumes nothing.
+-- `memory::known` meets its contract. The loop's invariant: the entries of the slot from a way on decide.
+-- Assumes nothing.
 use mathlib.Core.Path.{◌≡◌}
 use Prim.Native.Nat.{◌+◌, ◌-◌}
 use Rattle.labels.specs.Packing.{code}
@@ -11,6 +11,3 @@ abbrev pub invariant-loop-way : goal.invariant-loop-way
 invariant-loop-way l =
     known_in (held l.memory) (held l.rules) l.before (code l.state.rest) (code l.state.sum)
     ≡ holds_from (ways - l.way) (held l.memory) (held l.rules) (l.first + l.way) l.before (code l.state.rest) (code l.state.sum)
-
-abbrev pub decreases-loop-way : goal.decreases-loop-way
-decreases-loop-way l = ways - l.way

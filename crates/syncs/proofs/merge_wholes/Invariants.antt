@@ -1,13 +1,8 @@
 -- `syncs::merge_wholes` meets its contract: slot after slot.
 -- Assumes nothing.
 use mathlib.Core.Path.{◌≡◌}
-use Prim.Native.Nat.{◌-◌, ◌≤◌}
-use lib.ListN.{length}
 use Rattle.syncs.specs.Merging.{merged_to}
 use Rattle.syncs.proofs.merge_wholes.Given as goal
 
 abbrev pub invariant-loop-n : goal.invariant-loop-n
-invariant-loop-n l = (l.slots ≡ merged_to l.n l.initial.slots) × (length l.slots ≡ length l.initial.slots) × (l.n ≤ length l.slots)
-
-abbrev pub decreases-loop-n : goal.decreases-loop-n
-decreases-loop-n l = length l.slots - l.n
+invariant-loop-n l = l.slots ≡ merged_to l.n l.initial.slots

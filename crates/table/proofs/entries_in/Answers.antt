@@ -10,4 +10,4 @@ returns c =
     let a = c.args in
     let table = a.table.now in
     c.part_of.ensures
-    ∙ ap (λ (n : ℕ). take n (drop a.from table)) (c.least.ensures ∙ ap (λ (n : ℕ). min n a.most) c.word_at-entries.ensures)
+    ∙ ap (λ (n : ℕ). take n (drop a.from table)) (c.min.ensures ∙ ap (λ (n : ℕ). min n a.most) c.word_at-entries.ensures)
