@@ -67,7 +67,8 @@ left_out t v t' answer a refusal =
     ]
 
 -- 18 exactly for a verdict no call gives, also where a figure is full; 17 exactly for any other with which a figure would pass its most.
-pub eighteen-first : (t : Tally) (v : Verdict) (t' : Tally) (answer : Result (Unit {0}) LeftOut) → Adds t v t' answer → (number_of answer ≡ 18) ↔ (given v ≡ false)
+pub eighteen-first : (t : Tally) (v : Verdict) (t' : Tally) (answer : Result (Unit {0}) LeftOut) → Adds t v t' answer
+    → (number_of answer ≡ 18) ↔ (given v ≡ false)
 eighteen-first t v t' answer a =
     elim (became t v t' answer a) [
       | counted some room same so ↦ ((λ e. let no = sym e ∙ ap number_of so in absurd (omega (arith, no))), λ none. absurd (true≢false (sym some ∙ none)))
@@ -94,7 +95,8 @@ worked-out begun = refl
 worked-out (added t t' v answer taken before a) =
     elim (became t v t' answer a) [
       | counted some room same in-it ↦
-          same ∙ ap (λ (u : Tally). after u v) (worked-out before) ∙ taken-figures taken v ∙ ap (λ (e : Result (Unit {0}) LeftOut). figures_of (taken_with e v taken)) (sym in-it)
+          same ∙ ap (λ (u : Tally). after u v) (worked-out before) ∙ taken-figures taken v
+          ∙ ap (λ (e : Result (Unit {0}) LeftOut). figures_of (taken_with e v taken)) (sym in-it)
       | unknown none same so ↦ same ∙ worked-out before ∙ ap (λ (e : Result (Unit {0}) LeftOut). figures_of (taken_with e v taken)) (sym so)
       | overfull some room same so ↦ same ∙ worked-out before ∙ ap (λ (e : Result (Unit {0}) LeftOut). figures_of (taken_with e v taken)) (sym so)
     ]

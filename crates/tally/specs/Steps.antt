@@ -10,6 +10,7 @@ unfoldable pub position : ℕ → List ℕ → ℕ
 position n [] = 0
 position n (m ∷ ms) = elim (eqb n m) [ true ↦ 0 | false ↦ suc (position n ms) ]
 
+-- where the figure of a refusal stands; behind them all for a number that no refusal has
 abbrev pub place_or_end : ℕ → ℕ
 place_or_end n = position n refusal_numbers
 
