@@ -1,17 +1,18 @@
 -- Which verdicts a call may give, test by test.
 -- Assumes nothing.
-use mathlib.Core.Path.{◌≡◌, refl, sym, ap, ◌∙◌}
+use mathlib.Core.Path.{◌≡◌, refl, sym, ◌∙◌}
 use mathlib.Core.Bool.{Bool, true, false, ◌&&◌, true≢false}
 use Prim.Native.Nat.{ℕ, ◌<◌, ◌≤◌}
 use native.Mathlib.Omega.{arith}
-use borrow.Author.Tests.{ltb-true, leb-true, eqb-true, le-leb, lt-leb, lt-ltb, le-ltb, eq-eqb, ne_eqb}
-use lib.Dec.{ltb, leb, eqb}
+use borrow.Author.Tests.{ltb-true, leb-true, eqb-true, le-leb, lt-leb, eq-eqb, ne_eqb}
+use lib.Dec.{leb, eqb}
+use Rattle.std.specs.Prelude.{Option, is_some}
 use Rattle.meaning.proofs.Tests.{and-true→}
 use Rattle.tally.specs.declared.Verdict.{Verdict}
 use Rattle.tally.specs.Figures.{refusal_numbers}
 use Rattle.tally.specs.Additions.{among, refusal_given, answer_given, given}
-use Rattle.tally.specs.Steps.{place_of}
-use Rattle.tally.proofs.Places.{among-by-place}
+use Rattle.tally.specs.Steps.{place_or_end, place_of}
+use Rattle.tally.proofs.Places.{among-by-place, some-placed}
 
 -- An answer: its labels, and then its rounds.
 pub answer-too-many : (v : Verdict) → 1024 < v.labels → false ≡ answer_given v
@@ -23,17 +24,14 @@ unfolding answer_given
 answer-by-rounds v few = rw (le-leb v.labels 1024 few) refl
 
 -- A refusal: its number, and then its labels and its rounds.
-known-by-place : (n p : ℕ) → p ≡ place_of n → among n refusal_numbers ≡ ltb p 7
-known-by-place n p e = sym (among-by-place n refusal_numbers) ∙ ap (λ (q : ℕ). ltb q 7) (sym e)
-
-pub refusal-unknown : (v : Verdict) (p : ℕ) → p ≡ place_of v.reason → 7 ≤ p → false ≡ refusal_given v
+pub refusal-unknown : (v : Verdict) (place : Option ℕ) → place ≡ place_of v.reason → is_some place ≡ false → false ≡ refusal_given v
 unfolding refusal_given
-refusal-unknown v p e behind = rw (known-by-place v.reason p e, le-ltb p 7 behind) refl
+refusal-unknown v place e none = rw (sym (some-placed v.reason place e) ∙ none) refl
 
-pub refusal-by-figures : (v : Verdict) (p : ℕ) → p ≡ place_of v.reason → p < 7
+pub refusal-by-figures : (v : Verdict) (place : Option ℕ) → place ≡ place_of v.reason → is_some place ≡ true
     → (eqb v.labels 0 && eqb v.rounds 0) ≡ refusal_given v
 unfolding refusal_given
-refusal-by-figures v p e before = rw (known-by-place v.reason p e, lt-ltb p 7 before) refl
+refusal-by-figures v place e some = rw (sym (some-placed v.reason place e) ∙ some) refl
 
 -- Two tests, the second made only where the first passed.
 pub both-when : (b c : Bool) {whole : Bool} → b ≡ true → (b && c) ≡ whole → c ≡ whole
@@ -56,7 +54,7 @@ given-refusal v other e = rw (ne_eqb v.reason 0 other, given) e
 pub record Limits (v : Verdict) : Type 0 where
   pub few-labels : v.labels ≤ 1024
   pub few-rounds : v.rounds ≤ 2049
-  pub placed : (v.reason ≡ 0 → ⊥) → place_of v.reason < 7
+  pub placed : (v.reason ≡ 0 → ⊥) → place_or_end v.reason < 7
 
 pub given-limits : (v : Verdict) → given v ≡ true → Limits v
 unfolding given answer_given refusal_given
@@ -79,5 +77,5 @@ given-limits v g = by_number (eqb v.reason 0) refl g
         record {
           few-labels = omega (arith, no-labels);
           few-rounds = omega (arith, no-rounds);
-          placed = λ _. ltb-true (place_of v.reason) 7 (among-by-place v.reason refusal_numbers ∙ by_number.0);
+          placed = λ _. ltb-true (place_or_end v.reason) 7 (among-by-place v.reason refusal_numbers ∙ by_number.0);
         }

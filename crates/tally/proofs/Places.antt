@@ -3,20 +3,22 @@
 use mathlib.Core.Path.{◌≡◌, refl, ap, ap₂, ◌∙◌}
 use mathlib.Core.Bool.{Bool, true, false, ◌&&◌, ◌||◌, not, true≢false}
 use mathlib.Core.List.{List, [], ◌∷◌, map}
-use Prim.Native.Nat.{ℕ, suc, ◌+◌}
+use Prim.Native.Nat.{ℕ, suc, ◌+◌, ◌≤◌, ◌<◌}
 use native.Mathlib.Nat.{add-zero, zero-add}
 use native.Mathlib.Omega.{arith}
-use borrow.Author.Tests.{eq-eqb, ne_eqb, eqb-true, not-true}
+use borrow.Author.Tests.{eq-eqb, ne_eqb, eqb-true, ltb-true, ltb-false, not-true}
 use lib.Dec.{ltb, eqb, leb-zero, leb-suc-suc}
 use lib.ListN.{length, get_or, set}
+use Rattle.std.specs.Prelude.{Option, Some, None, MatchOption, is_some}
 use Rattle.meaning.specs.Labels.{plus, size}
+use Rattle.meaning.specs.Rounds.{pick}
 use Rattle.meaning.proofs.Bags.{plus_none}
 use Rattle.meaning.proofs.Tests.{or-false→, and-true→}
 use Rattle.tally.specs.declared.Verdict.{Verdict}
-use Rattle.tally.specs.Figures.{one, saying}
+use Rattle.tally.specs.Figures.{one, saying, refusal_numbers}
 use Rattle.tally.specs.Additions.{among}
 use Rattle.tally.specs.declared.Tally.{Tally}
-use Rattle.tally.specs.Steps.{position, place_of, figure_of}
+use Rattle.tally.specs.Steps.{position, place_or_end, place_of, figure_of}
 
 -- A number has a place before the end exactly if it is among them.
 pub among-by-place : (n : ℕ) (ms : List ℕ) → ltb (position n ms) (length ms) ≡ among n ms
@@ -101,6 +103,23 @@ pub figure-answered : (t : Tally) {n : ℕ} → n ≡ 0 → t.answered ≡ figur
 unfolding figure_of
 figure-answered t {n} e = rw (eq-eqb n 0 e, figure_of) refl
 
-pub figure-elsewhere : (t : Tally) {n p : ℕ} → (n ≡ 0 → ⊥) → p ≡ place_of n → get_or t.refusals p 0 ≡ figure_of t n
+pub figure-elsewhere : (t : Tally) {n p : ℕ} → (n ≡ 0 → ⊥) → p ≡ place_or_end n → get_or t.refusals p 0 ≡ figure_of t n
 unfolding figure_of
 figure-elsewhere t {n} {p} other e = rw (ne_eqb n 0 other, figure_of) (ap (λ (q : ℕ). get_or t.refusals q 0) e)
+
+-- The place of a number that a refusal has, and that of one that none has.
+module _ (n : ℕ) where
+  placed : (b : Bool) (r : Option ℕ) → ltb (place_or_end n) 7 ≡ b → r ≡ pick b (Some (place_or_end n)) None
+      → MatchOption r (7 ≤ place_or_end n) (λ p. (p ≡ place_or_end n) × (p < 7))
+  placed true r inside e = rw e (refl, ltb-true (place_or_end n) 7 inside)
+  placed false r outside e = rw e (ltb-false (place_or_end n) 7 outside)
+
+  pub by_place : (r : Option ℕ) → r ≡ place_of n → MatchOption r (7 ≤ place_or_end n) (λ p. (p ≡ place_or_end n) × (p < 7))
+  by_place r e = placed (ltb (place_or_end n) 7) r refl e
+
+  some-picked : (b : Bool) (p : ℕ) → is_some (pick b (Some p) None) ≡ b
+  some-picked true p = refl
+  some-picked false p = refl
+
+  pub some-placed : (r : Option ℕ) → r ≡ place_of n → is_some r ≡ among n refusal_numbers
+  some-placed r e = ap is_some e ∙ some-picked (ltb (place_or_end n) 7) (place_or_end n) ∙ among-by-place n refusal_numbers

@@ -10,12 +10,13 @@ use native.Mathlib.Decide.{dec_lt}
 use borrow.Author.Tests.{leb-true, le-leb, lt-leb, eq-eqb, ne_eqb, eqb-true, eqb-false}
 use lib.Dec.{leb, eqb}
 use lib.ListN.{length, get_or, set, get_or-eq_default}
+use Rattle.std.specs.Int.{from_bool}
 use Rattle.meaning.proofs.Tests.{and-true→, leb-behind}
 use Rattle.tally.specs.declared.Tally.{Tally}
 use Rattle.tally.specs.declared.Verdict.{Verdict}
 use Rattle.tally.specs.Figures.{one, all_labels, most_rounds, refusal_numbers}
 use Rattle.tally.specs.Additions.{among, given, after, most, all_fit, fits}
-use Rattle.tally.specs.Steps.{position, place_of, figure_of}
+use Rattle.tally.specs.Steps.{position, place_or_end, figure_of}
 use Rattle.tally.proofs.Held.{Held}
 use Rattle.tally.proofs.Givens.{given-limits}
 use Rattle.tally.proofs.Places.{distinct, saying-one, one-added, figure-answered, figure-elsewhere}
@@ -46,7 +47,7 @@ set-behind (f ∷ fs) (suc p) x behind = ap (λ (l : List ℕ). f ∷ l) (set-be
 
 -- Each figure of a tally with one verdict more.
 pub after-refusals : (t : Tally) (v : Verdict) → length t.refusals ≡ 7
-    → (after t v).refusals ≡ set t.refusals (place_of v.reason) (get_or t.refusals (place_of v.reason) 0 + 1)
+    → (after t v).refusals ≡ set t.refusals (place_or_end v.reason) (get_or t.refusals (place_or_end v.reason) 0 + 1)
 unfolding after distinct among
 after-refusals t v seven = one-added v refusal_numbers t.refusals seven refl
 
@@ -66,6 +67,11 @@ pub after-descriptions : (t : Tally) (v : Verdict) → (after t v).descriptions 
 unfolding after
 after-descriptions t v = refl
 
+-- The number that stands for a test.
+pub one-from_bool : (b : Bool) → from_bool b ≡ one b
+one-from_bool true = refl
+one-from_bool false = refl
+
 -- They fit, figure by figure.
 each_fits : Bool → Bool → Bool → Bool → Bool → Bool
 each_fits d a l r rs = d && (a && (l && (r && rs)))
@@ -76,9 +82,9 @@ unfolding fits all_fit each_fits
 fits-by-each t = refl
 
 -- An answer has no place among the refusals, so their figures stay.
-answer-behind : (v : Verdict) → v.reason ≡ 0 → place_of v.reason ≡ 7
+answer-behind : (v : Verdict) → v.reason ≡ 0 → place_or_end v.reason ≡ 7
 unfolding position
-answer-behind v e = ap place_of e
+answer-behind v e = ap place_or_end e
 
 module _ (t : Tally) (v : Verdict) (is : Held t) (g : given v ≡ true) where
   rounds-fit : leb (after t v).rounds most ≡ true
@@ -102,7 +108,7 @@ module _ (t : Tally) (v : Verdict) (is : Held t) (g : given v ≡ true) where
   -- of a refusal
   fits-with-refusal : (v.reason ≡ 0 → ⊥)
       → fits (after t v)
-      ≡ (leb (t.descriptions + 1) most && (leb (get_or t.refusals (place_of v.reason) 0 + 1) most && leb (t.labels + v.labels) most))
+      ≡ (leb (t.descriptions + 1) most && (leb (get_or t.refusals (place_or_end v.reason) 0 + 1) most && leb (t.labels + v.labels) most))
   unfolding each_fits
   fits-with-refusal other =
       let more = after-refusals t v is.seven in
@@ -172,7 +178,7 @@ fitting t fit =
     }
 
 -- So a figure of refusals that is to be raised is below its most.
-pub raisable : (t : Tally) (v : Verdict) (p : ℕ) → p ≡ place_of v.reason → Held t → fits (after t v) ≡ true → get_or t.refusals p 0 < most
+pub raisable : (t : Tally) (v : Verdict) (p : ℕ) → p ≡ place_or_end v.reason → Held t → fits (after t v) ≡ true → get_or t.refusals p 0 < most
 raisable t v p e is fit = by_place (dec_lt p 7)
   where
     raised : all_fit (set t.refusals p (get_or t.refusals p 0 + 1)) ≡ true
@@ -192,7 +198,7 @@ raisable t v p e is fit = by_place (dec_lt p 7)
 -- The figures that are worked out one by one are those of the tally with the verdict.
 pub counted-after : (t : Tally) (v : Verdict) {a : ℕ} {rs : List ℕ} {r : ℕ} → length t.refusals ≡ 7
     → a ≡ one (eqb v.reason 0)
-    → rs ≡ set t.refusals (place_of v.reason) (get_or t.refusals (place_of v.reason) 0 + 1)
+    → rs ≡ set t.refusals (place_or_end v.reason) (get_or t.refusals (place_or_end v.reason) 0 + 1)
     → r ≡ max t.rounds v.rounds
     → record { descriptions = t.descriptions + 1; answered = t.answered + a; refusals = rs; labels = t.labels + v.labels; rounds = r } ≡ after t v
 unfolding after

@@ -11,10 +11,11 @@ use lib.Dec.{eqb}
 use Rattle.meaning.specs.Labels.{size}
 use Rattle.meaning.proofs.Tests.{and-true→}
 use Rattle.meaning.proofs.Bags.{size-plus}
+use Rattle.std.specs.Prelude.{Result, Ok, Err}
 use Rattle.tally.specs.declared.Verdict.{Verdict}
 use Rattle.tally.specs.declared.Tally.{Tally}
-use Rattle.tally.specs.declared.Answer.{Answer}
-use Rattle.tally.specs.declared.Answer.TheVariants.{TakenIn, NoVerdict, Full}
+use Rattle.tally.specs.declared.LeftOut.{LeftOut}
+use Rattle.tally.specs.declared.LeftOut.TheVariants.{NoVerdict, Full}
 use Rattle.tally.specs.Figures.{one, saying, all_labels, most_rounds, refusal_numbers, figures_of, refused}
 use Rattle.tally.specs.Additions.{among, answer_given, refusal_given, given, after, all_fit, fits, number_of, Adds}
 use Rattle.tally.specs.Sequences.{taken_with, Tallied, begun, added}
@@ -23,41 +24,41 @@ use Rattle.tally.proofs.Room.{after-descriptions, after-answered}
 use Rattle.tally.proofs.Cases.{not-given, no_room, taken_in}
 use Rattle.tally.proofs.Sums.{figures-append}
 
--- No two answers have one number.
-numbers_apart : (a b : Answer) → number_of a ≡ number_of b → a ≡ b
-numbers_apart TakenIn TakenIn e = refl
-numbers_apart TakenIn NoVerdict e = absurd (omega (arith, e))
-numbers_apart TakenIn Full e = absurd (omega (arith, e))
-numbers_apart NoVerdict TakenIn e = absurd (omega (arith, e))
-numbers_apart NoVerdict NoVerdict e = refl
-numbers_apart NoVerdict Full e = absurd (omega (arith, e))
-numbers_apart Full TakenIn e = absurd (omega (arith, e))
-numbers_apart Full NoVerdict e = absurd (omega (arith, e))
-numbers_apart Full Full e = refl
+-- No two of what may become of a verdict have one number.
+numbers_apart : (a b : Result (Unit {0}) LeftOut) → number_of a ≡ number_of b → a ≡ b
+numbers_apart (Ok x) (Ok y) e = refl
+numbers_apart (Ok x) (Err NoVerdict) e = absurd (omega (arith, e))
+numbers_apart (Ok x) (Err Full) e = absurd (omega (arith, e))
+numbers_apart (Err NoVerdict) (Ok y) e = absurd (omega (arith, e))
+numbers_apart (Err NoVerdict) (Err NoVerdict) e = refl
+numbers_apart (Err NoVerdict) (Err Full) e = absurd (omega (arith, e))
+numbers_apart (Err Full) (Ok y) e = absurd (omega (arith, e))
+numbers_apart (Err Full) (Err NoVerdict) e = absurd (omega (arith, e))
+numbers_apart (Err Full) (Err Full) e = refl
 
 -- Two that keep the promise say the same.
-pub adds-once : (t : Tally) (v : Verdict) (t₁ t₂ : Tally) (a₁ a₂ : Answer) → Adds t v t₁ a₁ → Adds t v t₂ a₂ → (t₁ ≡ t₂) × (a₁ ≡ a₂)
+pub adds-once : (t : Tally) (v : Verdict) (t₁ t₂ : Tally) (a₁ a₂ : Result (Unit {0}) LeftOut) → Adds t v t₁ a₁ → Adds t v t₂ a₂ → (t₁ ≡ t₂) × (a₁ ≡ a₂)
 adds-once t v t₁ t₂ a₁ a₂ p₁ p₂ = (p₁.0 ∙ sym p₂.0, numbers_apart a₁ a₂ (p₁.1 ∙ sym p₂.1))
 
 -- An addition's three cases, read backwards from what became of the verdict.
-data Became (t : Tally) (v : Verdict) (t' : Tally) (answer : Answer) : Type 0 where
-  counted : given v ≡ true → fits (after t v) ≡ true → t' ≡ after t v → answer ≡ TakenIn → Became t v t' answer
-  unknown : given v ≡ false → t' ≡ t → answer ≡ NoVerdict → Became t v t' answer
-  overfull : given v ≡ true → fits (after t v) ≡ false → t' ≡ t → answer ≡ Full → Became t v t' answer
+data Became (t : Tally) (v : Verdict) (t' : Tally) (answer : Result (Unit {0}) LeftOut) : Type 0 where
+  counted : given v ≡ true → fits (after t v) ≡ true → t' ≡ after t v → answer ≡ Ok tt → Became t v t' answer
+  unknown : given v ≡ false → t' ≡ t → answer ≡ Err NoVerdict → Became t v t' answer
+  overfull : given v ≡ true → fits (after t v) ≡ false → t' ≡ t → answer ≡ Err Full → Became t v t' answer
 
-became : (t : Tally) (v : Verdict) (t' : Tally) (answer : Answer) → Adds t v t' answer → Became t v t' answer
+became : (t : Tally) (v : Verdict) (t' : Tally) (answer : Result (Unit {0}) LeftOut) → Adds t v t' answer → Became t v t' answer
 became t v t' answer a = by-given (given v) refl
   where
     by-room : given v ≡ true → (b : Bool) → fits (after t v) ≡ b → Became t v t' answer
-    by-room some true room = let same = adds-once t v t' _ answer TakenIn a (taken_in t v some room) in counted some room same.0 same.1
-    by-room some false room = let same = adds-once t v t' _ answer Full a (no_room t v some room) in overfull some room same.0 same.1
+    by-room some true room = let same = adds-once t v t' _ answer (Ok tt) a (taken_in t v some room) in counted some room same.0 same.1
+    by-room some false room = let same = adds-once t v t' _ answer (Err Full) a (no_room t v some room) in overfull some room same.0 same.1
 
     by-given : (b : Bool) → given v ≡ b → Became t v t' answer
     by-given true some = by-room some (fits (after t v)) refl
-    by-given false none = let same = adds-once t v t' _ answer NoVerdict a (not-given t v none) in unknown none same.0 same.1
+    by-given false none = let same = adds-once t v t' _ answer (Err NoVerdict) a (not-given t v none) in unknown none same.0 same.1
 
 -- A refused addition changes nothing.
-pub left_out : (t : Tally) (v : Verdict) (t' : Tally) (answer : Answer) → Adds t v t' answer → (number_of answer ≡ 0 → ⊥) → t' ≡ t
+pub left_out : (t : Tally) (v : Verdict) (t' : Tally) (answer : Result (Unit {0}) LeftOut) → Adds t v t' answer → (number_of answer ≡ 0 → ⊥) → t' ≡ t
 left_out t v t' answer a refusal =
     elim (became t v t' answer a) [
       | counted some room same so ↦ absurd (refusal (ap number_of so))
@@ -66,7 +67,8 @@ left_out t v t' answer a refusal =
     ]
 
 -- 18 exactly for a verdict no call gives, also where a figure is full; 17 exactly for any other with which a figure would pass its most.
-pub eighteen-first : (t : Tally) (v : Verdict) (t' : Tally) (answer : Answer) → Adds t v t' answer → (number_of answer ≡ 18) ↔ (given v ≡ false)
+pub eighteen-first : (t : Tally) (v : Verdict) (t' : Tally) (answer : Result (Unit {0}) LeftOut) → Adds t v t' answer
+    → (number_of answer ≡ 18) ↔ (given v ≡ false)
 eighteen-first t v t' answer a =
     elim (became t v t' answer a) [
       | counted some room same so ↦ ((λ e. let no = sym e ∙ ap number_of so in absurd (omega (arith, no))), λ none. absurd (true≢false (sym some ∙ none)))
@@ -74,7 +76,7 @@ eighteen-first t v t' answer a =
       | overfull some room same so ↦ ((λ e. let no = sym e ∙ ap number_of so in absurd (omega (arith, no))), λ none. absurd (true≢false (sym some ∙ none)))
     ]
 
-pub then-seventeen : (t : Tally) (v : Verdict) (t' : Tally) (answer : Answer) → Adds t v t' answer
+pub then-seventeen : (t : Tally) (v : Verdict) (t' : Tally) (answer : Result (Unit {0}) LeftOut) → Adds t v t' answer
     → (number_of answer ≡ 17) ↔ ((given v ≡ true) × (fits (after t v) ≡ false))
 then-seventeen t v t' answer a =
     elim (became t v t' answer a) [
@@ -93,9 +95,10 @@ worked-out begun = refl
 worked-out (added t t' v answer taken before a) =
     elim (became t v t' answer a) [
       | counted some room same in-it ↦
-          same ∙ ap (λ (u : Tally). after u v) (worked-out before) ∙ taken-figures taken v ∙ ap (λ (e : Answer). figures_of (taken_with e v taken)) (sym in-it)
-      | unknown none same so ↦ same ∙ worked-out before ∙ ap (λ (e : Answer). figures_of (taken_with e v taken)) (sym so)
-      | overfull some room same so ↦ same ∙ worked-out before ∙ ap (λ (e : Answer). figures_of (taken_with e v taken)) (sym so)
+          same ∙ ap (λ (u : Tally). after u v) (worked-out before) ∙ taken-figures taken v
+          ∙ ap (λ (e : Result (Unit {0}) LeftOut). figures_of (taken_with e v taken)) (sym in-it)
+      | unknown none same so ↦ same ∙ worked-out before ∙ ap (λ (e : Result (Unit {0}) LeftOut). figures_of (taken_with e v taken)) (sym so)
+      | overfull some room same so ↦ same ∙ worked-out before ∙ ap (λ (e : Result (Unit {0}) LeftOut). figures_of (taken_with e v taken)) (sym so)
     ]
 
 -- Answered plus refused is the number of descriptions.

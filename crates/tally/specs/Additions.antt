@@ -1,11 +1,11 @@
 -- What becomes of a verdict that is added to a tally, and what the tally is afterwards (docs/FORMAT.md, "The tally of a model store").
 -- Assumes nothing.
-use Rattle.std.specs.Prelude.{◌≡◌, Bool, true, false, ◌&&◌, ◌||◌, List, [], ◌∷◌, ℕ, ◌+◌, max, eqb, leb}
+use Rattle.std.specs.Prelude.{◌≡◌, Bool, true, false, ◌&&◌, ◌||◌, List, [], ◌∷◌, ℕ, ◌+◌, max, eqb, leb, Result, Ok, Err}
 use Rattle.meaning.specs.Labels.{plus}
 use Rattle.tally.specs.declared.Verdict.{Verdict}
 use Rattle.tally.specs.declared.Tally.{Tally}
-use Rattle.tally.specs.declared.Answer.{Answer}
-use Rattle.tally.specs.declared.Answer.TheVariants.{TakenIn, NoVerdict, Full}
+use Rattle.tally.specs.declared.LeftOut.{LeftOut}
+use Rattle.tally.specs.declared.LeftOut.TheVariants.{NoVerdict, Full}
 use Rattle.tally.specs.Figures.{refusal_numbers, figures_of}
 
 -- A verdict that a call may give: a refusal has one of these numbers, and its labels and rounds are 0; an answer has at most 1,024
@@ -67,12 +67,12 @@ addition t v =
       ]
     ]
 
--- The number of each answer.
-abbrev pub number_of : Answer → ℕ
-number_of TakenIn = 0
-number_of NoVerdict = 18
-number_of Full = 17
+-- The number of what became of a verdict.
+abbrev pub number_of : Result (Unit {0}) LeftOut → ℕ
+number_of (Ok taken_in) = 0
+number_of (Err NoVerdict) = 18
+number_of (Err Full) = 17
 
 -- An addition settles what becomes of the verdict and every figure.
-abbrev pub Adds : (t : Tally) (v : Verdict) (after : Tally) (answer : Answer) → Type 0
+abbrev pub Adds : (t : Tally) (v : Verdict) (after : Tally) (answer : Result (Unit {0}) LeftOut) → Type 0
 Adds t v after answer = (after ≡ (addition t v).tally) × (number_of answer ≡ (addition t v).number)

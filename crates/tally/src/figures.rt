@@ -1,8 +1,7 @@
 // The figures with those of one verdict more, and whether they fit.
-ghost use Rattle.std.specs.Prelude.{◌≡◌, true, ◌+◌, ◌<◌, max, eqb, get_or, set};
-ghost use Rattle.tally.specs.Figures.{one};
+ghost use Rattle.std.specs.Prelude.{◌≡◌, true, ◌+◌, ◌<◌, get_or, set};
 ghost use Rattle.tally.specs.Additions.{given, most, fits, after};
-ghost use Rattle.tally.specs.Steps.{figure_of};
+ghost use Rattle.tally.specs.Steps.{figure_of, place_or_end};
 
 use crate::verdicts::{ANSWER, place_of};
 use crate::{REFUSALS, Tally, Verdict};
@@ -18,11 +17,10 @@ fn figure_of(tally: Tally, reason: usize) -> u32
         return tally.answered;
     }
     let refusals = tally.refusals;
-    let place = place_of(reason);
-    if REFUSALS <= place {
-        return 0;
+    match place_of(reason) {
+        Some(place) => refusals[place],
+        None => 0,
     }
-    refusals[place]
 }
 
 // Whether no figure would pass its most. Most rounds cannot: it is no sum.
@@ -39,28 +37,16 @@ pub(crate) fn has_room(tally: Tally, verdict: Verdict) -> bool
     verdict.labels as u32 <= MOST - tally.labels
 }
 
-fn one_if_answer(reason: usize) -> u32
-    ensures { result ≡ one (eqb reason 0) }
-{
-    if reason == ANSWER { 1 } else { 0 }
-}
-
-// One more where the figure of a refusal stands; for an answer, whose place is behind them all, they stay.
-fn one_more(refusals: [u32; REFUSALS], place: usize) -> [u32; REFUSALS]
-    requires { get_or refusals place 0 < most }
-    ensures { result ≡ set refusals place (get_or refusals place 0 + 1) }
+// One more where the figure of a refusal stands; for an answer, which has none there, they stay.
+fn one_more(refusals: [u32; REFUSALS], reason: usize) -> [u32; REFUSALS]
+    requires { get_or refusals (place_or_end reason) 0 < most }
+    ensures { result ≡ set refusals (place_or_end reason) (get_or refusals (place_or_end reason) 0 + 1) }
 {
     let mut raised = refusals;
-    if place < REFUSALS {
+    if let Some(place) = place_of(reason) {
         raised[place] += 1;
     }
     raised
-}
-
-fn greater(a: u32, b: u32) -> u32
-    ensures { result ≡ max a b }
-{
-    if a < b { b } else { a }
 }
 
 pub(crate) fn counting(tally: Tally, verdict: Verdict) -> Tally
@@ -71,9 +57,9 @@ pub(crate) fn counting(tally: Tally, verdict: Verdict) -> Tally
     let refusals = tally.refusals;
     Tally {
         descriptions: tally.descriptions + 1,
-        answered: tally.answered + one_if_answer(verdict.reason),
-        refusals: one_more(refusals, place_of(verdict.reason)),
+        answered: tally.answered + u32::from(verdict.reason == ANSWER),
+        refusals: one_more(refusals, verdict.reason),
         labels: tally.labels + verdict.labels as u32,
-        rounds: greater(tally.rounds, verdict.rounds as u32),
+        rounds: tally.rounds.max(verdict.rounds as u32),
     }
 }

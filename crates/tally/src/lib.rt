@@ -12,7 +12,7 @@ use crate::figures::{counting, has_room};
 use crate::verdicts::is_given;
 
 // What a call said, as far as it is counted: the number of its refusal, 0 for an answer; its rounds and how many labels it listed.
-#[derive(Clone, Copy)]
+#[derive(Clone, Copy, Debug, PartialEq, Eq)]
 pub struct Verdict {
     pub reason: usize,
     pub rounds: usize,
@@ -23,7 +23,7 @@ pub struct Verdict {
 pub const REFUSALS: usize = 7;
 
 // The figures. No figure of 32 bits can pass 4,294,967,295.
-#[derive(Clone, Copy)]
+#[derive(Clone, Copy, Debug, PartialEq, Eq)]
 pub struct Tally {
     pub descriptions: u32,
     pub answered: u32,
@@ -32,19 +32,18 @@ pub struct Tally {
     pub rounds: u32,
 }
 
-// What becomes of a verdict: it is taken in; or it is left out, with 18 where no call gives it and with 17 where a figure is full.
-#[derive(Clone, Copy)]
-pub enum Answer {
-    TakenIn,
+// Why a verdict is left out: with 18 where no call gives it, and with 17 where a figure is full.
+#[derive(Clone, Copy, Debug, PartialEq, Eq)]
+pub enum LeftOut {
     NoVerdict,
     Full,
 }
 
-// The tally afterwards, with what became of the verdict. One that is left out leaves the tally as it was.
-#[derive(Clone, Copy)]
+// The tally afterwards, with what became of the verdict: it is taken in, or left out. One that is left out leaves the tally as it was.
+#[derive(Clone, Copy, Debug, PartialEq, Eq)]
 pub struct Addition {
     pub tally: Tally,
-    pub answer: Answer,
+    pub answer: Result<(), LeftOut>,
 }
 
 // The tally of no description.
@@ -66,24 +65,24 @@ pub fn added(tally: Tally, verdict: Verdict) -> Addition
 {
     if !is_given(verdict) {
         return Addition {
-            tally: tally,
-            answer: Answer::NoVerdict,
+            tally,
+            answer: Err(LeftOut::NoVerdict),
         };
     }
     if !has_room(tally, verdict) {
         return Addition {
-            tally: tally,
-            answer: Answer::Full,
+            tally,
+            answer: Err(LeftOut::Full),
         };
     }
     Addition {
         tally: counting(tally, verdict),
-        answer: Answer::TakenIn,
+        answer: Ok(()),
     }
 }
 
 // Adds a verdict to the running tally.
-pub fn add(tally: &mut Tally, verdict: Verdict) -> Answer
+pub fn add(tally: &mut Tally, verdict: Verdict) -> Result<(), LeftOut>
     ensures { Adds tally.old verdict tally.new result }
 {
     let addition = added(*tally, verdict);

@@ -3,7 +3,7 @@ ghost use Rattle.std.specs.Prelude.{◌≡◌};
 ghost use Rattle.tally.specs.Additions.{answer_given, refusal_given, given};
 ghost use Rattle.tally.specs.Steps.{place_of};
 
-use crate::{REFUSALS, Verdict};
+use crate::Verdict;
 
 // The number of an answer, and its limits.
 pub(crate) const ANSWER: usize = 0;
@@ -12,19 +12,19 @@ const MOST_LABELS: usize = 1024;
 
 const MOST_ROUNDS: usize = 2049;
 
-// Where the figure of a refusal stands; behind all of them for a number that no refusal has.
-pub(crate) fn place_of(reason: usize) -> usize
+// Where the figure of a refusal stands, if a refusal has the number.
+pub(crate) fn place_of(reason: usize) -> Option<usize>
     ensures { result ≡ place_of reason }
 {
     match reason {
-        1 => 0,
-        2 => 1,
-        3 => 2,
-        4 => 3,
-        5 => 4,
-        7 => 5,
-        10 => 6,
-        _ => REFUSALS,
+        1 => Some(0),
+        2 => Some(1),
+        3 => Some(2),
+        4 => Some(3),
+        5 => Some(4),
+        7 => Some(5),
+        10 => Some(6),
+        _ => None,
     }
 }
 
@@ -40,7 +40,7 @@ fn is_answer(verdict: Verdict) -> bool
 fn is_refusal(verdict: Verdict) -> bool
     ensures { result ≡ refusal_given verdict }
 {
-    if REFUSALS <= place_of(verdict.reason) {
+    if place_of(verdict.reason).is_none() {
         return false;
     }
     verdict.labels == 0 && verdict.rounds == 0

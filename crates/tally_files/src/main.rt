@@ -11,7 +11,7 @@ use std::fs::File;
 use std::io;
 use std::io::Read;
 use std::rt::Files;
-use tally::{Addition, Answer, Tally, empty};
+use tally::{Addition, LeftOut, Tally, empty};
 use tally_texts::{LONGEST_TALLY, write_tally};
 use verdicts::with_description;
 
@@ -57,19 +57,18 @@ fn fail(rt: &impl AllocGlobal, told: &impl Print, path: &[u8], error: io::Error)
 fn after_addition(told: &impl Print, addition: Addition, path: &[u8]) -> Tally
     ensures { result ≡ addition.tally }
 {
-    let answer = addition.answer;
-    match answer {
-        Answer::TakenIn => {}
-        Answer::Full => name_left_out(told, path, b": the tally is full (refusal 17)\n"),
-        Answer::NoVerdict => {
+    match addition.answer {
+        Ok(()) => {}
+        Err(LeftOut::Full) => name_left_out(told, path, b": the tally is full (refusal 17)\n"),
+        Err(LeftOut::NoVerdict) => {
             name_left_out(told, path, b": no call gives its verdict (refusal 18)\n");
         }
     }
-    let after = addition.tally;
-    after
+    addition.tally
 }
 
-// Reads until the area is full, the file ends or a read fails: how many bytes stand at its start.
+// Reads until the area is full, the file ends or a read fails: how many bytes stand at its start. `alphabet` has one like it: neither
+// program is a library, and none that both use reads anything.
 fn read_full(file: &mut impl Read, area: &mut [u8]) -> usize
     ensures { result ≤ length area.new }
 {
@@ -164,7 +163,8 @@ fn tell_progress(told: &impl Print, done: usize, all: usize) {
     let _ = println!(told; "tally: {done} of {all} files");
 }
 
-// How many arguments there are, the program's own name among them.
+// How many arguments there are, the program's own name among them. They are counted by hand, since the list that `std` makes of them lies
+// on the heap.
 fn arg_count(rt: &impl Env) -> usize {
     for i in 0..usize::MAX {
         if let Err(FillError::NotPresent) = rt.arg(i, &mut []) {

@@ -6,13 +6,13 @@
 // bytes each. The lower bytes of a number stand first. What is left of a record at the end of the input is dropped.
 #![tactic(auto)]
 
-ghost use Rattle.std.specs.Prelude.{◌≡◌, ◌+◌, ◌*◌, ◌≤◌, length};
+ghost use Rattle.std.specs.Prelude.{◌≤◌, length};
 ghost use Rattle.tally.specs.Additions.{Adds};
 
 use numerals::copy;
 use std::io;
 use std::io::Read;
-use tally::{Addition, Answer, Tally, Verdict, add, empty};
+use tally::{Addition, LeftOut, Tally, Verdict, add, empty};
 use tally_texts::{LONGEST_TALLY, write_tally};
 
 const RECORD: usize = 69;
@@ -23,41 +23,27 @@ const ANEW: u8 = 1;
 // What is written of a record: a line of at most eight bytes, and the text of a tally.
 const TEXT: usize = 8 + LONGEST_TALLY;
 
-// A number from two of half its width, the lower first.
-fn of_bytes(low: u8, high: u8) -> u16
-    ensures { result ≡ low + 256 * high }
-{
-    low as u16 + 256 * (high as u16)
-}
-
-fn of_halves(low: u16, high: u16) -> u32
-    ensures { result ≡ low + 65536 * high }
-{
-    low as u32 + 65536 * (high as u32)
-}
-
-fn of_words(low: u32, high: u32) -> u64
-    ensures { result ≡ low + 4294967296 * high }
-{
-    low as u64 + 4294967296 * (high as u64)
-}
-
 // The number in four bytes of a record.
 fn figure(record: &[u8; RECORD], at: usize) -> u32
     requires { at ≤ 65 }
 {
-    let low = of_bytes(record[at], record[at + 1]);
-    let high = of_bytes(record[at + 2], record[at + 3]);
-    of_halves(low, high)
+    u32::from_le_bytes([record[at], record[at + 1], record[at + 2], record[at + 3]])
 }
 
 // The number in eight bytes of a record.
 fn number(record: &[u8; RECORD], at: usize) -> usize
     requires { at ≤ 61 }
 {
-    let low = figure(record, at);
-    let high = figure(record, at + 4);
-    of_words(low, high) as usize
+    u64::from_le_bytes([
+        record[at],
+        record[at + 1],
+        record[at + 2],
+        record[at + 3],
+        record[at + 4],
+        record[at + 5],
+        record[at + 6],
+        record[at + 7],
+    ]) as usize
 }
 
 // What a record begins anew from, and what it adds; the numbers are the places of its bytes.
@@ -96,14 +82,14 @@ fn begun(running: Tally, record: &[u8; RECORD]) -> Tally {
 }
 
 // The line that says what became of a verdict. Its length is returned.
-fn write_said(text: &mut [u8], answer: Answer) -> usize
+fn write_said(text: &mut [u8], answer: Result<(), LeftOut>) -> usize
     requires { 8 ≤ length text.old }
     ensures { result ≤ 8 }
 {
     match answer {
-        Answer::TakenIn => copy(b"said=0\n", text),
-        Answer::Full => copy(b"said=17\n", text),
-        Answer::NoVerdict => copy(b"said=18\n", text),
+        Ok(()) => copy(b"said=0\n", text),
+        Err(LeftOut::Full) => copy(b"said=17\n", text),
+        Err(LeftOut::NoVerdict) => copy(b"said=18\n", text),
     }
 }
 
@@ -118,41 +104,30 @@ fn write_addition(output: &impl Print, addition: Addition) -> io::Result<()> {
     output.write_all(&text[..end])
 }
 
-// What a turn leaves: the running tally, and whether there was one more whole record.
-#[derive(Clone, Copy)]
-struct Turn {
-    tally: Tally,
-    goes_on: bool,
-}
-
 // Adds through a reference, as to a tally that runs on; what then stands behind it is handed back.
 fn in_place(before: Tally, verdict: Verdict) -> Addition
     ensures { Adds before verdict result.tally result.answer }
 {
-    let mut running = before;
-    let answer = add(&mut running, verdict);
-    let tally = running;
+    let mut tally = before;
+    let answer = add(&mut tally, verdict);
     Addition { tally, answer }
 }
 
-// One record is read, tried and told.
-fn after_record(input: &mut impl Read, output: &impl Print, running: Tally) -> io::Result<Turn> {
+// One record is read, tried and told: the running tally behind it, if there was one more whole record.
+fn after_record(
+    input: &mut impl Read,
+    output: &impl Print,
+    running: Tally,
+) -> io::Result<Option<Tally>> {
     let mut record = [0u8; RECORD];
     // Where the input ends or cannot be read, no whole record is left.
     if input.read_exact(&mut record).is_err() {
-        return Ok(Turn {
-            tally: running,
-            goes_on: false,
-        });
+        return Ok(None);
     }
     let before = begun(running, &record);
     let addition = in_place(before, verdict_in(&record));
     write_addition(output, addition)?;
-    let after = addition.tally;
-    Ok(Turn {
-        tally: after,
-        goes_on: true,
-    })
+    Ok(Some(addition.tally))
 }
 
 // Nothing says that an input ends, so the turns are bounded by a number that none uses up.
@@ -160,11 +135,10 @@ fn main(rt: HostRuntime) -> io::Result<()> {
     let mut input = rt.stdin();
     let mut running = empty();
     for _ in 0..u64::MAX {
-        let next = after_record(&mut input, &rt, running)?;
-        if !next.goes_on {
+        let Some(after) = after_record(&mut input, &rt, running)? else {
             break;
-        }
-        running = next.tally;
+        };
+        running = after;
     }
     Ok(())
 }

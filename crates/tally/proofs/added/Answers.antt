@@ -4,29 +4,16 @@ use mathlib.Core.Path.{sym, ◌∙◌}
 use Rattle.tally.proofs.Cases.{not-given, no_room, taken_in}
 use Rattle.tally.proofs.added.Goals as goal
 
-pub is_given-requires : goal.is_given-requires
-is_given-requires c = tt
-
 pub returns-then-not-is_given : goal.returns-then-not-is_given
 returns-then-not-is_given c =
     let a = c.args in
     not-given a.tally a.verdict (sym c.is_given.ensures ∙ c.if-not-is_given.true)
-
-pub has_room-requires : goal.has_room-requires
-has_room-requires c = sym c.is_given.ensures ∙ c.if-not-is_given.false
 
 pub returns-then-not-has_room : goal.returns-then-not-has_room
 returns-then-not-has_room c =
     let a = c.args in
     no_room a.tally a.verdict (sym c.is_given.ensures ∙ c.if-not-is_given.false)
     (sym c.has_room.ensures ∙ c.if-not-has_room.true)
-
-pub counting-requires : goal.counting-requires
-counting-requires c =
-    record {
-      is_given = sym c.is_given.ensures ∙ c.if-not-is_given.false;
-      is_within = sym c.has_room.ensures ∙ c.if-not-has_room.false;
-    }
 
 pub returns : goal.returns
 returns c =

@@ -11,9 +11,6 @@ returns-then-tally-eq-MOST c =
     let t = c.args.tally in
     no-more-descriptions t c.args.verdict (held t _ c.well_formed.0) c.requires c.if-tally-eq-MOST.true
 
-pub figure_of-requires : goal.figure_of-requires
-figure_of-requires c = tt
-
 pub returns-then-figure_of : goal.returns-then-figure_of
 returns-then-figure_of c =
     let t = c.args.tally in

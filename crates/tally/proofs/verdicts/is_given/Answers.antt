@@ -3,14 +3,8 @@
 use Rattle.tally.proofs.Givens.{given-answer, given-refusal}
 use Rattle.tally.proofs.verdicts.is_given.Goals as goal
 
-pub is_answer-requires : goal.is_answer-requires
-is_answer-requires c = tt
-
 pub returns-then-verdict-eq-ANSWER : goal.returns-then-verdict-eq-ANSWER
 returns-then-verdict-eq-ANSWER c = given-answer c.args.verdict c.if-verdict-eq-ANSWER.true c.is_answer.ensures
-
-pub is_refusal-requires : goal.is_refusal-requires
-is_refusal-requires c = tt
 
 pub returns : goal.returns
 returns c = given-refusal c.args.verdict c.if-verdict-eq-ANSWER.false c.is_refusal.ensures

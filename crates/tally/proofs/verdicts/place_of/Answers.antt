@@ -4,6 +4,9 @@ use mathlib.Core.Path.{◌≡◌, refl, sym, ap}
 use mathlib.Core.Bool.{false}
 use Prim.Native.Nat.{ℕ}
 use borrow.Author.Tests.{ne_eqb}
+use lib.Dec.{ltb}
+use Rattle.std.specs.Prelude.{Some, None}
+use Rattle.meaning.specs.Rounds.{pick}
 use Rattle.tally.specs.Figures.{refusal_numbers}
 use Rattle.tally.specs.Additions.{among}
 use Rattle.tally.specs.Steps.{position, place_of}
@@ -54,4 +57,5 @@ not-among n r =
     ) refl
 
 pub returns-in_default : goal.returns-in_default
-returns-in_default c = sym (place-behind c.args.reason refusal_numbers (not-among c.args.reason c.in_default.in_default-own.rest))
+returns-in_default c =
+    sym (ap (λ (p : ℕ). pick (ltb p 7) (Some p) None) (place-behind c.args.reason refusal_numbers (not-among c.args.reason c.in_default.in_default-own.rest)))
