@@ -6,9 +6,6 @@ use Rattle.labels.proofs.Sizes.{size_few}
 use Rattle.areas.specs.Rows.{held}
 use Rattle.sums.proofs.largest.Goals as goal
 
-pub loop-i-init : goal.loop-i-init
-loop-i-init c = (c.labels_in-end.ensures, omega arith, λ k h. absurd (omega arith))
-
 pub loop-i-preserved : goal.loop-i-preserved
 loop-i-preserved c =
     let row = held c.args.row.now in
@@ -20,8 +17,3 @@ loop-i-preserved c =
       most.2,
       below_more _ _ (λ k h. omega (arith, few k h, most.0)) most.1,
     )
-
-pub returns : goal.returns
-returns c =
-    let x = c.loop-i.invariant in
-    (x.1, λ k h. x.2 k (omega (arith, c.loop-i-test.false, x.0)))

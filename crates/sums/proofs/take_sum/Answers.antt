@@ -11,6 +11,3 @@ returns-in_err-total c =
     let a = c.args in
     rw (handed_on c.from_residual.result c.from_residual.ensures.0, c.in_err-total.ensures.ok_part)
     (grown-stops (record { answer = refl; words = sym (laid-self 0 a.len (held a.out.now)) }) refl)
-
-pub returns : goal.returns
-returns c = rw c.in_ok-total.ensures.ok_part c.enter_once.ensures

@@ -25,9 +25,6 @@ returns-in-Block c =
     rw c.in-Block.is
     (c.then_some.ensures ∙ passes c.clear.result label c.requires.1 ∙ ap (λ t. pick_offer t (Some (packed (code label)))) c.clear.ensures)
 
-pub returns-in-Hide : goal.returns-in-Hide
-returns-in-Hide c = rw c.in-Hide.is (ap Some c.hide.ensures)
-
 pub returns-in-Rename : goal.returns-in-Rename
 returns-in-Rename c =
     let w = code c.args.label in

@@ -7,7 +7,3 @@ use Rattle.images.proofs.imaging.take.Goals as goal
 pub returns-in-None : goal.returns-in-None
 returns-in-None c =
     rw c.in-None.is (taken-nothing c.args.len (held c.args.out.now) c.requires)
-
-pub returns-in-Some : goal.returns-in-Some
-returns-in-Some c =
-    rw c.in-Some.is (enter-start _ c.at_start.ensures c.enter.ensures)

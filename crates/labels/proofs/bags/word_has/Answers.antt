@@ -2,16 +2,10 @@ use Rattle.std.proofs.Common.{refl, arith, ltb-false, ltb-true}
 use Rattle.labels.proofs.Words.{compared-end, compared-fail, compared-step, compared-skip}
 use Rattle.labels.proofs.bags.word_has.Goals as goal
 
-pub loop-names-init : goal.loop-names-init
-loop-names-init c = record { digits = 13; holds = omega arith; equal = refl }
-
 pub returns-then-b-a : goal.returns-then-b-a
 returns-then-b-a c =
     compared-fail c.loop-names.invariant c.loop-names-test.true c.if-names-ne0.true
     (ltb-true _ _ c.if-b-a.true-raw)
-
-pub loop-names-smaller : goal.loop-names-smaller
-loop-names-smaller c = let n = c.loop-names-test.true in omega arith
 
 pub loop-names-preserved : goal.loop-names-preserved
 loop-names-preserved c =

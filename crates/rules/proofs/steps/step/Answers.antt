@@ -18,10 +18,6 @@ use Rattle.rules.proofs.steps.step.Goals as goal
 use Rattle.rules.proofs.steps.step.Goals.{After-applies, After-contains}
 
 -- past the last rule
-none-there : (ls : List ℕ) (i rest : ℕ) → length ls ≤ i → false ≡ applies (exchange_at ls i) rest
-none-there ls i rest h = rw (get_or-eq_default ls 0 {n = i} h)
-
--- whether the rule applies
 fits : (c : After-applies) → let a = c.args in
     c.applies.result ≡ applies (exchange_at (held a.rules.now) a.i) (code a.state.rest)
 fits c =
@@ -52,11 +48,6 @@ by_itself s e f = rw (← e, ← f)
 
 leads-on : {t k : Bool} (s : State) → true ≡ t → false ≡ k → Some s ≡ pick_step t k s
 leads-on s e f = rw (← e, ← f)
-
-pub returns-then-labels_in-i : goal.returns-then-labels_in-i
-returns-then-labels_in-i c =
-    let a = c.args in
-    not-applied _ _ (none-there (held a.rules.now) a.i (code a.state.rest) (rw c.labels_in.ensures at c.if-labels_in-i.true))
 
 pub returns-then-contains : goal.returns-then-contains
 returns-then-contains c =

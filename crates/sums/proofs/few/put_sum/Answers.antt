@@ -11,6 +11,3 @@ returns-in_err-total c =
     let a = c.args in
     rw (handed_on c.from_residual.result c.from_residual.ensures.0, c.in_err-total.ensures.ok_part)
     (record { answer = refl; words = sym (laid-self 0 a.len (held a.out.now)) })
-
-pub returns : goal.returns
-returns c = rw c.in_ok-total.ensures.ok_part (enter-start _ c.at_start.ensures c.enter.ensures)

@@ -10,11 +10,6 @@ returns-then-is_kept c =
     passed_over c.slot-at.result (code c.args.label) c.requires (sym c.if-is_kept.true ∙ c.is_kept.ensures)
     c.reach.ensures
 
-pub returns-in_err-count : goal.returns-in_err-count
-returns-in_err-count c =
-    rw (handed_on c.from_residual.result c.from_residual.ensures.0)
-    (grown-stops (rw c.at_start.ensures at c.in_err-count.ensures) refl)
-
 pub returns : goal.returns
 returns c =
     rw c.write_label.ensures
