@@ -22,14 +22,6 @@ add_row-requires c = (
   λ fit i h. omega (arith, leb-true, c.size.ensures, c.requires.2 i h),
 )
 
-pub shape_of-seen-in_err-count : goal.shape_of-seen-in_err-count
-shape_of-seen-in_err-count c =
-    c.add_row.auto.seen ∙ c.loop-i.invariant.1
-
-pub shape_of-out-in_err-count : goal.shape_of-out-in_err-count
-shape_of-out-in_err-count c =
-    c.add_row.auto.out ∙ c.loop-i.invariant.2
-
 pub returns-in_err-count : goal.returns-in_err-count
 returns-in_err-count c =
     let by = c.args.b.now in
@@ -46,12 +38,6 @@ loop-i-preserved c =
       kept.seen ∙ c.loop-i.invariant.1,
       kept.out ∙ c.loop-i.invariant.2,
     )
-
-pub shape_of-seen : goal.shape_of-seen
-shape_of-seen c = c.loop-i.invariant.1
-
-pub shape_of-out : goal.shape_of-out
-shape_of-out c = c.loop-i.invariant.2
 
 pub returns : goal.returns
 returns c = row-end c.loop-i.invariant.0.walk c.loop-i-test.false

@@ -19,14 +19,6 @@ sum_of-result-requires c fit =
 pub take_sum-requires : goal.take_sum-requires
 take_sum-requires c = c.loop-i.invariant.0.kept
 
-pub shape_of-seen-in_err-count : goal.shape_of-seen-in_err-count
-shape_of-seen-in_err-count c =
-    c.take_sum.auto.seen ∙ c.loop-i.invariant.1
-
-pub shape_of-out-in_err-count : goal.shape_of-out-in_err-count
-shape_of-out-in_err-count c =
-    c.take_sum.auto.out ∙ c.loop-i.invariant.2
-
 pub returns-in_err-count : goal.returns-in_err-count
 returns-in_err-count c =
     let label = c.args.label in
@@ -43,12 +35,6 @@ loop-i-preserved c =
       kept.seen ∙ c.loop-i.invariant.1,
       kept.out ∙ c.loop-i.invariant.2,
     )
-
-pub shape_of-seen : goal.shape_of-seen
-shape_of-seen c = c.loop-i.invariant.1
-
-pub shape_of-out : goal.shape_of-out
-shape_of-out c = c.loop-i.invariant.2
 
 pub returns : goal.returns
 returns c = table-end c.loop-i.invariant.0 c.loop-i-test.false

@@ -18,6 +18,3 @@ overflow_add-moved c = omega arith
 pub loop-len-preserved : goal.loop-len-preserved
 loop-len-preserved c =
     (c.insert.auto.words ∙ c.loop-len.invariant.0, omega arith)
-
-pub shape_of-words : goal.shape_of-words
-shape_of-words c = c.loop-len.invariant.0

@@ -11,14 +11,6 @@ loop-i-init c = (closing-start c.requires c.labels_in-end.ensures, refl, refl)
 pub put-requires : goal.put-requires
 put-requires c = c.loop-i.invariant.0.walking
 
-pub shape_of-states-in_err-count : goal.shape_of-states-in_err-count
-shape_of-states-in_err-count c =
-    c.put.auto.states ∙ c.loop-i.invariant.1
-
-pub shape_of-out-in_err-count : goal.shape_of-out-in_err-count
-shape_of-out-in_err-count c =
-    c.put.auto.out ∙ c.loop-i.invariant.2
-
 pub returns-in_err-count : goal.returns-in_err-count
 returns-in_err-count c =
     rw (handed_on c.from_residual.result c.from_residual.ensures.0)
@@ -33,12 +25,6 @@ loop-i-preserved c =
       kept.states ∙ c.loop-i.invariant.1,
       kept.out ∙ c.loop-i.invariant.2,
     )
-
-pub shape_of-states : goal.shape_of-states
-shape_of-states c = c.loop-i.invariant.1
-
-pub shape_of-out : goal.shape_of-out
-shape_of-out c = c.loop-i.invariant.2
 
 pub returns : goal.returns
 returns c = row-end c.loop-i.invariant.0.walk c.loop-i-test.false

@@ -14,10 +14,6 @@ made-offer-requires c = (c.requires, lower-small _ c.read_label-label.ensures)
 pub take-requires : goal.take-requires
 take-requires c = (row-length c.loop-i.invariant.0).1
 
-pub shape_of-out-in_err-count : goal.shape_of-out-in_err-count
-shape_of-out-in_err-count c =
-    c.take.auto.out ∙ c.loop-i.invariant.1
-
 pub returns-in_err-count : goal.returns-in_err-count
 returns-in_err-count c =
     let a = c.args in
@@ -34,9 +30,6 @@ loop-i-preserved c =
           (taken_made a.way list c.read_label-label.result c.made-offer.ensures c.in_ok-count.ensures) refl,
       c.take.auto.out ∙ c.loop-i.invariant.1,
     )
-
-pub shape_of-out : goal.shape_of-out
-shape_of-out c = c.loop-i.invariant.1
 
 pub returns : goal.returns
 returns c = row-end c.loop-i.invariant.0 c.loop-i-test.false

@@ -8,10 +8,6 @@ use Rattle.sums.proofs.few.put_each.Goals as goal
 pub loop-i-init : goal.loop-i-init
 loop-i-init c = (row-start c.reach-count.ensures c.labels_in-end.ensures, refl)
 
-pub shape_of-out-in_err-count : goal.shape_of-out-in_err-count
-shape_of-out-in_err-count c =
-    c.put_row.auto.out ∙ c.loop-i.invariant.1
-
 pub returns-in_err-count : goal.returns-in_err-count
 returns-in_err-count c =
     let by = c.args.b.now in
@@ -26,9 +22,6 @@ loop-i-preserved c =
           c.in_ok-count.ensures refl,
       c.put_row.auto.out ∙ c.loop-i.invariant.1,
     )
-
-pub shape_of-out : goal.shape_of-out
-shape_of-out c = c.loop-i.invariant.1
 
 pub returns : goal.returns
 returns c = row-end c.loop-i.invariant.0 c.loop-i-test.false
