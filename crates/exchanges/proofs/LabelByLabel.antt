@@ -43,7 +43,8 @@ module _ {labels all ls before : List ℕ} {len end : ℕ} {states now : List �
   pub closing-holds : {n : ℕ} → r ≡ Ok n → length later ≡ length states → Closing labels all ls before len end later last n (i + 1)
   closing-holds e long = record {
     walk = row-holds x.walk (λ room w. steady-closed room all (exchanges_in ls) w) more read walked.grown e;
-    walking = walked_on (subst (λ (b : Result ℕ TooLarge). Walked (comes_of all (exchanges_in ls) (code label) (code label)) count all ls now last later b) e walked)
+    walking = walked_on
+        (subst (Walked (comes_of all (exchanges_in ls) (code label) (code label)) count all ls now last later) e walked)
         x.walking long;
   }
 

@@ -65,7 +65,8 @@ module _ {len : ℕ} {all ls before states : List ℕ} (place rest sum : ℕ) (x
       }
 
   -- the label is put in at the start of the words
-  module _ {target : Target} (start : target ≡ at_start len) {now : List ℕ} {r : Result ℕ TooLarge} (g : GrownAt target (λ room. enter room sum) before now r) where
+  module _ {target : Target} (start : target ≡ at_start len) {now : List ℕ} {r : Result ℕ TooLarge}
+      (g : GrownAt target (λ room. enter room sum) before now r) where
     first : Walked (sum ∷ []) len all ls before now states r
     first = walked_one sum x (subst (λ (t : Target). GrownAt t (λ room. enter room sum) before now r) start g)
 
@@ -74,11 +75,11 @@ module _ {len : ℕ} {all ls before states : List ℕ} (place rest sum : ℕ) (x
 
     pub put-large : {kept : List ℕ} → r ≡ Err (record {}) → Put now kept (Err (record {}))
     put-large e =
-        walked_as first_then (walked-stops (to_come all ls place rest sum) (subst (λ (b : Result ℕ TooLarge). Walked (sum ∷ []) len all ls before now states b) e first))
+        walked_as first_then (walked-stops (to_come all ls place rest sum) (subst (Walked (sum ∷ []) len all ls before now states) e first))
 
     module _ {n : ℕ} (e : r ≡ Ok n) where
       first-held : Walked (sum ∷ []) len all ls before now states (Ok n)
-      first-held = subst (λ (b : Result ℕ TooLarge). Walked (sum ∷ []) len all ls before now states b) e first
+      first-held = subst (Walked (sum ∷ []) len all ls before now states) e first
 
       pub put-walking : Walking n all ls now states
       put-walking = walked_on first-held x refl

@@ -5,7 +5,7 @@ pub mod Ascents
 -- the union
 pub mod Unions
 -- remaining: what is to come of a rest; remaining-all, remaining-stays; drawn-left, drawn-right, drawn-ended: the promise of `draw`;
--- draws: what is drawn from two rests is the union of both
+-- draws: what is drawn from two rests is the union of both; drawn-none, drawn-some: whether a label is drawn
 pub mod Draws
 -- laying-start, laying-step, laying-end, laying-full, laying-both: the loop of `union_of`
 pub mod UnionWalks

@@ -6,9 +6,9 @@ pub mod Search
 pub mod Openings
 -- entered-present, entered-full, entered-added: the three answers of `insert`
 pub mod Insertion
--- length-put_in, inserted-room; handed_on: what a `?` hands on; steady-..: no step shortens a set or takes it past the room; going-..: what is built and what is
--- to come are the goal; first-large, first-holds: the first of two steps; followed-..: what follows an insertion; next-holds,
--- next-large, built-holds, built-large; each-append: the labels of two lists one after the other
+-- length-put_in, inserted-room; handed_on: what a `?` hands on; steady-..: no step shortens a set or takes it past the room;
+-- going-..: what is built and what is to come are the goal; first-large, first-holds: the first of two steps; followed-..: what
+-- follows an insertion; next-holds, next-large, built-holds, built-large; each-append: the labels of two lists one after the other
 pub mod Steps
 -- part-stays: a part stays while a set behind it is built; walk-start, walk-holds, walk-large, walk-end: a loop over a part;
 -- walked-part: its promise

@@ -16,6 +16,12 @@ pub overflow_add-fits : goal.overflow_add-fits
 overflow_add-fits c =
     omega (arith, c.size.ensures, size_few (code c.read_label-label.result), c.requires.1)
 
+pub add_row-requires : goal.add_row-requires
+add_row-requires c = (
+  c.loop-i.invariant.0.kept,
+  λ fit i h. omega (arith, leb-true, c.size.ensures, c.requires.2 i h),
+)
+
 pub returns-in_err-count : goal.returns-in_err-count
 returns-in_err-count c =
     let by = c.args.b.now in

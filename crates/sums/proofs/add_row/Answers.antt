@@ -16,6 +16,9 @@ sum_of-result-requires c fit =
     let few = c.requires.1 fit c.loop-i.i (omega (arith, c.loop-i-test.true, c.loop-i.invariant.0.walk.whole)) in
     rw (code_of c.read_label.ensures) (omega (arith, few, size_few (code c.args.label)))
 
+pub take_sum-requires : goal.take_sum-requires
+take_sum-requires c = c.loop-i.invariant.0.kept
+
 pub returns-in_err-count : goal.returns-in_err-count
 returns-in_err-count c =
     let label = c.args.label in

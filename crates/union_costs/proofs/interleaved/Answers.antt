@@ -6,6 +6,3 @@ loop-i-init c = refl
 
 pub loop-i-preserved : goal.loop-i-preserved
 loop-i-preserved c = c.write_label-in-loop-i.auto.words ∙ c.write_label.auto.words ∙ c.loop-i.invariant
-
-pub shape_of-words : goal.shape_of-words
-shape_of-words c = c.loop-i.invariant

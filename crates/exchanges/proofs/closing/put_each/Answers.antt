@@ -8,6 +8,9 @@ use Rattle.exchanges.proofs.closing.put_each.Goals as goal
 pub loop-i-init : goal.loop-i-init
 loop-i-init c = (closing-start c.requires c.labels_in-end.ensures, refl, refl)
 
+pub put-requires : goal.put-requires
+put-requires c = c.loop-i.invariant.0.walking
+
 pub returns-in_err-count : goal.returns-in_err-count
 returns-in_err-count c =
     rw (handed_on c.from_residual.result c.from_residual.ensures.0)
