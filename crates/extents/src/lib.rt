@@ -14,7 +14,7 @@ use parts::{MOST_LABELS, Part, Target};
 fn number_at(row: &[usize], i: usize) -> usize
     ensures { result ≡ get_or row.now i 0 }
 {
-    if i < row.len() { row[i] } else { 0 }
+    row.get(i).copied().unwrap_or(0)
 }
 
 // Where the i-th of them stands; past the end it is empty.

@@ -37,13 +37,6 @@ module _ {A : Type 0} (x : A) where
   filled_next (suc n) (suc i) [] = let ih = filled_next n i [] in ap {B = List A} (λ l. x ∷ l) (rw (take-nil i) at ih)
   filled_next (suc n) (suc i) (y ∷ ys) = ap {B = List A} (λ l. y ∷ l) (filled_next n i ys)
 
-  -- the entries past its length are not looked at
-  pub filled-take : (n : ℕ) (ys : List A) → filled n x (take n ys) ≡ filled n x ys
-  unfolding filled
-  filled-take zero ys = refl
-  filled-take (suc n) [] = refl
-  filled-take (suc n) (y ∷ ys) = ap {B = List A} (λ l. y ∷ l) (filled-take n ys)
-
   -- what stands before, and the filler after it
   pub filled-past : (n k : ℕ) (ys zs : List A) → n ≡ length ys + k → filled n x (ys ++ zs) ≡ ys ++ filled k x zs
   unfolding filled

@@ -47,7 +47,7 @@ pub const LISTS_WORDS: usize = 6144;
 // The words of a rule: those of the label on its left, and the number of the name on its right.
 pub const RULE_WORDS: usize = 3;
 
-// What is asked for: all labels, or only those of a list.
+// What is asked for: all labels, or only those of a list. Not an `Option`: `None` would read as an order of nothing.
 #[derive(Clone, Copy)]
 pub enum Order {
     All,

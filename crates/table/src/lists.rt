@@ -50,7 +50,7 @@ fn sized_words_of(lists: &[u64], place: Place, size: usize) -> &[u64]
     list_part(lists, place.at, lists.len())
 }
 
-// A list of labels: two words each.
+// A list of labels: two words each. It and the next are one function by two names, so that no caller says how many words an entry has.
 pub fn label_words_of(lists: &[u64], place: Place) -> &[u64]
     ensures { result.now ≡ words_at lists.now place 2 }
 {
