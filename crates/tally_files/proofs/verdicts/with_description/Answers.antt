@@ -2,12 +2,6 @@
 -- Assumes nothing.
 use Rattle.tally_files.proofs.verdicts.with_description.Goals as goal
 
-pub verdict-requires : goal.verdict-requires
-verdict-requires c = tt
-
-pub added-requires : goal.added-requires
-added-requires c = tt
-
 pub returns : goal.returns
 returns c =
     rw c.verdict.ensures at c.added.ensures
