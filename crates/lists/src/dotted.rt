@@ -59,6 +59,7 @@ pub fn read_label(rest: &[u8], names: &[u64], starts: &[u8; 32]) -> Reading<Said
     let mut tally = empty_tally();
     let mut label = tau();
     let mut from = 0;
+    // A `loop`, since only a part that was read tells where the next one begins.
     loop {
         let part = read_part(&rest[from..], names, starts, rest.len());
         let Taken {

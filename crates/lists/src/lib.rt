@@ -80,6 +80,7 @@ fn read_list(kind: ListKind, rest: &[u8], names: &[u64], store: &mut [u64]) -> R
     let mut index: usize = 0;
     let mut from = 0;
     let mut starts = [0u8; 32];
+    // A `loop`, since only an entry that was read tells where the next one begins.
     loop {
         if entries == 3 {
             starts = starts_of(names);
