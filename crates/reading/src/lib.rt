@@ -17,7 +17,7 @@ pub const TEXT_BYTES: usize = 8192;
 
 // Why a text is not read: it is too long, or the table or the order's words are too few; the lists have no room for so many terms; or the
 // first bad line.
-#[derive(Clone, Copy)]
+#[derive(Clone, Copy, Debug, PartialEq, Eq)]
 pub enum ReadError {
     TooLong,
     NoRoom,
