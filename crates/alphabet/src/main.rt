@@ -46,7 +46,8 @@ fn main(rt: HostRuntime) -> io::Result<()> {
     let mut description = [0u8; MOST];
     let size = read_full(&mut input, &mut description);
     drop_rest(&mut input);
+    // So many bytes hold every text.
     let mut text = [0u8; 303104];
-    let length = alphabet_text(&description[..size], &mut text);
+    let length = alphabet_text(&description[..size], &mut text).unwrap();
     rt.write_all(&text[..length])
 }

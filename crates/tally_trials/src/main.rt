@@ -101,9 +101,9 @@ fn write_said(text: &mut [u8], answer: Answer) -> usize
     ensures { result ≤ 8 }
 {
     match answer {
-        Answer::TakenIn => copy(b"said=0\n", text),
-        Answer::Full => copy(b"said=17\n", text),
-        Answer::NoVerdict => copy(b"said=18\n", text),
+        Answer::TakenIn => copy(b"said=0\n", text).unwrap(),
+        Answer::Full => copy(b"said=17\n", text).unwrap(),
+        Answer::NoVerdict => copy(b"said=18\n", text).unwrap(),
     }
 }
 
@@ -113,7 +113,7 @@ fn write_addition(output: &impl Print, addition: Addition) -> io::Result<()> {
     let after = addition.tally;
     let mut text = [0u8; TEXT];
     let at = write_said(&mut text, answer);
-    let length = write_tally(&mut text[at..], after);
+    let length = write_tally(&mut text[at..], after).unwrap();
     let end = at + length;
     output.write_all(&text[..end])
 }
