@@ -31,7 +31,8 @@ fn main(rt: HostRuntime) -> io::Result<()> {
     let size = read_full(&mut input, &mut description);
     // What is left of a description that is too long is read and dropped, so that whoever writes it is not cut off.
     let _ = io::copy(&mut input, &mut io::sink());
+    // So many bytes hold every text.
     let mut text = [0u8; 303104];
-    let length = alphabet_text(&description[..size], &mut text);
+    let length = alphabet_text(&description[..size], &mut text).unwrap();
     rt.write_all(&text[..length])
 }

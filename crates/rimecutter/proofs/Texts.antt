@@ -12,6 +12,7 @@ use lib.ListN.{length, take, drop, length-map, length-take, length-append}
 use Rattle.printing.proofs.Lengths.{length-answer}
 use Rattle.printing.proofs.Refusals.{length-refusal}
 use lib.Seq.{take_at}
+use Rattle.std.specs.Prelude.{Option}
 use Rattle.meaning.specs.Bytes.{Text}
 use Rattle.meaning.specs.Labels.{Label, number, in_words}
 use Rattle.meaning.specs.Descriptions.{Description, Order, names}
@@ -34,7 +35,7 @@ use Rattle.areas.specs.Rows.{held}
 use Rattle.areas.proofs.Held.{length-held, held-append, held-in_words}
 use Rattle.grammar.specs.Text.{is_lower, is_digit}
 use Rattle.grammar.specs.Printed.{refused_text, answer_text}
-use Rattle.grammar.specs.Areas.{Printed}
+use Rattle.grammar.specs.Areas.{WrittenOrNone}
 use Rattle.label_texts.specs.Packed.{name_texts, counts_of}
 use Rattle.printing.proofs.Callers.{Bytes, Fits, same_answer}
 use Rattle.rimecutter.specs.Calls.{Call, refusing, answering, work_words, answer_words, too_short, of_outcome}
@@ -188,12 +189,12 @@ pub words-there : {labels count : ℕ} (words : List ℕ) → count ≡ length (
 words-there words counted h = omega (arith, length-held words)
 
 -- What a response's text is, by its answer.
-module _ {r : Response} {words area area' : List ℕ} {n : ℕ} where
-  pub written : (a : Answer) → r.answer ≡ a → Printed (said_text a r.names words) area area' n → TextWritten r words area area' n
-  written a e h = record { printed = λ all. subst (λ (x : Answer). Printed (said_text x r.names words) area area' n) (sym e) h }
+module _ {r : Response} {words area area' : List ℕ} {o : Option ℕ} where
+  pub written : (a : Answer) → r.answer ≡ a → WrittenOrNone (said_text a r.names words) area area' o → TextWritten r words area area' o
+  written a e h = record { printed = λ all. subst (λ (x : Answer). WrittenOrNone (said_text x r.names words) area area' o) (sym e) h }
 
   pub unwritten : {rounds : ℕ} (labels : ℕ) {count : ℕ} → r.answer ≡ Listed rounds labels → count ≡ length (held words) → count < labels
-      → TextWritten r words area area' n
+      → TextWritten r words area area' o
   unwritten labels e counted few = record { printed = λ all. absurd (omega (arith, ap listed_in e)) }
 
 -- An answer's labels are words of the answer area.
@@ -222,9 +223,9 @@ module _ (text : Text) (answer answer' : List ℕ) (r : Response) (h : Told (own
       refused-text (own_call text) (verdict_for (Bad f line)) (ap verdict_for (sym e) ∙ h.0) (λ z. omega (arith, faults-numbered (fault_of f.fault)))
   told_text TooLarge e = refused-text (own_call text) (verdict_for TooLarge) (ap verdict_for (sym e) ∙ h.0) (λ z. omega arith)
 
-  pub told-printed : {area area' : Text} {n : ℕ} → TextWritten r answer' area area' n → Printed (text_of (own_call text)) area area' n
-  told-printed {area} {area'} {n} w =
-      subst (λ (t : Text). Printed t area area' n) (sym (told_text r.answer refl)) (w.printed all_there)
+  pub told-printed : {area area' : Text} {o : Option ℕ} → TextWritten r answer' area area' o → WrittenOrNone (text_of (own_call text)) area area' o
+  told-printed {area} {area'} {o} w =
+      subst (λ (t : Text). WrittenOrNone t area area' o) (sym (told_text r.answer refl)) (w.printed all_there)
 
 -- 303,104 bytes hold every text.
 pub text-fits : (text : Text) → length (text_of (own_call text)) ≤ 303104
@@ -239,7 +240,7 @@ text-fits text = fits (own_call text) refl
         omega (arith, l.few, ap length l.says, length-answer names k (take (length ls) these), length-take (length ls) these)
 
 -- A text that is too long is refused with 1, without a line or a column.
-pub long-printed : (text : Text) {area area' : List ℕ} {n : ℕ} → 8192 < length text → Printed (refused_text 1 0 0) area area' n
-    → Printed (text_of (own_call text)) area area' n
+pub long-printed : (text : Text) {area area' : List ℕ} {o : Option ℕ} → 8192 < length text → WrittenOrNone (refused_text 1 0 0) area area' o
+    → WrittenOrNone (text_of (own_call text)) area area' o
 unfolding call
-long-printed text {area} {area'} {n} h p = subst (λ (r : Reading). Printed (text_of (of_reading r)) area area' n) (sym (→overlong text h)) p
+long-printed text {area} {area'} {o} h p = subst (λ (r : Reading). WrittenOrNone (text_of (of_reading r)) area area' o) (sym (→overlong text h)) p

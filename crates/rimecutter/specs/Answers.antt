@@ -1,6 +1,6 @@
 -- What the answer of a call says, and what a call leaves.
 -- Assumes nothing.
-use Rattle.std.specs.Prelude.{◌≡◌, List, map, ℕ, ◌≤◌, length, take}
+use Rattle.std.specs.Prelude.{◌≡◌, Option, List, map, ℕ, ◌≤◌, length, take}
 use Rattle.meaning.specs.Bytes.{Text}
 use Rattle.meaning.specs.Answers as A
 use Rattle.meaning.specs.Answers.{too_long, in_line, large, Verdict}
@@ -9,7 +9,7 @@ use Rattle.table.specs.Encoded.{filled, word_of}
 use Rattle.areas.specs.Areas.{zeroed}
 use Rattle.areas.specs.Rows.{held}
 use Rattle.grammar.specs.Printed.{refused_text, answer_text}
-use Rattle.grammar.specs.Areas.{Printed}
+use Rattle.grammar.specs.Areas.{WrittenOrNone}
 use Rattle.label_texts.specs.Packed.{name_texts, counts_of}
 use Rattle.reading.specs.declared.Answer as ReadAnswer
 use Rattle.reading.specs.declared.Answer.TheVariants as B
@@ -87,5 +87,5 @@ listed_in TooLong = 0
 listed_in (Bad f line) = 0
 listed_in TooLarge = 0
 
-pub record TextWritten (x : Response) (words area area' : List ℕ) (r : ℕ) : Type 0 where
-  pub printed : listed_in x.answer ≤ length (held words) → Printed (said_text x.answer x.names words) area area' r
+pub record TextWritten (x : Response) (words area area' : List ℕ) (r : Option ℕ) : Type 0 where
+  pub printed : listed_in x.answer ≤ length (held words) → WrittenOrNone (said_text x.answer x.names words) area area' r

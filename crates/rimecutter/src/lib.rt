@@ -4,7 +4,7 @@
 mod calls;
 
 ghost use Rattle.std.specs.Prelude.{length};
-ghost use Rattle.grammar.specs.Areas.{Printed};
+ghost use Rattle.grammar.specs.Areas.{WrittenOrNone};
 ghost use Rattle.rimecutter.specs.Calls.{call, own_call, text_of, work_words, answer_words};
 ghost use Rattle.rimecutter.specs.Answers.{Settled, TextWritten};
 
@@ -49,7 +49,7 @@ const NO_LINE: usize = 0;
 const NO_COLUMN: usize = 0;
 
 // The text of a response, whose labels are the first words of an area.
-fn write_response(text: &mut [u8], response: Response, answer: &[u64]) -> usize
+fn write_response(text: &mut [u8], response: Response, answer: &[u64]) -> Option<usize>
     ensures { TextWritten response answer.now text.old text.new result }
 {
     let said = response.answer;
@@ -57,7 +57,7 @@ fn write_response(text: &mut [u8], response: Response, answer: &[u64]) -> usize
     match said {
         Answer::Listed(rounds, labels) => {
             if labels_in(answer) < labels {
-                return 0;
+                return None;
             }
             write_answer(text, names, rounds, &answer[..LABEL_WORDS * labels])
         }
@@ -71,8 +71,8 @@ fn write_response(text: &mut [u8], response: Response, answer: &[u64]) -> usize
 }
 
 // The text of the answer, worked out in areas that are always enough.
-fn text_full(description: &[u8], text: &mut [u8]) -> usize
-    ensures { Printed (text_of (own_call description.now)) text.old text.new result }
+fn text_full(description: &[u8], text: &mut [u8]) -> Option<usize>
+    ensures { WrittenOrNone (text_of (own_call description.now)) text.old text.new result }
 {
     let mut answer = [0u64; ANSWER_WORDS];
     let response = respond_own(description, &mut answer);
@@ -80,8 +80,8 @@ fn text_full(description: &[u8], text: &mut [u8]) -> usize
 }
 
 // The same, tried in small areas first. A function of its own makes the full ones, so that they are made only where they are needed.
-fn text_few(description: &[u8], text: &mut [u8]) -> usize
-    ensures { Printed (text_of (own_call description.now)) text.old text.new result }
+fn text_few(description: &[u8], text: &mut [u8]) -> Option<usize>
+    ensures { WrittenOrNone (text_of (own_call description.now)) text.old text.new result }
 {
     let mut answer = [0u64; FEW_WORDS];
     let response = respond_few(description, &mut answer);
@@ -95,10 +95,10 @@ fn text_few(description: &[u8], text: &mut [u8]) -> usize
 // A text of more bytes mostly has more terms than small areas have room for.
 const MANY_BYTES: usize = 1024;
 
-// The text of the answer, with areas of the call's own: whole, or not at all where it does not fit. As two ways lead to the full areas,
+// The text of the answer, with areas of the call's own: whole, or None where it does not fit. As two ways lead to the full areas,
 // the compiler keeps them in a frame of their own: in the frame of this function their pages would be touched by every call.
-pub fn alphabet_text(description: &[u8], text: &mut [u8]) -> usize
-    ensures { Printed (text_of (call description.now work_words answer_words)) text.old text.new result }
+pub fn alphabet_text(description: &[u8], text: &mut [u8]) -> Option<usize>
+    ensures { WrittenOrNone (text_of (call description.now work_words answer_words)) text.old text.new result }
 {
     if TEXT_BYTES < description.len() {
         return write_refusal(text, TOO_LONG, NO_LINE, NO_COLUMN);

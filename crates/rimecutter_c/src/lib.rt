@@ -15,7 +15,8 @@ use rimecutter::alphabet_text;
 pub extern "C" fn rimecutter_alphabet(description: &[u8], text: &mut [u8]) -> usize
     ensures { Printed (text_of (call description.now work_words answer_words)) text.old text.new result }
 {
-    alphabet_text(description, text)
+    // The C interface has no None, and no text is empty.
+    alphabet_text(description, text).unwrap_or(0)
 }
 
 // The number of what a conversion came to, by which C knows it.

@@ -187,6 +187,6 @@ fn tally_of_files(rt: &(impl Files + Env + AllocGlobal), told: &impl Print) -> T
 
 fn main(rt: HostRuntime) -> io::Result<()> {
     let mut text = [0u8; LONGEST_TALLY];
-    let length = write_tally(&mut text, tally_of_files(&rt, &rt.stderr()));
+    let length = write_tally(&mut text, tally_of_files(&rt, &rt.stderr())).unwrap();
     rt.write_all(&text[..length])
 }

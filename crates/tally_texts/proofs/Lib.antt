@@ -5,5 +5,5 @@ pub mod TextCases
 pub mod Behind
 -- sum-size, reason-joined, next-reason, no-numbers, no-figures: the refusals' figures and lines one by one
 pub mod Reasons
--- length-tally, printed-within: for callers, how long a text can be
+-- length-tally, fits-is_some: for callers, how long a text can be
 pub mod Lengths

@@ -87,9 +87,9 @@ fn write_said(text: &mut [u8], answer: Result<(), LeftOut>) -> usize
     ensures { result ≤ 8 }
 {
     match answer {
-        Ok(()) => copy(b"said=0\n", text),
-        Err(LeftOut::Full) => copy(b"said=17\n", text),
-        Err(LeftOut::NoVerdict) => copy(b"said=18\n", text),
+        Ok(()) => copy(b"said=0\n", text).unwrap(),
+        Err(LeftOut::Full) => copy(b"said=17\n", text).unwrap(),
+        Err(LeftOut::NoVerdict) => copy(b"said=18\n", text).unwrap(),
     }
 }
 
@@ -99,7 +99,7 @@ fn write_addition(output: &impl Print, addition: Addition) -> io::Result<()> {
     let after = addition.tally;
     let mut text = [0u8; TEXT];
     let at = write_said(&mut text, answer);
-    let length = write_tally(&mut text[at..], after);
+    let length = write_tally(&mut text[at..], after).unwrap();
     let end = at + length;
     output.write_all(&text[..end])
 }
