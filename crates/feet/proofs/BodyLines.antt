@@ -17,7 +17,7 @@ use Rattle.keyed.proofs.Walks.{gone-to, gone-within, gone-bad}
 use Rattle.keyed.proofs.Sequences.{lines-halt}
 use Rattle.sections.specs.Sections.{Within}
 use Rattle.feet.specs.Feet.{BodiesRead}
-use Rattle.sections.proofs.Lent.{rest-within, goes_on, stops-there}
+use Rattle.sections.proofs.Lent.{goes_on, stops-there}
 use Rattle.sections.proofs.LaidLines.{SoFar, so-far-start, so-far-within, so-far-long, so-far-step, so-far-end, all-counted}
 use Rattle.feet.proofs.BodyTests.{on_body, body-line}
 
@@ -46,9 +46,6 @@ module _ {text : Text} {line equations terms : ℕ} {before table : List ℕ} {f
         body : walk (one_line (take_number (ascii "equation=") (between 0 terms) range) (line + i) (rest_at text from)) (on_body s.read)
             ≡ one_line (take_body terms s.read) (line + i) (rest_at text from)
         body = body-line terms s.read (line + i) (rest_at text from)
-
-        pub bodies-within : {t : Taken ℕ} → r ≡ Ok t → from + t.bytes ≤ length text
-        bodies-within e = rest-within text from s.lines.onto.within (gone-within w.walks e)
 
         pub bodies-step : {t : Taken ℕ} → r ≡ Ok t → BodiesSoFar text line equations terms before (set table (28 + i) t.value) (from + t.bytes) (i + 1)
         bodies-step {t} e =

@@ -28,11 +28,6 @@ on_count words e t line s = reached (record { words = words; equations = e; term
 -- The counts.
 module _ (table : List ℕ) (named : ℕ) {text : Text} {r : Result (Taken ℕ) BadLine}
     (w : NumberTo text (2 + named) 17 r (one_line (take_number (ascii "equations=") (between 0 17) form) (2 + named) text)) where
-  pub counts-bad : {b : BadLine} → r ≡ Err b → CountsRead text named table table (Err b)
-  counts-bad e =
-      let q = number-bad (ascii "equations=") 0 17 equations_in_range equations-test form (2 + named) text w e in
-      record { tabled = within_same 140 table; came = λ words. stops-there (λ e line s. head_terms words e line s) q }
-
   module _ {t : Taken ℕ} (e : r ≡ Ok t) where
     pub counts-within : t.bytes ≤ length text
     counts-within = gone-within w.walks e

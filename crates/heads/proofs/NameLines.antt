@@ -19,7 +19,6 @@ use Rattle.keyed.proofs.Walks.{gone-to, gone-within, gone-bad}
 use Rattle.keyed.proofs.Sequences.{lines-halt}
 use Rattle.heads.specs.Heads.{Packed, NamesRead}
 use Rattle.sections.proofs.Laid.{laid-held}
-use Rattle.sections.proofs.Lent.{rest-within}
 use Rattle.sections.proofs.LaidLines.{SoFar, so-far-start, so-far-within, so-far-long, so-far-step, so-far-end, all-counted}
 
 pub record NamesSoFar (text : Text) (named : ℕ) (before table : List ℕ) (from i : ℕ) : Type 0 where
@@ -56,9 +55,6 @@ module _ {text : Text} {named : ℕ} {before table : List ℕ} {from i : ℕ} (s
     stepped : Walks (λ w. s.read ++ (name_of 8 w ∷ [])) (rest_at text from) (suc (2 + i)) r
         (one_line (take_name s.read) (2 + i) (rest_at text from))
     stepped = rw lent-names at w
-
-    pub names-within : {t : Taken ℕ} → r ≡ Ok t → from + t.bytes ≤ length text
-    names-within e = rest-within text from s.lines.onto.within (gone-within w e)
 
     pub names-step : {t : Taken ℕ} → r ≡ Ok t → t.value < 2 ^ 64 → NamesSoFar text named before (set table (4 + i) t.value) (from + t.bytes) (i + 1)
     names-step {t} e h =

@@ -25,9 +25,8 @@ use Rattle.sections.specs.Sections.{Comes, Section, Within}
 use Rattle.termlines.specs.Terms.{TermLeft, TermRead, TermsRead, TermsRefused}
 use Rattle.sections.proofs.Laid.{part-put-back, drop-put-back, lists-more}
 use Rattle.sections.proofs.Places.{names-after-terms}
-use Rattle.sections.proofs.Lent.{rest-within}
 use Rattle.sections.proofs.Given.{bad-first}
-use Rattle.sections.proofs.LaidLines.{within_same, within_both, SoFar, so-far-start, so-far-within, so-far-long, so-far-step, so-far-end, all-counted}
+use Rattle.sections.proofs.LaidLines.{within_same, within_both, SoFar, so-far-start, so-far-within, so-far-step, so-far-end, all-counted}
 
 -- The words of a term's list, as they are lent, and the lists with those put back.
 abbrev size : ℕ → ℕ
@@ -63,9 +62,6 @@ even ts = length-map ts slot_of
 
 module _ {text : Text} {line equations count : ℕ} {before store table lists : List ℕ} {from n : ℕ}
     (s : TermsSoFar text line equations count before store table lists from n) where
-  pub terms-long : length table ≡ length before
-  terms-long = so-far-long s.lines even
-
   -- the names stand before the terms
   same_names : names_in table ≡ names_in before
   same_names = ap names_in s.lines.laid ∙ names-after-terms s.read before
@@ -106,9 +102,6 @@ module _ {text : Text} {line equations count : ℕ} {before store table lists : 
         one : Section (rest_at text from) (one_line (take_term (words_of before) equations s.read) (line + n) (rest_at text from)) (λ all. suc (line + n))
             (TermLeft s.read (own n lists) after u.value) u.bytes
         one = rw e at said
-
-        pub terms-within : from + u.bytes ≤ length text
-        terms-within = rest-within text from s.lines.onto.within one.within
 
         pub terms-step : TermsSoFar text line equations count before store (set table (44 + n) u.value) (with_own n after lists) (from + u.bytes) (n + 1)
         terms-step =
