@@ -3,7 +3,7 @@
 use mathlib.Core.Path.{◌≡◌, refl, sym, ap, subst, ◌∙◌}
 use mathlib.Core.Bool.{Bool, true, false}
 use mathlib.Core.List.{List, map, ◌++◌}
-use Prim.Native.Nat.{ℕ, ◌+◌, ◌≤◌, ◌<◌, max}
+use Prim.Native.Nat.{ℕ, ◌+◌, ◌≤◌, ◌<◌, ◌^◌, max}
 use native.Mathlib.Omega.{arith}
 use native.Mathlib.Numerals.{add-one}
 use lib.Dec.{T, ltb, lit<}
@@ -16,8 +16,8 @@ use Rattle.grammar.specs.Text.{Past, past, stuck, literal, word}
 use Rattle.grammar.specs.Forms.{Line, Kind, kinds, farther, of_kind}
 use Rattle.grammar.proofs.Onwards.{literal→}
 use Rattle.grammar.proofs.Atoms.{writes-word}
-use Rattle.words.specs.Steps.{Reading, step_place, shifted_step, Stands}
-use Rattle.words.proofs.Steps.{rest_at, rest-drop, shifted, become, text_in}
+use Rattle.words.specs.Steps.{Reading, shifted_step, Stands}
+use Rattle.words.proofs.Steps.{rest_at, rest-drop, as_told, shifted, become, text_in}
 use Rattle.tails.specs.Lines.{LineRead}
 use Rattle.tails.specs.Tails.{tail_of, TailRead}
 use Rattle.ranges.specs.declared.Bounds.{Bounds}
@@ -110,12 +110,6 @@ module _ (text : Text) (at : ℕ) where
 pub numbered : {w : ℕ} (k : ℕ) → T (ltb k 17) → w ≡ get_or packed_kinds k 0 → (k < 17) × (name_of 8 w ≡ kind_word k)
 numbered k t e = let h = lit< t in (h, ap (name_of 8) e ∙ kind-word k h)
 
--- the place where a line is read or stuck lies in the text
-place-within : (words : List Text) (bounds : Bounds) (text : Text) (due : Past Line) (before after : List ℕ) (r : Reading TermLine)
-    → LineRead words bounds text due before after r → step_place r ≤ length text
-place-within words bounds text due before after (Ok t) l = l.within
-place-within words bounds text due before after (Err p) s = s.within
-
 -- What follows the word of the kind that was found, with few enough names, is what the line says.
 module _ {text : Text} {at k next : ℕ} (found : KindFound text at k next) where
   abbrev tail : Text
@@ -129,21 +123,20 @@ module _ {text : Text} {at k next : ℕ} (found : KindFound text at k next) wher
       become (sym (ap (of_kind kinds) found.begins ∙ kind-decides k found.known tail shorter)) (shifted answer found.within s)
 
   module _ (names : List ℕ) (bounds : Bounds) (before after : List ℕ) where
-    line-decided : (r : Reading TermLine) → LineRead (map (name_of 8) names) bounds tail (rest_of k tail) before after r
+    line-decided : length text < 2 ^ 64 → (r : Reading TermLine) → LineRead (map (name_of 8) names) bounds tail (rest_of k tail) before after r
         → LineRead (map (name_of 8) names) bounds text (of_kind kinds (drop at text)) before after (shifted_step next r)
-    line-decided (Ok t) l =
+    line-decided w (Ok t) l =
         let s = decided (past l.line) (λ t. refl) {p = t.bytes} (record { says = l.says; within = l.within }) in
-        record { line = l.line; says = s.says; within = s.within; term = l.term; faults = l.faults; stored = l.stored }
-    line-decided (Err p) s = decided stuck (λ t. refl) s
+        rw (as_told text w s.within)
+        (record { line = l.line; says = s.says; within = s.within; term = l.term; faults = l.faults; stored = l.stored })
+    line-decided w (Err p) s = let d = decided stuck (λ t. refl) {p = p.after} s in rw (as_told text w d.within) d
 
     module _ (r : Reading TermLine) (t : TailRead names bounds k (rest_at text next) before after r) where
       there : TailRead names bounds k tail before after r
       there = subst (λ l. TailRead names bounds k l before after r) (rest-drop text next found.within) t
 
-      pub line-there : length names ≤ 24 → LineRead (map (name_of 8) names) bounds text (of_kind kinds (drop at text)) before after (shifted_step next r)
-      line-there few =
-          line-decided r
+      pub line-there : length names ≤ 24 → length text < 2 ^ 64
+          → LineRead (map (name_of 8) names) bounds text (of_kind kinds (drop at text)) before after (shifted_step next r)
+      line-there few w =
+          line-decided w r
           (line-become (map (name_of 8) names) bounds tail before after r (sym (room names few (tail_of k tail) tail) ∙ kind-rest k found.known tail) there)
-
-      pub tail_within : next + step_place r ≤ length text
-      tail_within = omega (arith, place-within (map (name_of 8) names) bounds tail _ before after r there, length-drop next text, found.within)

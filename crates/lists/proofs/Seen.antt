@@ -2,7 +2,7 @@
 -- Assumes nothing.
 use mathlib.Core.Path.{◌≡◌, refl, sym, ap, ◌∙◌}
 use mathlib.Core.List.{List, [], ◌∷◌, map}
-use Prim.Native.Nat.{ℕ, ◌+◌, ◌≤◌, min}
+use Prim.Native.Nat.{ℕ, ◌^◌, ◌≤◌, ◌<◌, min}
 use mathlib.Core.Bool.{Bool, true, false}
 use native.Mathlib.Omega.{arith}
 use borrow.Author.Tests.{leb-true, leb-false, le-leb, lt-leb}
@@ -15,19 +15,16 @@ use Rattle.grammar.specs.Text.{Past, past, stuck, onward, Placed, placed, litera
 use Rattle.grammar.specs.Forms.{Parts, part, label, pair, rule, colon, greater}
 use Rattle.grammar.specs.Faults.{Found, worse, unless, name_number, name_fault, actions}
 use Rattle.lists.specs.Tallies.{Said}
-use Rattle.words.specs.Steps.{Reading, step_place, Steps, shifted_step}
-use Rattle.words.proofs.Steps.{rest_at, moved, went_within}
+use Rattle.words.specs.Steps.{Reading, Steps, shifted_step}
+use Rattle.words.proofs.Steps.{rest_at, moved}
 use Rattle.lists.specs.Sides.{with_right, right_side, two_or_more}
 use Rattle.lists.specs.declared.Said as C
 use Rattle.lists.specs.Entries.{said_of, Says, seen, part_said, name_entry, label_entry, pair_entry, rule_entry}
 
--- A step of an entry that begins at a place of the line: it lies in the line, and is one of it.
+-- A step of an entry that begins at a place of the line is one of the line.
 module _ (form : Text → Past Said) (line : Text) (at : ℕ) {r : Reading C.Said} (h : at ≤ length line)
     (s : Says (rest_at line at) r (form (rest_at line at))) where
-  pub said_within : at + step_place r ≤ length line
-  said_within = went_within (λ t. said_of (length t)) form line at h s
-
-  pub said_moved : {q : Reading C.Said} → q ≡ shifted_step at r → Steps (said_of (length (drop at line))) line q (form (drop at line))
+  pub said_moved : {q : Reading C.Said} → length line < 2 ^ 64 → q ≡ shifted_step at r → Steps (said_of (length (drop at line))) line q (form (drop at line))
   said_moved = moved (λ t. said_of (length t)) form line at h s
 
 -- A part, a sign and a second part, the last two read as one.

@@ -1,5 +1,5 @@
 -- The laws that the proofs of this crate's functions cite; each file after those that it cites.
--- labels-within, labels-stuck, labels-on, labels-taken, all-within, all-taken, order-stuck, order-passed, order-become: the form of the order's line
+-- labels-stuck, labels-on, labels-taken, all-within, all-taken, order-stuck, order-passed, order-become: the form of the order's line
 pub mod OrderForms
 -- order-formless, order-faulty, order-came: what `take_order` gives, by the line's form and its fault
 pub mod OrderLines

@@ -18,9 +18,9 @@ use Rattle.words.proofs.Rests.{sign-within}
 use Rattle.labels.specs.Packing.{code}
 use Rattle.words.specs.declared.Taken.{Taken}
 use Rattle.words.specs.declared.Stuck.{Stuck}
-use Rattle.words.specs.Steps.{Reading, step_place, Stands, Steps, shifted_step}
+use Rattle.words.specs.Steps.{Reading, Stands, Steps, shifted_step}
 use Rattle.words.proofs.Several.{labels-several}
-use Rattle.words.proofs.Steps.{stops, goes, no_sign, past-sign, arrived, rest_at, rest-drop, moved, went_within, steps-to, steps-stuck, back-stuck, back-past}
+use Rattle.words.proofs.Steps.{stops, goes, no_sign, past-sign, arrived, rest_at, rest-drop, moved, steps-to, steps-stuck, back-stuck, back-past}
 use Rattle.lists.specs.Tallies.{Said}
 use Rattle.lists.specs.Entries.{said_of, label_entry}
 use Rattle.lists.specs.declared.Said as C
@@ -58,19 +58,16 @@ module _ (words : List Text) (text : Text) (at : ℕ) (i : at ≤ length text) {
   lent : Steps (say-of (rest_at text at)) (rest_at text at) r (list-of (rest_at text at))
   lent = rw (rest-drop text at i) h.read
 
-  pub labels-within : at + step_place r ≤ length text
-  labels-within = went_within say-of list-of text at i lent
-
-  module _ {q : Reading C.Said} (m : q ≡ shifted_step at r) where
+  module _ {q : Reading C.Said} (wide : length text < 2 ^ 64) (m : q ≡ shifted_step at r) where
     there : Steps (said_of (length (drop at text))) text q (onward (whole_list words Labels (drop at text)) (λ es p. past (total es) p))
-    there = moved say-of list-of text at i lent m
+    there = moved say-of list-of text at i lent wide m
 
     pub labels-stuck : {p : Stuck} → q ≡ Err p → Stands text p.after (stuck (drop p.after text)) (only_these (drop at text))
     labels-stuck e =
         let s = steps-stuck there e in
         stops after-labels (record { says = back-stuck say (label_list (drop at text)) (s.says ∙ flat); within = s.within })
 
-  module _ {t : Taken C.Said} (m : Ok t ≡ shifted_step at r) where
+  module _ {t : Taken C.Said} (wide : length text < 2 ^ 64) (m : Ok t ≡ shifted_step at r) where
     abbrev e : C.Said
     e = t.value
 
@@ -81,7 +78,7 @@ module _ (words : List Text) (text : Text) (at : ℕ) (i : at ≤ length text) {
         × (said_of (length (drop at text)) e ≡ say ls)
         × (after ≡ overlaid (list_words Labels (map (label_entry words) ls)) before)
     went =
-        let s = steps-to (there m) refl in
+        let s = steps-to (there wide m) refl in
         let b = back-past say (label_list (drop at text)) (s.says ∙ flat) in
         let es = ap (λ d. onward d (λ ls o. past (map (label_entry words) ls) o)) b.1 ∙ sym (labels-too words (drop at text)) in
         (b.0, record { says = b.1; within = s.within }, b.2, h.stored (map (label_entry words) b.0) _ es)
@@ -93,7 +90,7 @@ module _ (words : List Text) (text : Text) (at : ℕ) (i : at ≤ length text) {
     pub labels-taken : {entries : ℕ} → length text + 1 < 2 ^ 64 → entries ≡ code e.first % 2 ^ 64 → starts lf (drop n text) ≡ true
         → OrderTaken words text (only_these (drop at text)) before after (Only (record { at = 0; entries = entries })) e.fault (n + 1)
     unfolding order_fault
-    labels-taken {entries} wide q f =
+    labels-taken {entries} wider q f =
         let l = went in
         let w = sign-within lf text (n) f in
         let end = past-sign lf text n (λ _ p. past (only l.0) p) f (arrived {at = n + 1} (only l.0) (omega arith)) in
@@ -149,6 +146,6 @@ module _ (text : Text) where
   unfolding order_line
   order-passed {s} t e f = ap (λ u. order_after u s) f ∙ after-key (is_rest (ascii "all") s) s ∙ ap (λ d. onward d after_key) e
 
-pub order-become : (words : List Text) (text : Text) (due : Past OrderLine) (before after : List ℕ) (r : Reading OrderSaid) {other : Past OrderLine} → due ≡ other
-    → OrderRead words text due before after r → OrderRead words text other before after r
+pub order-become : (words : List Text) (text : Text) (due : Past OrderLine) (before after : List ℕ) (r : Reading OrderSaid) {other : Past OrderLine}
+    → due ≡ other → OrderRead words text due before after r → OrderRead words text other before after r
 order-become words text due before after r e h = subst (λ d. OrderRead words text d before after r) e h

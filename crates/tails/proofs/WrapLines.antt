@@ -126,16 +126,16 @@ module _ (w : WrapKind) (words : List Text) (line : Text) (at : ℕ) (i : at ≤
       ap (λ d. onward d (λ es p. past (whole es) p)) (listed-entries w words (drop at line))
       ∙ carried (entries w words) (λ es p. past (whole es) p) (contents w (drop at line))
 
-  pub wrap-stuck : {p : Stuck} → Err p ≡ shifted_step at r → stuck (drop p.after line) ≡ contents w (drop at line)
-  wrap-stuck e =
-      back-stuck (λ c. whole (entries w words c)) (contents w (drop at line)) ((steps-shifted line at i h.read e).stands.says ∙ flat)
+  pub wrap-stuck : {p : Stuck} → length line < 2 ^ 64 → Err p ≡ shifted_step at r → stuck (drop p.after line) ≡ contents w (drop at line)
+  wrap-stuck wide e =
+      back-stuck (λ c. whole (entries w words c)) (contents w (drop at line)) ((steps-shifted line at i h.read wide e).stands.says ∙ flat)
 
-  pub wrap-went : {t : Taken C.Said} → Ok t ≡ shifted_step at r
+  pub wrap-went : {t : Taken C.Said} → length line < 2 ^ 64 → Ok t ≡ shifted_step at r
       → (c : ContentsOf w) × (past c (drop t.bytes line) ≡ contents w (drop at line))
       × (said_of (length (drop at line)) t.value ≡ whole (entries w words c))
       × (after ≡ overlaid (list_words (list_kind w) (entries w words c)) before)
-  wrap-went e =
-      let s = steps-shifted line at i h.read e in
+  wrap-went wide e =
+      let s = steps-shifted line at i h.read wide e in
       let b = back-past (λ c. whole (entries w words c)) (contents w (drop at line)) (s.stands.says ∙ flat) in
       let all = ap (λ d. onward d (λ c o. past (entries w words c) o)) b.1 ∙ sym (listed-entries w words (drop at line)) in
       (b.0, b.1, b.2, h.stored (entries w words b.0) _ all)
@@ -173,7 +173,7 @@ module _ (w : WrapKind) (words : List Text) (line : Text) where
 
     module _ (f : starts space (drop at line) ≡ true) {kind : ListKind} (j : kind ≡ list_kind w) (i : at + 1 ≤ length line)
         {before after : List ℕ} {l : Reading C.Said}
-        (h : ListRead kind (drop (at + 1) line) (whole_list words kind (drop (at + 1) line)) before after l) where
+        (h : ListRead kind (drop (at + 1) line) (whole_list words kind (drop (at + 1) line)) before after l) (wide : length line < 2 ^ 64) where
       list : ListRead (list_kind w) (drop (at + 1) line) (whole_list words (list_kind w) (drop (at + 1) line)) before after l
       list = rw j at h
 
@@ -183,27 +183,28 @@ module _ (w : WrapKind) (words : List Text) (line : Text) where
 
       pub no-list : {p : Stuck} → Err p ≡ shifted_step (at + 1) l → Stands line p.after (stuck (drop p.after line)) Due
       no-list e =
-          beyond (ap (λ d. onward d (after_list w t)) (wrap-stuck w words line (at + 1) i list e)) (steps-shifted line (at + 1) i h.read e).stands.within
+          beyond (ap (λ d. onward d (after_list w t)) (wrap-stuck w words line (at + 1) i list wide e))
+          (steps-shifted line (at + 1) i h.read wide e).stands.within
 
       module _ {told : Taken C.Said} (g : Ok told ≡ shifted_step (at + 1) l) where
         abbrev end : ContentsOf w → Unit {0} → Text → Past Line
         end c u o = past (wraps (wrap_listed w c) t) o
 
         inside : told.bytes ≤ length line
-        inside = (steps-shifted line (at + 1) i h.read g).stands.within
+        inside = (steps-shifted line (at + 1) i h.read wide g).stands.within
 
         pub no_end : starts lf (drop told.bytes line) ≡ false → Stands line told.bytes (stuck (drop told.bytes line)) Due
         no_end k =
-            let c = wrap-went w words line (at + 1) i list g in
+            let c = wrap-went w words line (at + 1) i list wide g in
             beyond (ap (λ d. onward d (end c.0)) (ended-not line told.bytes k) ∙ ap (λ d. onward d (after_list w t)) c.1) inside
 
-        pub wrap-line : (bounds : Bounds) {o : Operator} {fault : Option FaultAt} → length line < 2 ^ 64 → starts lf (drop told.bytes line) ≡ true
+        pub wrap-line : (bounds : Bounds) {o : Operator} {fault : Option FaultAt} → starts lf (drop told.bytes line) ≡ true
             → o ≡ wrapped_of w (record { at = bounds.term; entries = code told.value.first % 2 ^ 64 })
             → found_of fault ≡ worse (found_of told.value.fault) (number_fault bounds.term n (length line - 1))
             → LineTerm words bounds line Due before after (Wrap o n) fault (told.bytes + 1)
         unfolding words_of_fault term_fault
-        wrap-line bounds wide k o e =
-            let c = wrap-went w words line (at + 1) i list g in
+        wrap-line bounds k o e =
+            let c = wrap-went w words line (at + 1) i list wide g in
             let few = (listed-few w words (drop (at + 1) line)).holds c.0 _ (sym c.1) in
             let all : code told.value.first % 2 ^ 64 ≡ length (entries w words c.0) =
             omega (arith, ap (λ d. d.first) c.2, length-drop (at + 1) line) in

@@ -3,7 +3,7 @@
 pub mod Rests
 -- word-none, word-other, Worded, name-back, take-snoc: a name, read and packed
 pub mod WordReading
--- stops, goes, shifted, steps-to, steps-stuck, moved, went-on, stays-on, back-past: steps one after the other, and of the rest of a line
+-- stops, goes, as-told, shifted, steps-to, steps-stuck, moved, went-on, stays-on, back-past: steps one after the other, and of the rest of a line
 pub mod Steps
 -- word-name, number-here, number-later, rest-literal, packed-split: names looked up by their words
 pub mod Looked

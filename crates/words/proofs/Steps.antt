@@ -4,7 +4,7 @@
 use mathlib.Core.Path.{◌≡◌, refl, sym, ap, subst, ◌∙◌}
 use mathlib.Core.Bool.{true, false}
 use mathlib.Core.List.{[]}
-use Prim.Native.Nat.{ℕ, ◌+◌, ◌-◌, ◌≤◌}
+use Prim.Native.Nat.{ℕ, ◌+◌, ◌-◌, ◌^◌, ◌≤◌, ◌<◌, min}
 use native.Mathlib.Omega.{arith}
 use lib.ListN.{length, take, drop, length-drop}
 use lib.Seq.{take_all, drop-drop}
@@ -48,17 +48,22 @@ module _ {T A : Type 0} {f : T → A} {line : Text} {r : Reading T} {due : Past 
   pub steps-stuck : {p : Stuck} → r ≡ Err p → Stands line p.after (stuck (drop p.after line)) due
   steps-stuck e = rw e at s.stands
 
+-- A place of a line is a word, and is told as it is.
+pub as_told : (line : Text) {n : ℕ} → length line < 2 ^ 64 → n ≤ length line → min n (2 ^ 64 - 1) ≡ n
+as_told line w h = omega arith
+
 -- A step of the rest of a line is one of the line, and lies in it.
 module _ {T A : Type 0} {f : T → A} (line : Text) (at : ℕ) {due : Past A} (h : at ≤ length line) where
-  there-shifted : (r : Reading T) → Steps f (drop at line) r due → Steps f line (shifted_step at r) due
-  there-shifted (Ok t) s = record { stands = shifted (past (f t.value)) h s.stands }
-  there-shifted (Err p) s = record { stands = shifted stuck h s.stands }
+  there-shifted : length line < 2 ^ 64 → (r : Reading T) → Steps f (drop at line) r due → Steps f line (shifted_step at r) due
+  there-shifted w (Ok t) s =
+      let g = shifted (past (f t.value)) h s.stands in
+      record { stands = rw (as_told line w g.within) g }
+  there-shifted w (Err p) s =
+      let g = shifted stuck h s.stands in
+      record { stands = rw (as_told line w g.within) g }
 
-  pub steps-shifted : {r q : Reading T} → Steps f (drop at line) r due → q ≡ shifted_step at r → Steps f line q due
-  steps-shifted {r} s e = rw e (there-shifted r s)
-
-  shifted-within : {r : Reading T} → Steps f (drop at line) r due → at + step_place r ≤ length line
-  shifted-within s = omega (arith, s.stands.within, length-drop at line)
+  pub steps-shifted : {r q : Reading T} → Steps f (drop at line) r due → length line < 2 ^ 64 → q ≡ shifted_step at r → Steps f line q due
+  steps-shifted {r} s w e = rw e (there-shifted w r s)
 
 -- (what is read may say where it begins, by what is lent)
 module _ {T A : Type 0} (f : Text → T → A) (form : Text → Past A) (line : Text) (at : ℕ) {r : Reading T} (h : at ≤ length line)
@@ -66,10 +71,7 @@ module _ {T A : Type 0} (f : Text → T → A) (form : Text → Past A) (line : 
   there : Steps (f (drop at line)) (drop at line) r (form (drop at line))
   there = rw (rest-drop line at h) at s
 
-  pub went_within : at + step_place r ≤ length line
-  went_within = shifted-within line at h there
-
-  pub moved : {q : Reading T} → q ≡ shifted_step at r → Steps (f (drop at line)) line q (form (drop at line))
+  pub moved : {q : Reading T} → length line < 2 ^ 64 → q ≡ shifted_step at r → Steps (f (drop at line)) line q (form (drop at line))
   moved = steps-shifted line at h there
 
   pub went_on : {t : Taken T} → r ≡ Ok t → Stands line (at + t.bytes) (past (f (drop at line) t.value) (drop (at + t.bytes) line)) (form (drop at line))
@@ -79,9 +81,9 @@ module _ {T A : Type 0} (f : Text → T → A) (form : Text → Past A) (line : 
   stays_on e = shifted stuck h (steps-stuck there e)
 
 -- (and does not begin before that place)
-pub shifted-behind : {T : Type 0} {at : ℕ} {t : Taken T} (r : Reading T) → Ok t ≡ shifted_step at r → at ≤ t.bytes
-shifted-behind (Ok u) h = omega (arith, ap step_place h)
-shifted-behind (Err p) h = omega (arith, ap step_place h)
+pub shifted-behind : {T : Type 0} {at : ℕ} {t : Taken T} (r : Reading T) → at < 2 ^ 64 → Ok t ≡ shifted_step at r → at ≤ t.bytes
+shifted-behind (Ok u) w h = omega (arith, ap step_place h)
+shifted-behind (Err p) w h = omega (arith, ap step_place h)
 
 -- a step that is stuck is the answer of the whole
 pub onward-halted : {T U A B : Type 0} {f : T → A} {g : U → B} {line : Text} {p : Stuck} {r : Reading T} {due : Past A} (k : A → Text → Past B)

@@ -1,6 +1,6 @@
 -- A step from the start of a text: a place in the text is what stands from there on.
 -- Assumes nothing.
-use Rattle.std.specs.Prelude.{◌≡◌, Bool, true, false, [], ◌∷◌, ℕ, ◌+◌, ◌-◌, ◌≤◌, Option, Some, None, Result, Ok, Err, length, drop}
+use Rattle.std.specs.Prelude.{◌≡◌, Bool, true, false, [], ◌∷◌, ℕ, ◌+◌, ◌-◌, ◌^◌, ◌≤◌, min, Option, Some, None, Result, Ok, Err, length, drop}
 use Rattle.meaning.specs.Bytes.{Text}
 use Rattle.grammar.specs.Text.{Past, past, stuck, is_digit}
 use Rattle.words.specs.declared.Taken.{Taken}
@@ -36,7 +36,7 @@ pub record Stands {A : Type 0} (line : Text) (place : ℕ) (answer due : Past A)
 pub record Steps {T A : Type 0} (value : T → A) (line : Text) (r : Reading T) (due : Past A) : Type 0 where
   pub stands : Stands line (step_place r) (step_of value line r) due
 
--- a step from a place of the text on, as one from the start
+-- A step from a place of the text on, as one from the start. A place past the largest word is told as the largest word, and none lies there.
 abbrev pub shifted_step : {T : Type 0} → ℕ → Reading T → Reading T
-shifted_step at (Ok t) = Ok (record { value = t.value; bytes = at + t.bytes })
-shifted_step at (Err s) = Err (record { after = at + s.after })
+shifted_step at (Ok t) = Ok (record { value = t.value; bytes = min (at + t.bytes) (2 ^ 64 - 1) })
+shifted_step at (Err s) = Err (record { after = min (at + s.after) (2 ^ 64 - 1) })

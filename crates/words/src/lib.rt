@@ -8,8 +8,8 @@ pub mod literals;
 pub mod names;
 pub mod numbers;
 
-ghost use Rattle.std.specs.Prelude.{◌+◌, ◌<◌, ◌^◌, ◌≡◌};
-ghost use Rattle.words.specs.Steps.{shifted_step, step_place};
+ghost use Rattle.std.specs.Prelude.{◌≡◌};
+ghost use Rattle.words.specs.Steps.{shifted_step};
 
 // What was read, as a number, a packed name or an entry of a list, and how many bytes it took.
 #[derive(Clone, Copy, Debug, PartialEq, Eq)]
@@ -27,16 +27,18 @@ pub struct Stuck {
 // What was read, or where the reading was stuck.
 pub type Reading<T> = Result<Taken<T>, Stuck>;
 
-// A reading of what stands from a place on, as one of the whole: its bytes are counted from the start.
+// A reading of what stands from a place on, as one of the whole: its bytes are counted from the start. A place past the largest word,
+// where no text reaches, is told as the largest word.
 pub fn shifted<T>(read: Reading<T>, at: usize) -> Reading<T>
-    requires { at + step_place read < 2 ^ 64 }
     ensures { result ≡ shifted_step at read }
 {
     match read {
         Ok(Taken { value, bytes }) => Ok(Taken {
             value,
-            bytes: at + bytes,
+            bytes: at.saturating_add(bytes),
         }),
-        Err(Stuck { after }) => Err(Stuck { after: at + after }),
+        Err(Stuck { after }) => Err(Stuck {
+            after: at.saturating_add(after),
+        }),
     }
 }

@@ -51,7 +51,7 @@ returns-in_err-said c =
     let a = c.args in
     let s =
     said_moved (entry_of (map (name_of 8) a.names.now) a.kind) a.rest.now loop.from loop.invariant.1.within c.read_entry-entry.ensures
-    c.in_err-said.ensures in
+    (omega arith) c.in_err-said.ensures in
     let stuck = list-stuck loop.invariant.1 s.stands in
     record {
       read = handed_on c.from_residual.ensures.1 (stuck-with (list_entry (length a.rest.now) a.kind) stuck);
@@ -73,8 +73,8 @@ went c =
     let a = c.args in
     let s =
     said_moved (entry_of (map (name_of 8) a.names.now) a.kind) a.rest.now loop.from loop.invariant.1.within c.read_entry-entry.ensures
-    c.in_ok-said.ensures in
-    (shifted-behind _ c.in_ok-said.ensures, s.stands)
+    (omega arith) c.in_ok-said.ensures in
+    (shifted-behind _ (omega arith) c.in_ok-said.ensures, s.stands)
 
 pub overflow_sub-rest : goal.overflow_sub-rest
 overflow_sub-rest c = omega (arith, (went (goal.at.overflow_sub-rest c).In_ok-said))

@@ -16,12 +16,12 @@ returns-in-Ok c =
     let a = c.args in
     let k = c.loop-k.k - 1 in
     sought-found a.text.now a.at k (omega (arith, c.loop-k.invariant.few))
-    (moved (λ _ u. u) (literal (name_of 8 (get_or packed_kinds k 0))) a.text.now a.at c.requires c.read_packed.ensures c.in-Ok.ensures).stands
+    (moved (λ _ u. u) (literal (name_of 8 (get_or packed_kinds k 0))) a.text.now a.at c.requires c.read_packed.ensures (omega arith) c.in-Ok.ensures).stands
 
 pub loop-k-preserved : goal.loop-k-preserved
 loop-k-preserved c =
     let a = c.args in
     let k = c.loop-k.k - 1 in
     sought-more a.text.now a.at k (omega (arith, c.loop-k.invariant.few)) c.loop-k.invariant (omega arith)
-    (moved (λ _ u. u) (literal (name_of 8 (get_or packed_kinds k 0))) a.text.now a.at c.requires c.read_packed.ensures c.in-Err.ensures).stands
+    (moved (λ _ u. u) (literal (name_of 8 (get_or packed_kinds k 0))) a.text.now a.at c.requires c.read_packed.ensures (omega arith) c.in-Err.ensures).stands
     c.max-far.ensures

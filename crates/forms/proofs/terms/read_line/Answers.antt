@@ -10,7 +10,7 @@ use Rattle.grammar.specs.Forms.{kinds, of_kind, term_line}
 use Rattle.words.specs.Steps.{shifted_step}
 use Rattle.words.proofs.Steps.{told_err, stops, become}
 use Rattle.tails.proofs.Operands.{line-become}
-use Rattle.forms.proofs.Kinded.{line-there, tail_within}
+use Rattle.forms.proofs.Kinded.{line-there}
 use Rattle.forms.proofs.terms.read_line.Goals as goal
 use Rattle.forms.proofs.terms.read_line.Goals.{In_ok-key}
 
@@ -31,12 +31,6 @@ returns-in_err-kind c =
     rw (told_err c.in_err-kind.field-0.0 c.from_residual-in_err-kind.ensures.1)
     (become (passed (goal.at.returns-in_err-kind c).In_ok-key) c.in_err-kind.ensures)
 
-pub shifted-requires : goal.shifted-requires
-shifted-requires c =
-    let a = c.args in
-    let w = tail_within c.in_ok-kind.ensures a.names.now a.bounds a.list.now c.read_tail-tail.new.store c.read_tail-tail.result c.read_tail-tail.ensures in
-    omega (arith, c.well_formed.1.0)
-
 pub returns : goal.returns
 returns c =
     let a = c.args in
@@ -45,4 +39,5 @@ returns c =
     rw c.shifted.ensures
     (line-become (map (name_of 8) a.names.now) a.bounds a.text.now a.list.now after (shifted_step next c.read_tail-tail.result)
     (passed (goal.at.returns c).In_ok-key)
-    (line-there c.in_ok-kind.ensures a.names.now a.bounds a.list.now after c.read_tail-tail.result c.read_tail-tail.ensures c.requires))
+    (line-there c.in_ok-kind.ensures a.names.now a.bounds a.list.now after c.read_tail-tail.result c.read_tail-tail.ensures c.requires
+    (omega (arith, c.well_formed.1.0))))

@@ -26,7 +26,8 @@ returns-in_err-said c =
     let loop = c.loop-said in
     let a = c.args in
     let s =
-    said_moved (part_in a.names.now a.rest.now) a.rest.now loop.from loop.invariant.1.within c.read_part-part.ensures c.in_err-said.ensures in
+    said_moved (part_in a.names.now a.rest.now) a.rest.now loop.from loop.invariant.1.within c.read_part-part.ensures (omega arith)
+    c.in_err-said.ensures in
     handed_on c.from_residual.ensures.1
     (become (label-seen _ a.rest.now) (stuck-with (parts_entry (length a.rest.now)) (list-stuck loop.invariant.1 s.stands)))
 
@@ -43,8 +44,9 @@ went c =
     let loop = c.loop-said in
     let a = c.args in
     let s =
-    said_moved (part_in a.names.now a.rest.now) a.rest.now loop.from loop.invariant.1.within c.read_part-part.ensures c.in_ok-said.ensures in
-    (shifted-behind _ c.in_ok-said.ensures, s.stands)
+    said_moved (part_in a.names.now a.rest.now) a.rest.now loop.from loop.invariant.1.within c.read_part-part.ensures (omega arith)
+    c.in_ok-said.ensures in
+    (shifted-behind _ (omega arith) c.in_ok-said.ensures, s.stands)
 
 known : (c : In_ok-said) → Known (told c)
 known c = part-known _ _ (rw length-map c.requires.0) _ (went c).1.says

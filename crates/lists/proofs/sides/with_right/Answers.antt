@@ -37,7 +37,7 @@ returns-in_err-name c =
     let a = c.args in
     let s =
     said_moved (seen (name_entry (map (name_of 8) a.names.now)) (placed word)) a.rest.now (a.after + 1)
-    (passed (goal.at.returns-in_err-name c).Else-not-sign_at) c.name_from-right.ensures c.in_err-name.ensures in
+    (passed (goal.at.returns-in_err-name c).Else-not-sign_at) c.name_from-right.ensures (omega arith) c.in_err-name.ensures in
     handed_on c.from_residual.ensures.1
     (become (right-seen _ (said_of _ a.left) _)
     (past-sign greater a.rest.now a.after _ (sym c.sign_at.ensures ∙ c.if-not-sign_at.false) (stops _ s.stands)))
@@ -47,7 +47,7 @@ returns c =
     let a = c.args in
     let s =
     said_moved (seen (name_entry (map (name_of 8) a.names.now)) (placed word)) a.rest.now (a.after + 1)
-    (passed (goal.at.returns c).Else-not-sign_at) c.name_from-right.ensures c.in_ok-name.ensures in
+    (passed (goal.at.returns c).Else-not-sign_at) c.name_from-right.ensures (omega arith) c.in_ok-name.ensures in
     let name = code c.in_ok-name.field-0.value.first in
     let low : name % 2 ^ 64 ≡ name = omega (arith, name-said-low _ _ s.stands.says, length-map a.names.now (name_of 8), c.well_formed.1.1.0) in
     record {

@@ -36,7 +36,7 @@ returns-in_err-name c bounds store =
     let there = (goal.at.returns-in_err-name c).Else-not-sign_at in
     let s =
     said_moved (seen (name_entry (map (name_of 8) a.names.now)) (placed word)) a.rest.now 1 (passed there) c.read_name.ensures
-    c.in_err-name.ensures in
+    (omega arith) c.in_err-name.ensures in
     rw (told_err c.in_err-name.field-0.0 c.from_residual.ensures.1)
     (act-no-name (map (name_of 8) a.names.now) a.rest.now (spaced there) s.stands)
 
@@ -49,7 +49,7 @@ named : (c : In_ok-name)
 named c =
     let a = c.args in
     (said_moved (seen (name_entry (map (name_of 8) a.names.now)) (placed word)) a.rest.now 1 (passed (goal.at.In_ok-name c).Else-not-sign_at)
-    c.read_name.ensures c.in_ok-name.ensures).stands
+    c.read_name.ensures (omega arith) c.in_ok-name.ensures).stands
 
 pub returns-then-not-sign_at-2 : goal.returns-then-not-sign_at-2
 returns-then-not-sign_at-2 c bounds store =

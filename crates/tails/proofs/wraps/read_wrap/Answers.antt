@@ -55,7 +55,7 @@ returns-in_err-said c =
     rw (told_err c.in_err-said.field-0.0 c.from_residual-in_err-said.ensures.1)
     (no-list (wrap_of a.k) (map (name_of 8) a.names.now) a.rest.now c.in_ok-operand.ensures.stands
     (sym c.sign_at.ensures ∙ c.if-not-sign_at.false) c.list_kind.ensures
-    (passed (goal.at.returns-in_err-said c).Else-not-sign_at) (listed (goal.at.returns-in_err-said c).After-read_whole-list)
+    (passed (goal.at.returns-in_err-said c).Else-not-sign_at) (listed (goal.at.returns-in_err-said c).After-read_whole-list) (omega arith)
     c.in_err-said.ensures)
 
 pub returns-then-not-sign_at-2 : goal.returns-then-not-sign_at-2
@@ -64,7 +64,7 @@ returns-then-not-sign_at-2 c =
     no_end (wrap_of a.k) (map (name_of 8) a.names.now) a.rest.now c.in_ok-operand.ensures.stands
     (sym c.sign_at.ensures ∙ c.if-not-sign_at.false) c.list_kind.ensures
     (passed (goal.at.returns-then-not-sign_at-2 c).Else-not-sign_at) (listed (goal.at.returns-then-not-sign_at-2 c).After-read_whole-list)
-    c.in_ok-said.ensures (sym c.sign_at-2.ensures ∙ c.if-not-sign_at-2.true)
+    (omega arith) c.in_ok-said.ensures (sym c.sign_at-2.ensures ∙ c.if-not-sign_at-2.true)
 
 pub returns : goal.returns
 returns c =
@@ -74,6 +74,6 @@ returns c =
     (wrap-line (wrap_of a.k) (map (name_of 8) a.names.now) a.rest.now c.in_ok-operand.ensures.stands
     (sym c.sign_at.ensures ∙ c.if-not-sign_at.false) c.list_kind.ensures (passed (goal.at.returns c).Else-not-sign_at)
     (listed (goal.at.returns c).After-read_whole-list)
-    c.in_ok-said.ensures a.bounds (omega (arith, c.well_formed.1.0)) (sym c.sign_at-2.ensures ∙ c.if-not-sign_at-2.false)
+    (omega (arith, c.well_formed.1.0)) c.in_ok-said.ensures a.bounds (sym c.sign_at-2.ensures ∙ c.if-not-sign_at-2.false)
     (operator-wrapped a.k (record { at = a.bounds.term; entries = code c.in_ok-said.field-0.value.first % 2 ^ 64 }))
     (c.joined.ensures ∙ ap (λ p. worse (found_of c.in_ok-said.field-0.value.fault) (operandFault p)) c.left_at.ensures))
