@@ -2,6 +2,7 @@
 -- Assumes nothing.
 use mathlib.Core.Path.{◌≡◌, refl, sym, ap, ◌∙◌}
 use Prim.Native.Nat.{ℕ}
+use Rattle.std.specs.Prelude.{Option, Some, None}
 use Rattle.meaning.proofs.Alike.{alike, alike-through}
 use Rattle.labels.specs.declared.Label.{Label}
 use Rattle.grammar.specs.Faults.{Found, fine, fault}
@@ -10,14 +11,13 @@ use Rattle.faults.specs.CodedFaults.{fault_of, found_of, flaw_of, fault_for, fla
 use Rattle.faults.specs.Tallies.{Counted}
 use Rattle.faults.specs.declared.Fault as F
 use Rattle.faults.specs.declared.Fault.TheVariants.{Form, Name, Range, Amount}
-use Rattle.faults.specs.declared.Found as G
-use Rattle.faults.specs.declared.Found.TheVariants.{Fine, Faulty}
+use Rattle.faults.specs.declared.FaultAt.{FaultAt}
 use Rattle.faults.specs.declared.Flaw as C
 use Rattle.faults.specs.declared.Tally.{Tally}
 
-found_back : Found → G.Found
-found_back fine = Fine
-found_back (fault f from) = Faulty (fault_for f) from
+found_back : Found → Option FaultAt
+found_back fine = None
+found_back (fault f from) = Some (record { fault = fault_for f; from = from })
 
 pub fault-back : (f : F.Fault) → fault_for (fault_of f) ≡ f
 fault-back Form = refl
@@ -25,15 +25,15 @@ fault-back Name = refl
 fault-back Range = refl
 fault-back Amount = refl
 
-found_back_lem : (f : G.Found) → found_back (found_of f) ≡ f
+found_back_lem : (f : Option FaultAt) → found_back (found_of f) ≡ f
 unfolding found_back
-found_back_lem Fine = refl
-found_back_lem (Faulty f from) = ap (λ g. Faulty g from) (fault-back f)
+found_back_lem None = refl
+found_back_lem (Some f) = ap (λ (g : F.Fault). Some (record { fault = g; from = f.from })) (fault-back f.fault)
 
-pub found-unique : (f g : G.Found) (due : Found) → found_of f ≡ due → found_of g ≡ due → f ≡ g
-found-unique f g due p q = alike-through (λ (x : G.Found). found_of x) found_back found_back_lem p q
+pub found-unique : (f g : Option FaultAt) (due : Found) → found_of f ≡ due → found_of g ≡ due → f ≡ g
+found-unique f g due p q = alike-through (λ (x : Option FaultAt). found_of x) found_back found_back_lem p q
 
-same-tally : {f g : G.Found} {a b : Label} {m n : ℕ} → f ≡ g → a ≡ b → m ≡ n
+same-tally : {f g : Option FaultAt} {a b : Label} {m n : ℕ} → f ≡ g → a ≡ b → m ≡ n
     → ◌≡◌ {A = Tally} (record { fault = f; floor = a; total = m }) (record { fault = g; floor = b; total = n })
 same-tally p q r = rw (p, q, r)
 

@@ -1,15 +1,14 @@
 -- The tally of nothing, and one with one entry more.
 -- Assumes nothing.
-use Rattle.std.specs.Prelude.{◌≡◌, ℕ, ◌+◌, ◌%◌, ◌^◌, min, leb}
+use Rattle.std.specs.Prelude.{◌≡◌, ℕ, ◌+◌, ◌%◌, ◌^◌, None, min, leb}
 use Rattle.meaning.specs.Answers.{amount}
 use Rattle.grammar.specs.Faults.{Found, worse, unless}
 use Rattle.labels.specs.Packing.{code, packed}
 use Rattle.faults.specs.CodedFaults.{found_of}
-use Rattle.faults.specs.declared.Found.TheVariants.{Fine}
 use Rattle.faults.specs.declared.Tally.{Tally}
 
 abbrev pub empty_tally : Tally
-empty_tally = record { fault = Fine; floor = packed 0; total = 0 }
+empty_tally = record { fault = None; floor = packed 0; total = 0 }
 
 -- a sum that stays in a word
 abbrev pub plus_word : ℕ → ℕ → ℕ

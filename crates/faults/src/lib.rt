@@ -4,20 +4,20 @@
 // A place is told by how many bytes of the text are left there, so that it is the same in every rest of one text.
 #![tactic(auto)]
 
-ghost use Rattle.std.specs.Prelude.{◌≡◌, min, ◌-◌, ltb, length};
+ghost use Rattle.std.specs.Prelude.{◌≡◌, ◌-◌, ltb, length};
 ghost use Rattle.meaning.specs.Answers.{fault_number, name, amount};
 ghost use Rattle.grammar.specs.Faults.{unless, worse};
 ghost use Rattle.grammar.specs.Reading.{flaw_in, at_first};
 ghost use Rattle.labels.specs.Packing.{code};
 ghost use Rattle.faults.specs.CodedFaults.{fault_of, found_of, flaw_of};
-ghost use Rattle.faults.specs.Tallies.{plus_word, empty_tally, Counted};
+ghost use Rattle.faults.specs.Tallies.{empty_tally, Counted};
 
 use labels::Label;
 use labels::packing::{below, label_of, tau};
 
 // What is wrong with a line: its form, a name in it, a number that leads nowhere, or how many there are of something or in which order
 // they stand.
-#[derive(Clone, Copy)]
+#[derive(Clone, Copy, Debug, PartialEq, Eq)]
 pub enum Fault {
     Form,
     Name,
@@ -37,59 +37,62 @@ pub fn number_of(f: Fault) -> usize
     }
 }
 
-// A fault with its place, or none.
-#[derive(Clone, Copy)]
-pub enum Found {
-    Fine,
-    Faulty(Fault, usize),
+// A fault with the place where it begins.
+#[derive(Clone, Copy, Debug, PartialEq, Eq)]
+pub struct FaultAt {
+    pub fault: Fault,
+    pub from: usize,
 }
 
 // Of two faults the one with the smaller number; of one number the first. It is put together anew: one of two values handed on whole is
 // copied through memory, which took a third of the time of long lists.
-pub fn worse_of(a: Found, b: Found) -> Found
+pub fn worse_of(a: Option<FaultAt>, b: Option<FaultAt>) -> Option<FaultAt>
     ensures { found_of result ≡ worse (found_of a) (found_of b) }
 {
-    let Found::Faulty(x, p) = a else {
+    let Some(FaultAt { fault: x, from: p }) = a else {
         return b;
     };
-    let Found::Faulty(y, q) = b else {
-        return Found::Faulty(x, p);
+    let Some(FaultAt { fault: y, from: q }) = b else {
+        return Some(FaultAt { fault: x, from: p });
     };
     if number_of(x) <= number_of(y) {
-        return Found::Faulty(x, p);
+        return Some(FaultAt { fault: x, from: p });
     }
-    Found::Faulty(y, q)
+    Some(FaultAt { fault: y, from: q })
 }
 
 // A fault where a test fails.
-pub fn found_unless(ok: bool, f: Fault, from: usize) -> Found
-    ensures { found_of result ≡ unless ok (fault_of f) from }
+pub fn found_unless(ok: bool, fault: Fault, from: usize) -> Option<FaultAt>
+    ensures { found_of result ≡ unless ok (fault_of fault) from }
 {
     if ok {
-        return Found::Fine;
+        return None;
     }
-    Found::Faulty(f, from)
+    Some(FaultAt { fault, from })
 }
 
 // The fault of what is too many, too few or out of order.
-pub fn amount_unless(ok: bool, from: usize) -> Found
+pub fn amount_unless(ok: bool, from: usize) -> Option<FaultAt>
     ensures { found_of result ≡ unless ok amount from }
 {
     found_unless(ok, Fault::Amount, from)
 }
 
 // The fault of a name by its number among so many names: one that was not given has no number below theirs.
-pub fn name_fault(n: usize, names: usize, from: usize) -> Found
+pub fn name_fault(n: usize, names: usize, from: usize) -> Option<FaultAt>
     ensures { found_of result ≡ unless (ltb n names) name from }
 {
     if n < names {
-        return Found::Fine;
+        return None;
     }
-    Found::Faulty(Fault::Name, from)
+    Some(FaultAt {
+        fault: Fault::Name,
+        from,
+    })
 }
 
 // A line's fault and its column, the byte where it begins, counted from 1.
-#[derive(Clone, Copy)]
+#[derive(Clone, Copy, Debug, PartialEq, Eq)]
 pub struct Flaw {
     pub fault: Fault,
     pub column: usize,
@@ -99,13 +102,9 @@ pub struct Flaw {
 pub fn flaw_in(text: &[u8], fault: Fault, from: usize) -> Flaw
     ensures { flaw_of result ≡ flaw_in text.now (fault_of fault) from }
 {
-    let length = text.len();
-    if length <= from {
-        return Flaw { fault, column: 1 };
-    }
     Flaw {
         fault,
-        column: length - from + 1,
+        column: text.len().saturating_sub(from) + 1,
     }
 }
 
@@ -113,11 +112,7 @@ pub fn flaw_in(text: &[u8], fault: Fault, from: usize) -> Flaw
 pub fn flaw_after(text: &[u8], fault: Fault, bytes: usize) -> Flaw
     ensures { flaw_of result ≡ flaw_in text.now (fault_of fault) (length text.now - bytes) }
 {
-    let length = text.len();
-    if length <= bytes {
-        return flaw_in(text, fault, 0);
-    }
-    flaw_in(text, fault, length - bytes)
+    flaw_in(text, fault, text.len().saturating_sub(bytes))
 }
 
 // A line that is not there, or not looked at: its form is wrong at its first byte.
@@ -134,7 +129,7 @@ pub fn first_flaw() -> Flaw
 // have, and their weights added up, as far as the limit lets them.
 #[derive(Clone, Copy)]
 pub struct Tally {
-    pub fault: Found,
+    pub fault: Option<FaultAt>,
     pub floor: Label,
     pub total: u64,
 }
@@ -144,29 +139,20 @@ pub fn empty_tally() -> Tally
     ensures { result ≡ empty_tally }
 {
     Tally {
-        fault: Found::Fine,
+        fault: None,
         floor: tau(),
         total: 0,
     }
 }
 
-const LARGEST: u64 = 0xffffffffffffffff;
-
-// The sum, or the largest word where it is none.
-fn plus(a: u64, b: u64) -> u64
-    ensures { result ≡ plus_word a b }
-{
-    if a <= LARGEST - b { a + b } else { LARGEST }
-}
-
-fn least(a: u64, b: u64) -> u64
-    ensures { result ≡ min a b }
-{
-    if a <= b { a } else { b }
-}
-
 // The faults so far and an entry's own, and that of the order or the amount where one of the two tests fails.
-fn joined(before: Found, fault: Found, ordered: bool, within: bool, from: usize) -> Found
+fn joined(
+    before: Option<FaultAt>,
+    fault: Option<FaultAt>,
+    ordered: bool,
+    within: bool,
+    from: usize,
+) -> Option<FaultAt>
     ensures { found_of result
         ≡ worse (worse (found_of before) (found_of fault)) (worse (unless ordered amount from) (unless within amount from)) }
 {
@@ -174,20 +160,33 @@ fn joined(before: Found, fault: Found, ordered: bool, within: bool, from: usize)
     if ordered && within {
         return entries;
     }
-    worse_of(entries, Found::Faulty(Fault::Amount, from))
+    worse_of(
+        entries,
+        Some(FaultAt {
+            fault: Fault::Amount,
+            from,
+        }),
+    )
 }
 
 // One entry more, by its own fault, the number by which it is ordered, which is that of a label, its weight and its place. The total stays at
 // one more than the limit, and no sum leaves its words, so that any entry can be counted.
-pub fn counted(t: Tally, fault: Found, key: Label, weight: u64, limit: u64, from: usize) -> Tally
+pub fn counted(
+    t: Tally,
+    fault: Option<FaultAt>,
+    key: Label,
+    weight: u64,
+    limit: u64,
+    from: usize,
+) -> Tally
     ensures { Counted t (found_of fault) (code key) weight limit from result }
 {
     let before = t.fault;
     let floor = t.floor;
-    let total = plus(t.total, weight);
+    let total = t.total.saturating_add(weight);
     Tally {
         fault: joined(before, fault, !below(key, floor), total <= limit, from),
         floor: labels::bags::joined(key, label_of(1)),
-        total: least(plus(limit, 1), total),
+        total: limit.saturating_add(1).min(total),
     }
 }

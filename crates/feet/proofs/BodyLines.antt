@@ -5,14 +5,14 @@ use mathlib.Core.List.{List, [], ◌∷◌, ◌++◌}
 use Prim.Native.Nat.{ℕ, ◌+◌, ◌≤◌, ◌<◌}
 use native.Mathlib.Omega.{arith}
 use lib.ListN.{length, set}
+use Rattle.std.specs.Prelude.{Result, Ok, Err}
 use Rattle.meaning.specs.Bytes.{Text, ascii}
 use Rattle.meaning.specs.Answers.{range}
 use Rattle.words.proofs.Steps.{rest_at}
 use Rattle.grammar.specs.Reading.{take_number, take_body, walk, one_line}
-use Rattle.faults.specs.declared.Flaw as F
 use Rattle.keyed.specs.Numbers.{between, NumberTo}
-use Rattle.keyed.specs.declared.Progress.{Progress}
-use Rattle.keyed.specs.declared.Progress.TheVariants.{To, Bad}
+use Rattle.words.specs.declared.Taken.{Taken}
+use Rattle.keyed.specs.declared.BadLine.{BadLine}
 use Rattle.keyed.proofs.Walks.{gone-to, gone-within, gone-bad}
 use Rattle.keyed.proofs.Sequences.{lines-halt}
 use Rattle.sections.specs.Sections.{Within}
@@ -40,26 +40,27 @@ module _ {text : Text} {line equations terms : ℕ} {before table : List ℕ} {f
       tabled : Within 140 before table
       tabled = so-far-within s.lines even 140 (omega arith)
 
-      module _ {r : Progress} (more : i < equations)
+      module _ {r : Result (Taken ℕ) BadLine} (more : i < equations)
           (w : NumberTo (rest_at text from) (line + i) terms r
           (one_line (take_number (ascii "equation=") (between 0 terms) range) (line + i) (rest_at text from))) where
         body : walk (one_line (take_number (ascii "equation=") (between 0 terms) range) (line + i) (rest_at text from)) (on_body s.read)
             ≡ one_line (take_body terms s.read) (line + i) (rest_at text from)
         body = body-line terms s.read (line + i) (rest_at text from)
 
-        pub bodies-within : {v took : ℕ} → r ≡ To v took → from + took ≤ length text
+        pub bodies-within : {t : Taken ℕ} → r ≡ Ok t → from + t.bytes ≤ length text
         bodies-within e = rest-within text from s.lines.onto.within (gone-within w.walks e)
 
-        pub bodies-step : {v took : ℕ} → r ≡ To v took → BodiesSoFar text line equations terms before (set table (28 + i) v) (from + took) (i + 1)
-        bodies-step {v} e =
+        pub bodies-step : {t : Taken ℕ} → r ≡ Ok t → BodiesSoFar text line equations terms before (set table (28 + i) t.value) (from + t.bytes) (i + 1)
+        bodies-step {t} e =
+            let v = t.value in
             let q = goes_on (on_body s.read) (gone-to w.walks e) refl ∙ body in
             record { read = s.read ++ (v ∷ []); lines = so-far-step s.lines even v v refl more q (gone-within w.walks e) }
 
-        pub bodies-halt : {f : F.Flaw} {l : ℕ} → r ≡ Bad f l → BodiesRead text line equations terms before table r
+        pub bodies-halt : {b : BadLine} → r ≡ Err b → BodiesRead text line equations terms before table (Err b)
         bodies-halt e =
             let q = stops-there (on_body s.read) (gone-bad w.walks e) ∙ body in
-            rw e (record { tabled = tabled; came = lines-halt s.lines.onto more q })
+            record { tabled = tabled; came = lines-halt s.lines.onto more q }
 
-      pub bodies-end : equations ≤ i → BodiesRead text line equations terms before table (To 0 from)
+      pub bodies-end : equations ≤ i → BodiesRead text line equations terms before table (Ok from)
       bodies-end h =
           record { tabled = tabled; came = so-far-end s.lines even h (record { counted = all-counted s.lines even h; laid = s.lines.laid }) }

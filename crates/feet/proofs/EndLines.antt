@@ -8,11 +8,12 @@ use native.Mathlib.Omega.{arith}
 use lib.Dec.{leb, ltb}
 use lib.ListN.{length, drop, length-drop}
 use borrow.Author.Tests.{le-leb, lt-ltb}
+use Rattle.std.specs.Prelude.{Result, Ok, Err}
 use Rattle.meaning.specs.Bytes.{Text, ascii}
 use Rattle.meaning.specs.Descriptions as D
 use Rattle.meaning.specs.Answers.{range}
 use Rattle.areas.specs.Areas.{zeroed}
-use Rattle.table.specs.declared.Order.TheVariants.{All}
+use Rattle.table.specs.declared.Order.{Order}
 use Rattle.table.specs.Decoded.{name_of}
 use Rattle.table.specs.Holding.{names_in}
 use Rattle.faults.specs.CodedFaults.{flaw_of, flaw_for}
@@ -21,10 +22,10 @@ use Rattle.faults.proofs.Uniqueness.{flaw-back}
 use Rattle.grammar.specs.Reading.{take_number, take_body, take_order, Walk, reached, halted, walk, one_line, lines, Reading, read, bad_line}
 use Rattle.grammar.specs.Reading as M
 use Rattle.grammar.specs.Reading.{Whole, from_order, from_root, from_bodies, described}
-use Rattle.orderlines.specs.Orders.{refusal, nothing_after, form_if, order_first, order_last, OrderEnd}
-use Rattle.keyed.specs.declared.Progress.{Progress}
-use Rattle.keyed.specs.declared.Progress.TheVariants.{To, Bad}
-use Rattle.orderlines.specs.declared.Ordered.{Ordered}
+use Rattle.orderlines.specs.Orders.{nothing_after, form_if, order_first, order_last, OrderEnd}
+use Rattle.keyed.specs.Walks.{refusal}
+use Rattle.words.specs.declared.Taken.{Taken}
+use Rattle.keyed.specs.declared.BadLine.{BadLine}
 use Rattle.sections.specs.Sections.{Section, Within}
 use Rattle.sections.proofs.Joins.{walk-walk, ends-bad, ends_on}
 use Rattle.sections.proofs.LaidLines.{within_same}
@@ -90,7 +91,7 @@ last-ends {o} {l} {s} names line text e = by_form (leb (length names) 24 && ltb 
     by_form false w e = let z : ◌≡◌ {A = ℕ} 0 1 = cc in absurd (omega arith)
 
 -- What is returned of a bad line.
-bad-order : (f : Flaw) {l : ℕ} → refusal f l ≡ refusal (flaw_for (flaw_of f)) l
+bad-order : (f : Flaw) {l : ℕ} → ◌≡◌ {A = Result (Taken Order) BadLine} (refusal f l) (refusal (flaw_for (flaw_of f)) l)
 bad-order f {l} = ap (λ g. refusal g l) (sym (flaw-back f))
 
 -- The bodies and the root, and the order after them.
@@ -100,20 +101,19 @@ zeroed-within zero area = within_same 0 area
 zeroed-within (suc n) [] = within_same (suc n) []
 zeroed-within (suc n) (w ∷ ws) = let k = zeroed-within n ws in record { long = ap suc k.long; behind = k.behind }
 
-pub foot-refused : {text : Text} {line equations terms : ℕ} {table table' : List ℕ} {p : Progress} → FootRead text line equations terms table table' p
-    → (listed : List ℕ) {f : Flaw} {l : ℕ} → p ≡ Bad f l
-    → EndRead text line equations terms table listed table' listed (record { progress = p; order = All })
-foot-refused {text} {line} {equations} {terms} w listed {f} {l} e = record {
+pub foot-refused : {text : Text} {line equations terms : ℕ} {table table' : List ℕ} {p : Result ℕ BadLine} → FootRead text line equations terms table table' p
+    → (listed : List ℕ) {b : BadLine} → p ≡ Err b → EndRead text line equations terms table listed table' listed (Err b)
+foot-refused {text} {line} {equations} {terms} w listed {b} e = record {
   tabled = w.tabled;
-  came = λ words ts s. rw (← due words ts, e) (record { answered = bad-order f; ordered = within_same 64 listed });
+  came = λ words ts s. rw (← due words ts) (record { answered = bad-order b.flaw; ordered = within_same 64 listed });
 }
   where
-    due : (words : List Text) (ts : List D.Term) → bad_line (flaw_of f) l ≡ described (from_bodies words ts equations terms line text)
+    due : (words : List Text) (ts : List D.Term) → bad_line (flaw_of b.flaw) b.line ≡ described (from_bodies words ts equations terms line text)
     due words ts = ends-bad _ (rw e at w.came) ∙ ap described (foot-joins words ts equations terms line text)
 
-module _ {text : Text} (line terms : ℕ) {equations : ℕ} {table table' : List ℕ} {v took : ℕ} (tabled : Within 140 table table')
-    (foot : Section text (foot_text equations terms line text) (λ f. suc (line + equations)) (FootLeft equations table table') v took)
-    (low : line + equations ≤ 199) {listed listed' : List ℕ} {last : Ordered}
+module _ {text : Text} (line terms : ℕ) {equations : ℕ} {table table' : List ℕ} {took : ℕ} (tabled : Within 140 table table')
+    (foot : Section text (foot_text equations terms line text) (λ f. suc (line + equations)) (FootLeft equations table table') took)
+    (low : line + equations ≤ 199) {listed listed' : List ℕ} {last : Result (Taken Order) BadLine}
     (o : OrderEnd (drop took text) (line + equations + 1) (names_in table') listed listed' last) where
   -- the order's line is the last, after all of the description
   module _ {words : List Text} (s : map (name_of 8) (names_in table) ≡ words) (ts : List D.Term) where
@@ -129,7 +129,7 @@ module _ {text : Text} (line terms : ℕ) {equations : ℕ} {table table' : List
         ap (λ m. described (from_order (with_root words ts foot.read) m (drop took text))) n
         ∙ ends_on _ foot.says ∙ ap described (foot-joins words ts equations terms line text)
 
-    refused : {f : Flaw} {l : ℕ} → last.progress ≡ Bad f l → bad_line (flaw_of f) l ≡ described (from_bodies words ts equations terms line text)
+    refused : {b : BadLine} → last ≡ Err b → bad_line (flaw_of b.flaw) b.line ≡ described (from_bodies words ts equations terms line text)
     refused g =
         order-refused (with_root words ts foot.read) (line + equations + 1) (drop took text) (names_in table') names-still (names-few table') (omega arith)
         (rw g at o.walked.came).says ∙ ends
@@ -140,28 +140,28 @@ module _ {text : Text} (line terms : ℕ) {equations : ℕ} {table table' : List
         order-read (with_root words ts foot.read) (line + equations + 1) (drop took text) (names_in table') names-still (names-few table') (omega arith) q
         ∙ ends
 
-  last-refused : {f : Flaw} {l : ℕ} → last.progress ≡ Bad f l → EndRead text line equations terms table listed table' listed' last
-  last-refused {f} g = record {
+  last-refused : {b : BadLine} → last ≡ Err b → EndRead text line equations terms table listed table' listed' last
+  last-refused {b} g = record {
     tabled = tabled;
     came = λ words ts s. rw (← refused s ts g) (record {
-      answered = ap₂ (λ p x. record { progress = p; order = x }) g (rw g at o.walked.came).none ∙ bad-order f;
+      answered = g ∙ bad-order b.flaw;
       ordered = rw (rw g at o.cleared) (zeroed-within 64 listed);
     });
   }
 
-  last-read : {v' took' : ℕ} → last.progress ≡ To v' took' → EndRead text line equations terms table listed table' listed' last
-  last-read {v'} {took'} g =
+  last-read : {t : Taken Order} → last ≡ Ok t → EndRead text line equations terms table listed table' listed' last
+  last-read {t} g =
       let k = rw g at o.walked.came in
       let all = last-ends (names_in table') (line + equations + 1) (drop took text) k.says in
-      let n = sym (length-drop took' (drop took text)) ∙ ap length all in
-      let t : took' ≡ length (drop took text) = omega (arith, k.within) in
+      let n = sym (length-drop t.bytes (drop took text)) ∙ ap length all in
+      let e : t.bytes ≡ length (drop took text) = omega (arith, k.within) in
       record {
         tabled = tabled;
         came = λ words ts s. rw (← ordered s ts k.says) (record {
           next = suc (line + equations);
           rest = drop took text;
           rooted = foot.says;
-          answered = ap₂ (λ p x. record { progress = p; order = x }) (g ∙ ap₂ To k.plain t) k.kept;
+          answered = g ∙ ap₂ (λ x n. Ok (record { value = x; bytes = n })) k.kept e;
           worded = refl;
           termed = refl;
           bodied = foot.left.counted;
@@ -171,21 +171,21 @@ module _ {text : Text} (line terms : ℕ) {equations : ℕ} {table table' : List
       }
 
   last-come : EndRead text line equations terms table listed table' listed' last
-  last-come = by-progress last.progress refl
+  last-come = by-result last refl
     where
-      by-progress : (p : Progress) → last.progress ≡ p → EndRead text line equations terms table listed table' listed' last
-      by-progress (To v took) e = last-read e
-      by-progress (Bad f l) e = last-refused e
+      by-result : (r : Result (Taken Order) BadLine) → last ≡ r → EndRead text line equations terms table listed table' listed' last
+      by-result (Ok t) e = last-read e
+      by-result (Err b) e = last-refused e
 
 -- The same of what the code lends.
-module _ {text : Text} {line equations terms : ℕ} {table table' : List ℕ} {p : Progress} (w : FootRead text line equations terms table table' p)
-    {v took : ℕ} (e : p ≡ To v took) where
-  foot : Section text (foot_text equations terms line text) (λ f. suc (line + equations)) (FootLeft equations table table') v took
+module _ {text : Text} {line equations terms : ℕ} {table table' : List ℕ} {p : Result ℕ BadLine} (w : FootRead text line equations terms table table' p)
+    {took : ℕ} (e : p ≡ Ok took) where
+  foot : Section text (foot_text equations terms line text) (λ f. suc (line + equations)) (FootLeft equations table table') took
   foot = rw e at w.came
 
   pub foot-taken : took ≤ length text
   foot-taken = foot.within
 
-  pub end_read : line + equations ≤ 199 → {rest : Text} {names listed listed' : List ℕ} {last : Ordered} → rest ≡ drop took text → names ≡ names_in table'
+  pub end_read : line + equations ≤ 199 → {rest : Text} {names listed listed' : List ℕ} {last : Result (Taken Order) BadLine} → rest ≡ drop took text → names ≡ names_in table'
       → OrderEnd rest (line + equations + 1) names listed listed' last → EndRead text line equations terms table listed table' listed' last
   end_read low t n o = last-come line terms w.tabled foot low (rw (t, n) at o)

@@ -7,44 +7,40 @@ ghost use Rattle.feet.specs.Ends.{EndRoom, EndGiven};
 ghost use Rattle.sections.specs.Sections.{Whether};
 
 use faults::{Fault, first_flaw};
-use keyed::Progress;
 use keyed::numbers::take_number;
-use orderlines::{Ordered, take_order};
+use keyed::BadLine;
+use orderlines::take_order;
 use table::{BODIES_AT, EQUATIONS, Order, ROOT_AT, TABLE_WORDS, names_of};
+use words::Taken;
 
 // The largest number that the first of the lines can have, behind twenty-four names, three counts and 96 terms.
 const FIRST_LINE: usize = 124;
 
-// So many lines of bodies, each the number of one of so many terms; each goes to its word of the table.
+// So many lines of bodies, each the number of one of so many terms; each goes to its word of the table. How many bytes they took is returned.
 fn read_bodies(
     text: &[u8],
     line: usize,
     equations: usize,
     terms: usize,
     table: &mut [u64],
-) -> Progress
+) -> Result<usize, BadLine>
     requires { (line ≤ 124) × (equations ≤ 16) × (140 ≤ length table.old) }
     ensures { BodiesRead text.now line equations terms table.old table.new result }
 {
     let mut from = 0;
-    let mut i = 0;
-    while i < equations {
-        let step = take_number(
+    for i in 0..equations {
+        let body = take_number(
             &text[from..],
             line + i,
             b"equation=",
             0,
             terms as u64,
             Fault::Range,
-        );
-        let Progress::To(body, took) = step else {
-            return step;
-        };
-        table[BODIES_AT + i] = body;
-        from += took;
-        i += 1;
+        )?;
+        table[BODIES_AT + i] = body.value;
+        from += body.bytes;
     }
-    Progress::To(0, from)
+    Ok(from)
 }
 
 // The bodies and the root.
@@ -54,29 +50,22 @@ fn read_foot(
     equations: usize,
     terms: usize,
     table: &mut [u64],
-) -> Progress
+) -> Result<usize, BadLine>
     requires { (line ≤ 124) × (equations ≤ 16) × (140 ≤ length table.old) }
     ensures { FootRead text.now line equations terms table.old table.new result }
 {
-    let bodies = read_bodies(text, line, equations, terms, table);
-    let Progress::To(_, at) = bodies else {
-        return bodies;
-    };
+    let at = read_bodies(text, line, equations, terms, table)?;
     let below = terms as u64;
-    let given = take_number(
+    let root = take_number(
         &text[at..],
         line + equations,
         b"root=",
         0,
         below,
         Fault::Range,
-    );
-    let Progress::To(root, took) = given else {
-        return given;
-    };
-    table[ROOT_AT] = root;
-    let end = at + took;
-    Progress::To(0, end)
+    )?;
+    table[ROOT_AT] = root.value;
+    Ok(at + root.bytes)
 }
 
 // The lines stand no later than they can, and the table has a word for each body.
@@ -104,22 +93,14 @@ pub fn read_end(
     terms: usize,
     table: &mut [u64],
     listed: &mut [u64],
-) -> Ordered
+) -> Result<Taken<Order>, BadLine>
     ensures { EndGiven text.now line equations terms table.old listed.old
         table.new listed.new result }
 {
     if !has_room(line, equations, table.len()) {
-        return Ordered {
-            progress: Progress::Bad(first_flaw(), line),
-            order: Order::All,
-        };
+        let flaw = first_flaw();
+        return Err(BadLine { flaw, line });
     }
-    let foot = read_foot(text, line, equations, terms, table);
-    let Progress::To(_, at) = foot else {
-        return Ordered {
-            progress: foot,
-            order: Order::All,
-        };
-    };
+    let at = read_foot(text, line, equations, terms, table)?;
     take_order(&text[at..], line + equations + 1, names_of(table), listed)
 }

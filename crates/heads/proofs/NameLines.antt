@@ -5,16 +5,16 @@ use mathlib.Core.List.{List, [], ◌∷◌, ◌++◌, map, map-append}
 use Prim.Native.Nat.{ℕ, suc, ◌+◌, ◌-◌, ◌^◌, ◌≤◌, ◌<◌}
 use native.Mathlib.Omega.{arith}
 use lib.ListN.{length, take, drop, set, length-map}
+use Rattle.std.specs.Prelude.{Result, Ok, Err}
 use Rattle.meaning.specs.Bytes.{Text}
 use Rattle.table.specs.Decoded.{name_of}
 use Rattle.table.specs.Encoded.{word_of}
 use Rattle.words.proofs.Steps.{rest_at}
 use Rattle.words.proofs.Looked.{word-name}
 use Rattle.grammar.specs.Reading.{take_name, one_line}
-use Rattle.faults.specs.declared.Flaw as F
 use Rattle.keyed.specs.Walks.{Walks}
-use Rattle.keyed.specs.declared.Progress.{Progress}
-use Rattle.keyed.specs.declared.Progress.TheVariants.{To, Bad}
+use Rattle.words.specs.declared.Taken.{Taken}
+use Rattle.keyed.specs.declared.BadLine.{BadLine}
 use Rattle.keyed.proofs.Walks.{gone-to, gone-within, gone-bad}
 use Rattle.keyed.proofs.Sequences.{lines-halt}
 use Rattle.heads.specs.Heads.{Packed, NamesRead}
@@ -50,19 +50,20 @@ module _ {text : Text} {named : ℕ} {before table : List ℕ} {from i : ℕ} (s
       let held : lent ≡ ws = rw (k, l.laid) (laid-held 4 ws before (omega (arith, l.counted, l.onto.upto))) in
       ap (map (name_of 8)) held ∙ s.packed
 
-  module _ {r : Progress} (more : i < named)
+  module _ {r : Result (Taken ℕ) BadLine} (more : i < named)
       (w : Walks (λ w. map (name_of 8) lent ++ (name_of 8 w ∷ [])) (rest_at text from) (suc (2 + i)) r
       (one_line (take_name (map (name_of 8) lent)) (2 + i) (rest_at text from))) where
     stepped : Walks (λ w. s.read ++ (name_of 8 w ∷ [])) (rest_at text from) (suc (2 + i)) r
         (one_line (take_name s.read) (2 + i) (rest_at text from))
     stepped = rw lent-names at w
 
-    pub names-within : {v took : ℕ} → r ≡ To v took → from + took ≤ length text
+    pub names-within : {t : Taken ℕ} → r ≡ Ok t → from + t.bytes ≤ length text
     names-within e = rest-within text from s.lines.onto.within (gone-within w e)
 
-    pub names-step : {v took : ℕ} → r ≡ To v took → v < 2 ^ 64 → NamesSoFar text named before (set table (4 + i) v) (from + took) (i + 1)
-    names-step {v} e h =
+    pub names-step : {t : Taken ℕ} → r ≡ Ok t → t.value < 2 ^ 64 → NamesSoFar text named before (set table (4 + i) t.value) (from + t.bytes) (i + 1)
+    names-step {t} e h =
         let ws = s.read in
+        let v = t.value in
         let back : word_of (name_of 8 v) ≡ v = word-name 8 v h in
         let one : map word_of (ws ++ (name_of 8 v ∷ [])) ≡ map word_of ws ++ (v ∷ []) = map-append word_of ws (name_of 8 v ∷ []) ∙ rw back in
         record {
@@ -71,11 +72,11 @@ module _ {text : Text} {named : ℕ} {before table : List ℕ} {from i : ℕ} (s
           packed = rw (one, map-append) (ap (λ l. l ++ (name_of 8 v ∷ [])) s.packed);
         }
 
-    pub names-halt : {f : F.Flaw} {line : ℕ} → r ≡ Bad f line → NamesRead text named before table r
+    pub names-halt : {b : BadLine} → r ≡ Err b → NamesRead text named before table (Err b)
     names-halt e =
-        rw e (record { tabled = so-far-within s.lines even 140 (omega arith); came = lines-halt s.lines.onto more (gone-bad stepped e) })
+        record { tabled = so-far-within s.lines even 140 (omega arith); came = lines-halt s.lines.onto more (gone-bad stepped e) }
 
-  pub names-end : named ≤ i → NamesRead text named before table (To 0 from)
+  pub names-end : named ≤ i → NamesRead text named before table (Ok from)
   names-end h =
       record {
         tabled = so-far-within s.lines even 140 (omega arith);

@@ -1,16 +1,17 @@
 -- The lines before the terms: what they say, and what they leave in the table.
 -- Assumes nothing.
-use Rattle.std.specs.Prelude.{◌≡◌, List, [], ◌∷◌, map, ℕ, ◌+◌, ◌≤◌, length}
+use Rattle.std.specs.Prelude.{◌≡◌, List, [], ◌∷◌, map, ℕ, ◌+◌, ◌≤◌, length, Result}
 use Rattle.meaning.specs.Bytes.{Text, ascii}
 use Rattle.meaning.specs.Answers.{form}
 use Rattle.table.specs.Decoded.{name_of}
 use Rattle.table.specs.Encoded.{word_of}
 use Rattle.grammar.specs.Reading.{take_number, names_in_range, equations_in_range, terms_in_range, take_name, Walk, reached, walk, at_first, one_line, lines}
 use Rattle.faults.specs.CodedFaults.{flaw_for}
-use Rattle.keyed.specs.declared.Progress.{Progress}
-use Rattle.keyed.specs.declared.Progress.TheVariants.{Bad}
+use Rattle.words.specs.declared.Taken.{Taken}
+use Rattle.keyed.specs.declared.BadLine.{BadLine}
+use Rattle.keyed.specs.Walks.{refusal}
 use Rattle.sections.specs.Laying.{laid_at, with_counts}
-use Rattle.sections.specs.Sections.{Comes, Within, Roomed}
+use Rattle.sections.specs.Sections.{Passes, Comes, Within, Roomed}
 
 -- What the lines say: the names, and how many equations and terms there are.
 pub record Heading : Type 0 where
@@ -39,14 +40,14 @@ abbrev pub Packed : List Text → Type 0
 Packed words = map (name_of 8) (map word_of words) ≡ words
 
 -- Names in their words of the table.
-pub record NamesLeft (named : ℕ) (table table' : List ℕ) (v : ℕ) (words : List Text) : Type 0 where
+pub record NamesLeft (named : ℕ) (table table' : List ℕ) (words : List Text) : Type 0 where
   pub counted : length words ≡ named
   pub packed : Packed words
   pub laid : table' ≡ laid_at 4 (map word_of words) table
 
-pub record NamesRead (text : Text) (named : ℕ) (table table' : List ℕ) (r : Progress) : Type 0 where
+pub record NamesRead (text : Text) (named : ℕ) (table table' : List ℕ) (r : Result ℕ BadLine) : Type 0 where
   pub tabled : Within 140 table table'
-  pub came : Comes text (lines take_name named [] 2 text) (λ words. 2 + named) (NamesLeft named table table') r
+  pub came : Passes text (lines take_name named [] 2 text) (λ words. 2 + named) (NamesLeft named table table') r
 
 -- The counts, after any so many names; the number of terms is returned.
 pub record CountsLeft (n : ℕ) (words : List Text) (table table' : List ℕ) (v : ℕ) (h : Heading) : Type 0 where
@@ -56,7 +57,7 @@ pub record CountsLeft (n : ℕ) (words : List Text) (table table' : List ℕ) (v
   pub counted : h.terms ≤ 96
   pub laid : table' ≡ laid_at 0 (n ∷ h.equations ∷ h.terms ∷ []) table
 
-pub record CountsRead (text : Text) (named : ℕ) (table table' : List ℕ) (r : Progress) : Type 0 where
+pub record CountsRead (text : Text) (named : ℕ) (table table' : List ℕ) (r : Result (Taken ℕ) BadLine) : Type 0 where
   pub tabled : Within 140 table table'
   pub came : (words : List Text) → Comes text (head_counts words (2 + named) text) (λ h. 4 + named) (CountsLeft named words table table') r
 
@@ -69,10 +70,10 @@ pub record HeadLeft (table table' : List ℕ) (v : ℕ) (h : Heading) : Type 0 w
   pub counted : h.terms ≤ 96
   pub laid : table' ≡ with_counts h.words h.equations h.terms table
 
-pub record HeadRead (text : Text) (table table' : List ℕ) (r : Progress) : Type 0 where
+pub record HeadRead (text : Text) (table table' : List ℕ) (r : Result (Taken ℕ) BadLine) : Type 0 where
   pub tabled : Within 140 table table'
   pub came : Comes text (head_text text) (λ h. 4 + length h.words) (HeadLeft table table') r
 
 -- A table that is too short is refused as if the first line were bad, and stays as it was.
-abbrev pub HeadGiven : Text → (table table' : List ℕ) → Progress → Type 0
-HeadGiven text table table' r = Roomed (140 ≤ length table) (HeadRead text table table' r) ((r ≡ Bad (flaw_for at_first) 1) × (table' ≡ table))
+abbrev pub HeadGiven : Text → (table table' : List ℕ) → Result (Taken ℕ) BadLine → Type 0
+HeadGiven text table table' r = Roomed (140 ≤ length table) (HeadRead text table table' r) ((r ≡ refusal (flaw_for at_first) 1) × (table' ≡ table))

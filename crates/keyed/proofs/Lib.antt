@@ -13,5 +13,5 @@ pub mod NumberLines
 pub mod NameLines
 -- name_number-three, is_free-held, isFree-new: a name is free if it is none of the earlier ones and none of three words
 pub mod Freedom
--- walk-unique, number-unique, name-unique: any two results that meet a promise are equal
+-- bad-unique, number-unique, name-unique: any two results that meet a promise are equal
 pub mod Uniqueness

@@ -12,27 +12,26 @@ ghost use Rattle.keyed.specs.Ends.{ended_from};
 
 use faults::Flaw;
 use words::literals::sign_at;
-use words::{Step, stuck_at};
+use words::{Reading, Stuck, Taken, shifted};
 
-// How far reading has come: past some lines, with the number or the packed name that a single one holds, and how many bytes they
-// took; or the fault of a line with its column, and the line's number.
-#[derive(Clone, Copy)]
-pub enum Progress {
-    To(u64, usize),
-    Bad(Flaw, usize),
+// The fault of a line with its column, and the line's number.
+#[derive(Clone, Copy, Debug, PartialEq, Eq)]
+pub struct BadLine {
+    pub flaw: Flaw,
+    pub line: usize,
 }
 
 // What was read from a place of the text on, as the last thing of its line: the step goes past the LF.
-fn at_end(text: &[u8], at: usize, s: Step) -> Step
-    requires { at + step_place s < 2 ^ 64 }
-    ensures { result ≡ ended_from text.now at s }
+fn at_end(text: &[u8], at: usize, read: Reading<u64>) -> Reading<u64>
+    requires { at + step_place read < 2 ^ 64 }
+    ensures { result ≡ ended_from text.now at read }
 {
-    let Step::To(value, bytes) = s else {
-        return Step::Stuck(at + stuck_at(s));
-    };
-    let next = at + bytes;
+    let Taken { value, bytes: next } = shifted(read, at)?;
     if !sign_at(text, next, b'\n') {
-        return Step::Stuck(next);
+        return Err(Stuck { after: next });
     }
-    Step::To(value, next + 1)
+    Ok(Taken {
+        value,
+        bytes: next + 1,
+    })
 }

@@ -7,23 +7,21 @@ ghost use Rattle.words.specs.Steps.{Steps};
 ghost use Rattle.keyed.specs.Ends.{placed_after};
 ghost use Rattle.keyed.specs.Walks.{Walks};
 
-use crate::{Progress, at_end};
+use crate::{BadLine, at_end};
 use faults::{Fault, flaw_after};
 use words::literals::read_literal;
 use words::names::{find_name, read_word};
-use words::{Step, stuck_at};
+use words::{Reading, Taken};
 
 // The bytes of `name=`.
 const KEY_BYTES: usize = 5;
 
 // A name after `name=`, packed.
-fn read_name_line(text: &[u8]) -> Step
+fn read_name_line(text: &[u8]) -> Reading<u64>
     ensures { Steps (λ w. placed_after 5 text.now (name_of 8 w)) text.now result (name_line text.now) }
 {
-    let start = read_literal(text, b"name=");
-    let Step::To(_, at) = start else {
-        return start;
-    };
+    let key = read_literal(text, b"name=")?;
+    let at = key.bytes;
     at_end(text, at, read_word(&text[at..]))
 }
 
@@ -39,16 +37,20 @@ fn is_free(names: &[u64], w: u64) -> bool
 }
 
 // One name more, after those that were given before it.
-pub fn take_name(text: &[u8], line: usize, names: &[u64]) -> Progress
+pub fn take_name(text: &[u8], line: usize, names: &[u64]) -> Result<Taken<u64>, BadLine>
     ensures { Walks (λ w. map (name_of 8) names.now ++ (name_of 8 w ∷ [])) text.now (suc line) result
         (one_line (take_name (map (name_of 8) names.now)) line text.now) }
 {
-    let step = read_name_line(text);
-    let Step::To(w, took) = step else {
-        return Progress::Bad(flaw_after(text, Fault::Form, stuck_at(step)), line);
+    let name = match read_name_line(text) {
+        Ok(name) => name,
+        Err(stuck) => {
+            let flaw = flaw_after(text, Fault::Form, stuck.after);
+            return Err(BadLine { flaw, line });
+        }
     };
-    if !is_free(names, w) {
-        return Progress::Bad(flaw_after(text, Fault::Name, KEY_BYTES), line);
+    if !is_free(names, name.value) {
+        let flaw = flaw_after(text, Fault::Name, KEY_BYTES);
+        return Err(BadLine { flaw, line });
     }
-    Progress::To(w, took)
+    Ok(name)
 }

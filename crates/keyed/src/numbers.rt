@@ -7,21 +7,19 @@ ghost use Rattle.words.specs.Steps.{Steps};
 ghost use Rattle.keyed.specs.Ends.{placed_after};
 ghost use Rattle.keyed.specs.Numbers.{between, NumberTo};
 
-use crate::{Progress, at_end};
+use crate::{BadLine, at_end};
 use faults::{Fault, flaw_after};
 use words::literals::read_literal;
 use words::numbers::read_number;
-use words::{Step, stuck_at};
+use words::{Reading, Taken};
 
 // A number after this key.
-fn read_count(text: &[u8], key: &[u8]) -> Step
+fn read_count(text: &[u8], key: &[u8]) -> Reading<u64>
     ensures { Steps (placed_after (length key.now) text.now) text.now result
         (count_line key.now text.now) }
 {
-    let start = read_literal(text, key);
-    let Step::To(_, at) = start else {
-        return start;
-    };
+    let start = read_literal(text, key)?;
+    let at = start.bytes;
     at_end(text, at, read_number(&text[at..]))
 }
 
@@ -33,16 +31,20 @@ pub fn take_number(
     low: u64,
     below: u64,
     fault: Fault,
-) -> Progress
+) -> Result<Taken<u64>, BadLine>
     ensures { NumberTo text.now line below result
         (one_line (take_number key.now (between low below) (fault_of fault)) line text.now) }
 {
-    let step = read_count(text, key);
-    let Step::To(n, took) = step else {
-        return Progress::Bad(flaw_after(text, Fault::Form, stuck_at(step)), line);
+    let number = match read_count(text, key) {
+        Ok(number) => number,
+        Err(stuck) => {
+            let flaw = flaw_after(text, Fault::Form, stuck.after);
+            return Err(BadLine { flaw, line });
+        }
     };
-    if n < low || below <= n {
-        return Progress::Bad(flaw_after(text, fault, key.len()), line);
+    if number.value < low || below <= number.value {
+        let flaw = flaw_after(text, fault, key.len());
+        return Err(BadLine { flaw, line });
     }
-    Progress::To(n, took)
+    Ok(number)
 }

@@ -3,7 +3,7 @@
 pub mod Items
 -- said-faults, Tallied, tallied-none, tallied-more: a tally, entry by entry, against the faults of the whole list
 pub mod Tallied
--- said-went, said-stays, said-went-on, said-stays-on, part-seen, pair-seen, rule-seen: entries as what they say
+-- said-within, said-moved, part-seen, pair-seen, rule-seen: entries as what they say
 pub mod Seen
 -- Progress, begun, list-stuck, list-ends, list-goes-on: the loop over the entries of a list
 pub mod Gathered

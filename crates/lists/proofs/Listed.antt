@@ -22,9 +22,9 @@ use Rattle.lists.specs.Tallies.{Said, all_faults}
 use Rattle.lists.specs.Entries.{name_entry, pair_entry, rule_entry, label_entry, entry_of, with_few}
 use Rattle.lists.specs.Lists.{list_faults, weight_for, limit_for, word_count, entry_words, Short}
 use Rattle.lists.specs.Lists.{list_words, set_from, overlaid, takes_none, whole_list, ListRead}
-use Rattle.lists.specs.declared.SaidStep.{SaidStep}
-use Rattle.lists.specs.declared.SaidStep.TheVariants as S
-use Rattle.faults.specs.declared.Found.TheVariants.{Fine}
+use Rattle.std.specs.Prelude.{None, Ok, Err}
+use Rattle.words.specs.Steps.{Reading}
+use Rattle.lists.specs.declared.Said as C
 use Rattle.lists.specs.declared.ListKind.{ListKind}
 use Rattle.lists.specs.declared.ListKind.TheVariants.{Names, Pairs, Rules, Labels}
 use Rattle.lists.proofs.Seen.{said_same}
@@ -215,7 +215,7 @@ rest-within (c ∷ w) (b ∷ line) h = let k = rest-within w line (and-true→ (
 
 pub none_read : (kind : ListKind) (line : Text) (store : List ℕ) {none : Label} → none ≡ packed 0
     → (takes_none kind && is_rest (ascii "none") line) ≡ true
-    → ListRead kind line (past [] (drop 4 line)) store store (S.To (record { fault = Fine; first = none; second = 0 }) 4)
+    → ListRead kind line (past [] (drop 4 line)) store store (Ok (record { value = record { fault = None; first = none; second = 0 }; bytes = 4 }))
 none_read kind line store e h =
     record {
       read =
@@ -230,12 +230,12 @@ none_read kind line store e h =
     }
 
 -- More names than a description has.
-pub many_read : (kind : ListKind) (line : Text) (before after : List ℕ) → ListRead kind line (stuck line) before after (S.Stuck 0)
+pub many_read : (kind : ListKind) (line : Text) (before after : List ℕ) → ListRead kind line (stuck line) before after (Err (record { after = 0 }))
 many_read kind line before after =
     record { read = record { stands = record { says = refl; within = omega arith } }; stored = λ es p h. absurd (not-read refl h) }
 
 -- A list at a place of the line, with few enough names.
-pub list-there : (names : List ℕ) (kind : ListKind) (line : Text) (at : ℕ) {before after : List ℕ} {r : SaidStep}
+pub list-there : (names : List ℕ) (kind : ListKind) (line : Text) (at : ℕ) {before after : List ℕ} {r : Reading C.Said}
     → length names ≤ 24
     → at ≤ length line
     → ListRead kind (rest_at line at) (with_few names (whole_list (map (name_of 8) names) kind (rest_at line at)) (rest_at line at)) before after r

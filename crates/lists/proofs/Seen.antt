@@ -7,7 +7,7 @@ use mathlib.Core.Bool.{Bool, true, false}
 use native.Mathlib.Omega.{arith}
 use borrow.Author.Tests.{leb-true, leb-false, le-leb, lt-leb}
 use lib.Dec.{leb, ltb}
-use lib.ListN.{length, drop, length-drop, length-map}
+use lib.ListN.{length, drop, length-map}
 use Rattle.meaning.specs.Bytes.{Text}
 use Rattle.meaning.specs.Answers.{name, amount}
 use Rattle.table.specs.Decoded.{name_of}
@@ -15,46 +15,20 @@ use Rattle.grammar.specs.Text.{Past, past, stuck, onward, Placed, placed, litera
 use Rattle.grammar.specs.Forms.{Parts, part, label, pair, rule, colon, greater}
 use Rattle.grammar.specs.Faults.{Found, worse, unless, name_number, name_fault, actions}
 use Rattle.lists.specs.Tallies.{Said}
-use Rattle.words.specs.Steps.{Stands}
-use Rattle.words.proofs.Steps.{stops, rest_at, rest-drop, shifted}
-use Rattle.lists.specs.Sides.{with_right, right_side, Sided, two_or_more, Enough}
-use Rattle.lists.specs.declared.SaidStep.{SaidStep}
-use Rattle.lists.specs.declared.SaidStep.TheVariants as S
+use Rattle.words.specs.Steps.{Reading, step_place, Steps, shifted_step}
+use Rattle.words.proofs.Steps.{rest_at, moved, went_within}
+use Rattle.lists.specs.Sides.{with_right, right_side, two_or_more}
 use Rattle.lists.specs.declared.Said as C
-use Rattle.lists.specs.Entries.{said_place, said_of, Says, seen, part_said, name_entry, label_entry, pair_entry, rule_entry}
+use Rattle.lists.specs.Entries.{said_of, Says, seen, part_said, name_entry, label_entry, pair_entry, rule_entry}
 
--- What is read off an entry that was stuck is where it was.
-pub said-stuck-there : {r : SaidStep} {p q : ℕ} → r ≡ S.Stuck p → q ≡ said_place r → r ≡ S.Stuck q
-said-stuck-there e f = e ∙ ap S.Stuck (sym (f ∙ ap said_place e))
-
--- An entry's step taken apart, at the start of a line and at a place in it.
-module _ {line : Text} {r : SaidStep} {due : Past Said} (s : Says line r due) where
-  pub said-went : {e : C.Said} {next : ℕ} → r ≡ S.To e next → Stands line next (past (said_of (length line) e) (drop next line)) due
-  said-went h = rw h at s.stands
-
-  pub said-stays : {p : ℕ} → r ≡ S.Stuck p → Stands line p (stuck (drop p line)) due
-  said-stays h = rw h at s.stands
-
-  -- one that is stuck is the answer of the whole
-  pub said-halted : {p : ℕ} (k : Said → Text → Past Said) → r ≡ S.Stuck p → Says line r (onward due k)
-  said-halted k h = record { stands = rw h (stops k (said-stays h)) }
-
-module _ (form : Text → Past Said) (line : Text) (at : ℕ) {r : SaidStep} (h : at ≤ length line)
+-- A step of an entry that begins at a place of the line: it lies in the line, and is one of it.
+module _ (form : Text → Past Said) (line : Text) (at : ℕ) {r : Reading C.Said} (h : at ≤ length line)
     (s : Says (rest_at line at) r (form (rest_at line at))) where
-  there : Says (drop at line) r (form (drop at line))
-  there = rw (rest-drop line at h) at s
+  pub said_within : at + step_place r ≤ length line
+  said_within = went_within (λ t. said_of (length t)) form line at h s
 
-  pub said-went-on : {e : C.Said} {n : ℕ} → r ≡ S.To e n
-      → Stands line (at + n) (past (said_of (length (drop at line)) e) (drop (at + n) line)) (form (drop at line))
-  said-went-on {e} g = shifted (past (said_of (length (drop at line)) e)) h (said-went there g)
-
-  pub said-stays-on : {p : ℕ} → r ≡ S.Stuck p → Stands line (at + p) (stuck (drop (at + p) line)) (form (drop at line))
-  said-stays-on g = shifted stuck h (said-stays there g)
-
--- The place of a step of the rest lies in the line.
-pub said-within : (line : Text) (at : ℕ) {q : ℕ} {r : SaidStep} {due : Past Said} → at ≤ length line → Says (drop at line) r due → q ≡ said_place r
-    → at + q ≤ length line
-said-within line at h s e = omega (arith, s.stands.within, length-drop at line, e)
+  pub said_moved : {q : Reading C.Said} → q ≡ shifted_step at r → Steps (said_of (length (drop at line))) line q (form (drop at line))
+  said_moved = moved (λ t. said_of (length t)) form line at h s
 
 -- A part, a sign and a second part, the last two read as one.
 module _ {A C D E : Type 0} (make : A → C → D) (say : D → E) (f : A → C → E) (same : (a : A) (c : C) → f a c ≡ say (make a c)) where
@@ -167,22 +141,3 @@ module _ (words : List Text) (s : Text) where
       ∙ carried (label_entry words) (λ l r. right_side words (two_or_more (length s) l) r) (placed label s)
       ∙ carried here (λ l r. right_side words (two_or_more (length s) (label_entry words l)) r) (label s)
       ∙ sides-seen (λ a. two_or_more (length s) (label_entry words (here a))) (λ a w. record { left = a; right = w }) (rule_entry words) rule-same (label s)
-
-pub both-sides : {words : List Text} {line : Text} {left r : SaidStep} {due other : Past Said} → Says line left due → Sided words line left r
-    → onward due (right_side words) ≡ other → Says line r other
-both-sides {words} s t e =
-    record {
-      stands =
-          record { says = t.stands.says ∙ ap (λ d. onward d (right_side words)) s.stands.says ∙ e; within = t.stands.within };
-    }
-
-pub enough-said : {line : Text} {label r : SaidStep} {from : ℕ} {due : Past Said} → Says line label due → Enough label from r
-    → Says line r (onward due (λ l p. past (two_or_more from l) p))
-enough-said {line} {from = from} s t =
-    record {
-      stands =
-          record {
-            says = t.says line ∙ ap (λ d. onward d (λ l p. past (two_or_more from l) p)) s.stands.says;
-            within = rw t.places s.stands.within;
-          };
-    }

@@ -1,6 +1,6 @@
 -- What each kind of entry says, with its names looked up, and what the answer of its reader stands for.
 -- Assumes nothing.
-use Rattle.std.specs.Prelude.{List, ℕ, ◌+◌, ◌*◌, ◌^◌, ◌<◌, min, leb, length, drop}
+use Rattle.std.specs.Prelude.{List, ℕ, ◌+◌, ◌*◌, ◌^◌, ◌<◌, min, leb, length}
 use Rattle.meaning.specs.Bytes.{Text}
 use Rattle.meaning.specs.Rounds.{pick}
 use Rattle.grammar.specs.Text.{Past, past, stuck, onward, Placed, placed, word}
@@ -8,29 +8,18 @@ use Rattle.grammar.specs.Forms.{Part, Parts, WordPair, WordRule, label, pair, ru
 use Rattle.grammar.specs.Faults.{Found, fine, fault, name_number, name_fault, part_item, pair_fault, rule_fault, actions, label_fault, number_said}
 use Rattle.labels.specs.Packing.{code}
 use Rattle.faults.specs.CodedFaults.{found_of}
-use Rattle.words.specs.Steps.{Stands}
+use Rattle.words.specs.Steps.{Reading, Steps}
 use Rattle.lists.specs.Tallies.{Said}
 use Rattle.lists.specs.declared.Said as C
-use Rattle.lists.specs.declared.SaidStep.{SaidStep}
-use Rattle.lists.specs.declared.SaidStep.TheVariants as S
 use Rattle.lists.specs.declared.ListKind.{ListKind}
 use Rattle.lists.specs.declared.ListKind.TheVariants.{Names, Pairs, Rules, Labels}
 
--- An entry that was read, with its fault and its numbers.
-abbrev pub said_place : SaidStep → ℕ
-said_place (S.To e next) = next
-said_place (S.Stuck next) = next
-
--- it begins where the text does that its reader is lent
+-- An entry that was read, with its fault and its numbers: it begins where the text does that its reader is lent.
 abbrev pub said_of : (from : ℕ) → C.Said → Said
 said_of from e = record { found = found_of e.fault; first = code e.first; second = e.second; from = from }
 
-abbrev pub said_step : Text → SaidStep → Past Said
-said_step line (S.To e next) = past (said_of (length line) e) (drop next line)
-said_step line (S.Stuck next) = stuck (drop next line)
-
-pub record Says (line : Text) (r : SaidStep) (due : Past Said) : Type 0 where
-  pub stands : Stands line (said_place r) (said_step line r) due
+abbrev pub Says : Text → Reading C.Said → Past Said → Type 0
+Says line r due = Steps (said_of (length line)) line r due
 
 -- an item, as what it says
 abbrev pub seen : {A : Type 0} → (A → Said) → (Text → Past A) → Text → Past Said

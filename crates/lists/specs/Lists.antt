@@ -8,7 +8,8 @@ use Rattle.grammar.specs.Forms.{comma}
 use Rattle.grammar.specs.Faults.{Found}
 use Rattle.lists.specs.Tallies.{Said, all_faults}
 use Rattle.lists.specs.Entries.{Says, entry_of}
-use Rattle.lists.specs.declared.SaidStep.{SaidStep}
+use Rattle.words.specs.Steps.{Reading}
+use Rattle.lists.specs.declared.Said as C
 use Rattle.lists.specs.declared.ListKind.{ListKind}
 use Rattle.lists.specs.declared.ListKind.TheVariants.{Names, Pairs, Rules, Labels}
 
@@ -89,6 +90,6 @@ abbrev pub whole_list : List Text → ListKind → Text → Past (List Said)
 whole_list words kind s = unless_none (takes_none kind && is_rest (ascii "none") s) s (list_of words kind s)
 
 -- A list that is read: its fault and its number of entries, and its words over the start of the store.
-pub record ListRead (kind : ListKind) (line : Text) (due : Past (List Said)) (before after : List ℕ) (r : SaidStep) : Type 0 where
+pub record ListRead (kind : ListKind) (line : Text) (due : Past (List Said)) (before after : List ℕ) (r : Reading C.Said) : Type 0 where
   pub read : Says line r (onward due (λ es p. past (list_entry (length line) kind es) p))
   pub stored : (es : List Said) (p : Text) → past es p ≡ due → after ≡ overlaid (list_words kind es) before

@@ -1,15 +1,12 @@
 -- Entries of two sides, as the code reads them: the left one first.
 -- Assumes nothing.
-use Rattle.std.specs.Prelude.{◌≡◌, List, ℕ, leb}
+use Rattle.std.specs.Prelude.{List, ℕ, leb}
 use Rattle.meaning.specs.Bytes.{Text}
 use Rattle.meaning.specs.Answers.{amount}
 use Rattle.grammar.specs.Text.{Past, past, onward, Placed, placed, byte, word}
 use Rattle.grammar.specs.Forms.{greater}
 use Rattle.grammar.specs.Faults.{worse, unless, name_number, name_fault}
 use Rattle.lists.specs.Tallies.{Said}
-use Rattle.words.specs.Steps.{Stands}
-use Rattle.lists.specs.Entries.{said_place, said_step}
-use Rattle.lists.specs.declared.SaidStep.{SaidStep}
 
 -- The left side of an entry, as what it says, with the name on its right.
 abbrev pub with_right : List Text → Said → Placed Text → Said
@@ -19,14 +16,7 @@ with_right words l w =
 abbrev pub right_side : List Text → Said → Text → Past Said
 right_side words l s = onward (onward (byte greater s) (λ _ q. placed word q)) (λ w p. past (with_right words l w) p)
 
-pub record Sided (words : List Text) (line : Text) (left r : SaidStep) : Type 0 where
-  pub stands : Stands line (said_place r) (said_step line r) (onward (said_step line left) (right_side words))
-
 -- A rule's left side has at least two actions; else the rule is at fault, at its place.
 abbrev pub two_or_more : (from : ℕ) → Said → Said
 two_or_more from l =
     record { found = worse l.found (unless (leb 2 l.second) amount from); first = l.first; second = l.second; from = l.from }
-
-pub record Enough (label : SaidStep) (from : ℕ) (r : SaidStep) : Type 0 where
-  pub places : said_place r ≡ said_place label
-  pub says : (line : Text) → said_step line r ≡ onward (said_step line label) (λ l p. past (two_or_more from l) p)

@@ -13,7 +13,7 @@ ghost use Rattle.std.specs.Prelude.{◌≤◌, ◌≡◌, ◌&&◌, map, length}
 ghost use Rattle.meaning.specs.Bytes.{ascii};
 ghost use Rattle.table.specs.Decoded.{name_of};
 ghost use Rattle.grammar.specs.Text.{is_rest, placed, word};
-ghost use Rattle.lists.specs.Entries.{said_place, Says, seen, name_entry, entry_of, with_few};
+ghost use Rattle.lists.specs.Entries.{Says, seen, name_entry, entry_of, with_few};
 ghost use Rattle.lists.specs.Starts.{Starting};
 ghost use Rattle.lists.specs.Lists.{list_of, takes_none, whole_list, ListRead};
 
@@ -21,26 +21,20 @@ use crate::dotted::read_label;
 use crate::names::{name_from, starts_of};
 use crate::sides::{read_pair, read_rule};
 use crate::stores::{put_entry, shape_of};
-use faults::{Found, counted, empty_tally};
+use faults::{FaultAt, counted, empty_tally};
 use labels::Label;
 use labels::packing::{label_of, tau};
 use table::NAMES;
 use words::literals::{is_rest, sign_at};
+use words::{Reading, Stuck, Taken, shifted};
 
 // What an entry of a list or a part of a label says: its fault, the number by which it is ordered, as that of a label, since the number of a
 // label takes two words; and a second number.
 #[derive(Clone, Copy)]
 pub struct Said {
-    pub fault: Found,
+    pub fault: Option<FaultAt>,
     pub first: Label,
     pub second: u64,
-}
-
-// An entry that was read and how many bytes it took; or after how many bytes the reading was stuck.
-#[derive(Clone, Copy)]
-pub enum SaidStep {
-    To(Said, usize),
-    Stuck(usize),
 }
 
 // What a list is of.
@@ -52,18 +46,8 @@ pub enum ListKind {
     Labels,
 }
 
-// After how many bytes the reading of an entry was stuck; of one that was read, how many it took.
-pub fn said_stuck_at(s: SaidStep) -> usize
-    ensures { result ≡ said_place s }
-{
-    match s {
-        SaidStep::To(_, next) => next,
-        SaidStep::Stuck(p) => p,
-    }
-}
-
 // A name: its number among those given.
-pub fn read_name(rest: &[u8], names: &[u64]) -> SaidStep
+pub fn read_name(rest: &[u8], names: &[u64]) -> Reading<Said>
     ensures { Says rest.now result (seen (name_entry (map (name_of 8) names.now)) (placed word) rest.now) }
 {
     let starts = [0u8; 32];
@@ -71,7 +55,7 @@ pub fn read_name(rest: &[u8], names: &[u64]) -> SaidStep
 }
 
 // An entry of a list of that kind.
-fn read_entry(kind: ListKind, rest: &[u8], names: &[u64], starts: &[u8; 32]) -> SaidStep
+fn read_entry(kind: ListKind, rest: &[u8], names: &[u64], starts: &[u8; 32]) -> Reading<Said>
     requires { (length names.now ≤ 24) × Starting names.now starts.now }
     ensures { Says rest.now result (entry_of (map (name_of 8) names.now) kind rest.now) }
 {
@@ -85,7 +69,7 @@ fn read_entry(kind: ListKind, rest: &[u8], names: &[u64], starts: &[u8; 32]) -> 
 
 // One entry or more, with a comma between two. Each is counted, and its words are put behind those of the entries before it. Where each
 // letter's names start is looked up once the list is long enough to be worth it.
-fn read_list(kind: ListKind, rest: &[u8], names: &[u64], store: &mut [u64]) -> SaidStep
+fn read_list(kind: ListKind, rest: &[u8], names: &[u64], store: &mut [u64]) -> Reading<Said>
     requires { length names.now ≤ 24 }
     ensures { ListRead kind rest.now (list_of (map (name_of 8) names.now) kind rest.now)
         store.old store.new result }
@@ -101,31 +85,28 @@ fn read_list(kind: ListKind, rest: &[u8], names: &[u64], store: &mut [u64]) -> S
             starts = starts_of(names);
         }
         let entry = read_entry(kind, &rest[from..], names, &starts);
-        let SaidStep::To(said, bytes) = entry else {
-            return SaidStep::Stuck(from + said_stuck_at(entry));
-        };
-        let next = from + bytes;
-        let fault = said.fault;
+        let Taken {
+            value: said,
+            bytes: next,
+        } = shifted(entry, from)?;
         tally = counted(
             tally,
-            fault,
+            said.fault,
             said.first,
             shape.weight,
             shape.limit,
             rest.len() - from,
         );
-        let key = said.first;
-        put_entry(kind, store, index, key, said.second);
+        put_entry(kind, store, index, said.first, said.second);
         index += shape.size;
         entries += 1;
         if !sign_at(rest, next, b',') {
-            let found = tally.fault;
-            let list = Said {
-                fault: found,
+            let value = Said {
+                fault: tally.fault,
                 first: label_of(entries),
                 second: 0,
             };
-            return SaidStep::To(list, next);
+            return Ok(Taken { value, bytes: next });
         }
         from = next + 1;
     }
@@ -142,21 +123,21 @@ fn is_none(kind: ListKind, rest: &[u8]) -> bool
 }
 
 // A list as it stands in a line: `none` is the list of no labels. With more names than a description has nothing is read.
-pub fn read_whole(kind: ListKind, rest: &[u8], names: &[u64], store: &mut [u64]) -> SaidStep
+pub fn read_whole(kind: ListKind, rest: &[u8], names: &[u64], store: &mut [u64]) -> Reading<Said>
     ensures { ListRead kind rest.now
         (with_few names.now (whole_list (map (name_of 8) names.now) kind rest.now) rest.now)
         store.old store.new result }
 {
     if NAMES < names.len() {
-        return SaidStep::Stuck(0);
+        return Err(Stuck { after: 0 });
     }
     if is_none(kind, rest) {
-        let none = Said {
-            fault: Found::Fine,
+        let value = Said {
+            fault: None,
             first: tau(),
             second: 0,
         };
-        return SaidStep::To(none, 4);
+        return Ok(Taken { value, bytes: 4 });
     }
     read_list(kind, rest, names, store)
 }

@@ -1,7 +1,7 @@
 -- The laws that the proofs of this crate's functions cite; each file after those that it cites.
--- labels-stuck, labels-on, labels-taken, all-within, all-taken, order-stuck, order-passed, order-become: the form of the order's line
+-- labels-within, labels-stuck, labels-on, labels-taken, all-within, all-taken, order-stuck, order-passed, order-become: the form of the order's line
 pub mod OrderForms
--- order-stuck-there, order-formless, order-faulty, order-came: what `take_order` gives, by the line's form and its fault
+-- order-formless, order-faulty, order-came: what `take_order` gives, by the line's form and its fault
 pub mod OrderLines
 -- refused-walked, refused-first, names-over, line-over, order-there, order-bad, order-short, order-whole: the line as a text's only one;
 -- end-kept, end-cleared, end-front: the words after it

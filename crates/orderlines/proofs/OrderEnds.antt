@@ -3,39 +3,42 @@
 use mathlib.Core.Path.{◌≡◌, refl, sym, ap, subst, ◌∙◌}
 use mathlib.Core.Bool.{Bool, true, false, ◌&&◌}
 use mathlib.Core.List.{List, [], ◌∷◌, ◌++◌, map}
-use Prim.Native.Nat.{ℕ, zero, suc, ◌+◌, ◌≤◌, ◌<◌}
+use Prim.Native.Nat.{ℕ, zero, suc, ◌+◌, ◌≤◌, ◌<◌, min}
 use native.Mathlib.Omega.{arith}
 use native.Mathlib.Numerals.{add-one}
 use lib.Dec.{leb, ltb}
 use lib.ListN.{length, take, drop, length-map, drop_of_length-le, take-append-drop}
 use borrow.Author.Tests.{lt-ltb, le-ltb, le-leb, lt-leb}
+use Rattle.std.specs.Prelude.{Result, Ok, Err, OnErr, is_err}
 use Rattle.meaning.specs.Bytes.{Text}
 use Rattle.meaning.specs.Labels as L
 use Rattle.meaning.specs.Descriptions as D
 use Rattle.areas.specs.Areas.{zeroed}
 use Rattle.areas.proofs.Held.{length-in_words}
+use Rattle.table.specs.declared.Order.{Order}
 use Rattle.table.specs.Decoded.{name_of}
 use Rattle.table.specs.Encoded.{filled, order_words}
 use Rattle.table.proofs.Fillings.{zeroed-filled}
 use Rattle.grammar.specs.Text.{Past, past, stuck}
 use Rattle.grammar.specs.Forms.{OrderLine, all, only, order_line}
 use Rattle.grammar.specs.Faults.{Found, fine, fault, label_said, order_said, order_fault}
-use Rattle.grammar.specs.Reading.{Taken, taken, faulty, taken_unless, formed, take_order, Walk, reached, halted, at_first, after_line}
+use Rattle.grammar.specs.Reading as M
+use Rattle.grammar.specs.Reading.{taken, faulty, taken_unless, formed, take_order, Walk, reached, halted, at_first, after_line}
 use Rattle.faults.specs.CodedFaults.{flaw_of}
-use Rattle.faults.specs.declared.Flaw as F
+use Rattle.faults.specs.declared.Flaw.{Flaw}
 use Rattle.words.proofs.Rests.{rest-cons}
+use Rattle.keyed.specs.Walks.{refusal}
 use Rattle.lists.proofs.Contents.{labels-few}
 use Rattle.lists.specs.Lists.{overlaid}
-use Rattle.orderlines.specs.Orders.{refusal, nothing_after, order_first, form_if, order_last, OrderWalks, OrderWalked, ZeroAfter, OrderEnd}
-use Rattle.keyed.specs.declared.Progress.{Progress}
-use Rattle.keyed.specs.declared.Progress.TheVariants.{To, Bad}
-use Rattle.orderlines.specs.declared.Ordered.{Ordered}
+use Rattle.orderlines.specs.Orders.{nothing_after, order_first, form_if, order_last, OrderWalks, OrderWalked, OrderEnd}
+use Rattle.words.specs.declared.Taken.{Taken}
+use Rattle.keyed.specs.declared.BadLine.{BadLine}
 
-module _ {text : Text} {line : ℕ} {due : Walk D.Order} {before after : List ℕ} {f : F.Flaw} {l : ℕ} {r : Ordered} (e : r ≡ refusal f l) where
-  pub refused-walked : halted (flaw_of f) l ≡ due → l ≤ suc line → OrderWalked text line due before after r
-  refused-walked q h = rw e (record { came = record { says = q; low = h; none = refl } })
+module _ {text : Text} {line : ℕ} {due : Walk D.Order} {before after : List ℕ} {f : Flaw} {l : ℕ} where
+  pub refused-walked : halted (flaw_of f) l ≡ due → l ≤ suc line → OrderWalked text line due before after (refusal f l)
+  refused-walked q h = record { came = record { says = q; low = h } }
 
-  pub refused-first : flaw_of f ≡ at_first → halted at_first l ≡ due → l ≤ suc line → OrderWalked text line due before after r
+  pub refused-first : flaw_of f ≡ at_first → halted at_first l ≡ due → l ≤ suc line → OrderWalked text line due before after (refusal f l)
   refused-first g q h = refused-walked (ap (λ w. halted w l) g ∙ q) h
 
 -- The line as the text's only one, by its number and the names.
@@ -53,50 +56,60 @@ module _ (names : List ℕ) (line : ℕ) (text : Text) where
     unfolding order_last
     order-there h = rw (le-leb (length names) 24 few, lt-ltb line 18446744073709551615 h)
 
-module _ {text : Text} {line : ℕ} {first last : Walk D.Order} (there : nothing_after first ≡ last) {before after : List ℕ} {r : Ordered}
-    (w : OrderWalked text line first before after r) where
-  pub order-bad : {f : F.Flaw} {l : ℕ} → r.progress ≡ Bad f l → OrderWalked text line last before after r
-  order-bad e =
-      let k = rw e at w.came in
-      record { came = rw e (record { says = ap nothing_after k.says ∙ there; low = k.low; none = k.none }) }
+module _ {text : Text} {line : ℕ} {first last : Walk D.Order} (there : nothing_after first ≡ last) {before after : List ℕ}
+    {r : Result (Taken Order) BadLine} (w : OrderWalked text line first before after r) where
+  pub order-bad : {b : BadLine} → r ≡ Err b → OrderWalked text line last before after (Err b)
+  order-bad e = let k = rw e at w.came in record { came = record { says = ap nothing_after k.says ∙ there; low = k.low } }
 
-  module _ {v end : ℕ} (e : r.progress ≡ To v end) where
-    pub order-short : end < length text → halted at_first (line + 1) ≡ last
+  module _ {t : Taken Order} (e : r ≡ Ok t) where
+    pub order-short : t.bytes < length text → halted at_first (line + 1) ≡ last
     order-short h =
         let k = rw e at w.came in
-        let s = rw (rest-cons text end h) at (ap nothing_after k.says) in
+        let s = rw (rest-cons text t.bytes h) at (ap nothing_after k.says) in
         rw add-one (s ∙ there)
 
-    pub order-whole : length text ≤ end → OrderWalked text line last before after r
+    pub order-whole : length text ≤ t.bytes → OrderWalked text line last before after (Ok t)
     order-whole h =
         let k = rw e at w.came in
         let s = rw (drop_of_length-le text h) at (ap nothing_after k.says) in
         record {
-          came = rw e (record {
-            plain = k.plain;
+          came = record {
             order = k.order;
             says = rw (drop_of_length-le text h) (s ∙ there);
             within = k.within;
             kept = k.kept;
             stored = k.stored;
-          });
+          };
         }
 
 -- The words that are lent, where these are no more than a list has: as the line left them, or 0.
-module _ {text : Text} {line : ℕ} {names before left : List ℕ} {r : Ordered} (w : OrderWalked text line (order_last names line text) before left r) where
-  pub end_kept : {v took : ℕ} → r.progress ≡ To v took → OrderEnd text line names before left r
-  end_kept e = record { walked = w; cleared = rw e tt }
+module _ {text : Text} {line : ℕ} {names before left : List ℕ} {r : Result (Taken Order) BadLine}
+    (w : OrderWalked text line (order_last names line text) before left r) where
+  pub end_kept : is_err r ≡ false → OrderEnd text line names before left r
+  end_kept e = record { walked = w; cleared = none-bad r e }
+    where
+      none-bad : (r : Result (Taken Order) BadLine) → is_err r ≡ false → OnErr r (left ≡ zeroed 64 before)
+      none-bad (Ok t) e = tt
+      none-bad (Err b) e = let z : ◌≡◌ {A = ℕ} 0 1 = cc in absurd (omega arith)
 
-  pub end-cleared : {after : List ℕ} {f : F.Flaw} {l : ℕ} → length before ≤ 64 → length left ≡ length before → after ≡ zeroed 64 left
-      → r.progress ≡ Bad f l → OrderEnd text line names before after r
-  end-cleared {after} h s z e =
-      let k = rw e at w.came in
-      let zeros : after ≡ zeroed 64 before =
-      z ∙ zeroed-filled 64 left (omega arith) ∙ ap (λ n. filled n 0 []) s ∙ sym (zeroed-filled 64 before h) in
-      record { walked = record { came = rw e (record { says = k.says; low = k.low; none = k.none }) }; cleared = rw e zeros }
+  pub end-cleared : {after : List ℕ} → length before ≤ 64 → length left ≡ length before → after ≡ zeroed 64 left → is_err r ≡ true
+      → OrderEnd text line names before after r
+  end-cleared {after} h s z e = record { walked = record { came = bad r e w.came }; cleared = on-bad r }
+    where
+      zeros : after ≡ zeroed 64 before
+      zeros = z ∙ zeroed-filled 64 left (omega arith) ∙ ap (λ n. filled n 0 []) s ∙ sym (zeroed-filled 64 before h)
+
+      bad : (r : Result (Taken Order) BadLine) → is_err r ≡ true → OrderWalks text line (order_last names line text) before left r
+          → OrderWalks text line (order_last names line text) before after r
+      bad (Ok t) e k = let z : ◌≡◌ {A = ℕ} 0 1 = cc in absurd (omega arith)
+      bad (Err b) e k = k
+
+      on-bad : (r : Result (Taken Order) BadLine) → OnErr r (after ≡ zeroed 64 before)
+      on-bad (Ok t) = tt
+      on-bad (Err b) = zeros
 
 -- An order has at most 64 words: those of 32 labels.
-abbrev FewTaken : Taken D.Order → Type 0
+abbrev FewTaken : M.Taken D.Order → Type 0
 FewTaken (taken o rest) = length (order_words o) ≤ 64
 FewTaken (faulty f from) = Unit {0}
 
@@ -123,7 +136,7 @@ few-taken : (words : List Text) (text : Text) → FewTaken (take_order words tex
 unfolding take_order
 few-taken words text = few-formed words (order_line text)
 
-few-after : (line : ℕ) (text : Text) (t : Taken D.Order) → FewTaken t → FewReached (nothing_after (after_line line text t))
+few-after : (line : ℕ) (text : Text) (t : M.Taken D.Order) → FewTaken t → FewReached (nothing_after (after_line line text t))
 few-after line text (taken o []) h = h
 few-after line text (taken o (b ∷ rest)) h = tt
 few-after line text (faulty f from) h = tt
@@ -139,42 +152,43 @@ few-last names line text =
     by-test true w h = h
     by-test false w h = tt
 
--- More words than a list has: the first 64 are lent, and the others stay.
-over-front : (n : ℕ) (ws before : List ℕ) → length ws ≤ n → overlaid ws (take n before) ++ drop n before ≡ overlaid ws before
+-- No more words are lent on than a list has, and the others stay: so many that the words that are laid end among them, or reach the end.
+over-front : (n : ℕ) (ws before : List ℕ) → min (length before) (length ws) ≤ n → overlaid ws (take n before) ++ drop n before ≡ overlaid ws before
 unfolding overlaid
 over-front n [] before h = take-append-drop n before
-over-front zero (w ∷ ws) before h = absurd (omega arith)
+over-front zero (w ∷ ws) [] h = refl
+over-front zero (w ∷ ws) (x ∷ before) h = absurd (omega arith)
 over-front (suc n) (w ∷ ws) [] h = refl
 over-front (suc n) (w ∷ ws) (x ∷ before) h = ap (λ l. w ∷ l) (over-front n ws before (omega arith))
 
-zero-front : (n : ℕ) (ws : List ℕ) → zeroed n (take n ws) ++ drop n ws ≡ zeroed n ws
+zero-front : (n m : ℕ) (ws : List ℕ) → min (length ws) m ≤ n → zeroed m (take n ws) ++ drop n ws ≡ zeroed m ws
 unfolding zeroed
-zero-front zero ws = refl
-zero-front (suc n) [] = refl
-zero-front (suc n) (w ∷ ws) = ap (λ l. 0 ∷ l) (zero-front n ws)
+zero-front n zero ws h = take-append-drop n ws
+zero-front zero (suc m) [] h = refl
+zero-front zero (suc m) (w ∷ ws) h = absurd (omega arith)
+zero-front (suc n) (suc m) [] h = refl
+zero-front (suc n) (suc m) (w ∷ ws) h = ap (λ l. 0 ∷ l) (zero-front n m ws (omega arith))
 
-module _ (text : Text) (line : ℕ) (names before front : List ℕ) (r : Ordered) where
+module _ (text : Text) (line : ℕ) (names before front : List ℕ) (n : ℕ) (far : n ≡ min (length before) 64) where
   abbrev whole : List ℕ
-  whole = front ++ drop 64 before
+  whole = front ++ drop n before
 
-  walks-front : (p : Progress) → OrderWalks text line (order_last names line text) (take 64 before) front r.order p
-      → OrderWalks text line (order_last names line text) before whole r.order p
-  walks-front (To v took) w =
+  walks-front : (r : Result (Taken Order) BadLine) → OrderWalks text line (order_last names line text) (take n before) front r
+      → OrderWalks text line (order_last names line text) before whole r
+  walks-front (Ok t) w =
+      let few = subst FewReached (sym w.says) (few-last names line text) in
       record {
-        plain = w.plain;
         order = w.order;
         says = w.says;
         within = w.within;
         kept = w.kept;
-        stored =
-            ap (λ l. l ++ drop 64 before) w.stored
-            ∙ over-front 64 (order_words w.order) before (subst FewReached (sym w.says) (few-last names line text));
+        stored = ap (λ l. l ++ drop n before) w.stored ∙ over-front n (order_words w.order) before (omega arith);
       }
-  walks-front (Bad f l) w = record { says = w.says; low = w.low; none = w.none }
+  walks-front (Err b) w = w
 
-  zero-whole : (p : Progress) → ZeroAfter p (take 64 before) front → ZeroAfter p before whole
-  zero-whole (To v took) z = tt
-  zero-whole (Bad f l) z = ap (λ l. l ++ drop 64 before) z ∙ zero-front 64 before
+  zero-whole : (r : Result (Taken Order) BadLine) → OnErr r (front ≡ zeroed 64 (take n before)) → OnErr r (whole ≡ zeroed 64 before)
+  zero-whole (Ok t) z = tt
+  zero-whole (Err b) z = ap (λ l. l ++ drop n before) z ∙ zero-front n 64 before (omega arith)
 
-  pub end-front : OrderEnd text line names (take 64 before) front r → OrderEnd text line names before whole r
-  end-front e = record { walked = record { came = walks-front r.progress e.walked.came }; cleared = zero-whole r.progress e.cleared }
+  pub end-front : (r : Result (Taken Order) BadLine) → OrderEnd text line names (take n before) front r → OrderEnd text line names before whole r
+  end-front r e = record { walked = record { came = walks-front r e.walked.came }; cleared = zero-whole r e.cleared }

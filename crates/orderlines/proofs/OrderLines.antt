@@ -1,9 +1,10 @@
 -- What the order's line gives, by its form and its fault.
 -- Assumes nothing.
-use mathlib.Core.Path.{◌≡◌, refl, sym, ap, ◌∙◌}
+use mathlib.Core.Path.{◌≡◌, sym, ap}
 use mathlib.Core.List.{List}
 use Prim.Native.Nat.{ℕ, ◌-◌}
 use lib.ListN.{length, drop}
+use Rattle.std.specs.Prelude.{Option, Some, None}
 use Rattle.meaning.specs.Bytes.{Text}
 use Rattle.meaning.specs.Descriptions as D
 use Rattle.meaning.specs.Answers.{form}
@@ -14,17 +15,9 @@ use Rattle.grammar.specs.Faults.{order_said, order_fault}
 use Rattle.grammar.specs.Reading.{Taken, taken, faulty, taken_unless, formed, take_order, after_line, one_line}
 use Rattle.words.specs.Steps.{Stands}
 use Rattle.faults.specs.CodedFaults.{fault_of}
-use Rattle.faults.specs.declared.Fault as F
-use Rattle.faults.specs.declared.Found as G
-use Rattle.faults.specs.declared.Found.TheVariants.{Fine, Faulty}
-use Rattle.orderlines.specs.Orders.{order_place, OrderTaken, OrderTo}
-use Rattle.orderlines.specs.declared.OrderStep.{OrderStep}
-use Rattle.orderlines.specs.declared.OrderStep.TheVariants as O
+use Rattle.faults.specs.declared.FaultAt.{FaultAt}
+use Rattle.orderlines.specs.Orders.{OrderTaken, OrderTo}
 use Rattle.keyed.proofs.LineFaults.{formed-stuck, found-fine, taken_fine, taken-faulty}
-
--- What is read off a line that was stuck is where it was.
-pub order-stuck-there : {r : OrderStep} {p q : ℕ} → r ≡ O.Stuck p → q ≡ order_place r → r ≡ O.Stuck q
-order-stuck-there e f = e ∙ ap O.Stuck (sym (f ∙ ap order_place e))
 
 module _ (words : List Text) (text : Text) where
   abbrev then-order : OrderLine → Text → Taken D.Order
@@ -34,21 +27,20 @@ module _ (words : List Text) (text : Text) where
   unfolding take_order
   order-formless {p} s = formed-stuck then-order text p s.says
 
-  module _ {before after : List ℕ} {x : Order} {f : G.Found} {took : ℕ} (k : OrderTaken words text (order_line text) before after x f took) where
+  module _ {before after : List ℕ} {x : Order} {f : Option FaultAt} {took : ℕ} (k : OrderTaken words text (order_line text) before after x f took) where
     order-line : then-order k.line (drop took text) ≡ take_order words text
     unfolding take_order
     order-line = ap (λ d. formed d then-order) k.says
 
-    order-fine : f ≡ Fine → taken (order_said words k.line) (drop took text) ≡ take_order words text
+    order-fine : f ≡ None → taken (order_said words k.line) (drop took text) ≡ take_order words text
     order-fine e = taken_fine k.faults (order_said words k.line) (drop took text) order-line e
 
-    pub order-faulty : {g : F.Fault} {from : ℕ} → f ≡ Faulty g from → faulty (fault_of g) from ≡ take_order words text
+    pub order-faulty : {g : FaultAt} → f ≡ Some g → faulty (fault_of g.fault) g.from ≡ take_order words text
     order-faulty e = taken-faulty k.faults (order_said words k.line) (drop took text) order-line e
 
-    pub order-came : (line : ℕ) → f ≡ Fine → OrderTo text line (one_line (take_order words) line text) before after x 0 took
+    pub order-came : (line : ℕ) → f ≡ None → OrderTo text line (one_line (take_order words) line text) before after x took
     order-came line e =
         record {
-          plain = refl;
           order = order_said words k.line;
           says = ap (after_line line text) (order-fine e);
           within = k.within;

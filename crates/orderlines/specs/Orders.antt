@@ -1,11 +1,10 @@
 -- The order's line, which is the last of its text.
 -- Assumes nothing.
-use Rattle.std.specs.Prelude.{◌≡◌, Bool, true, false, ◌&&◌, List, [], ◌∷◌, map, ℕ, suc, ◌≤◌, leb, ltb, length, drop}
+use Rattle.std.specs.Prelude.{◌≡◌, Bool, true, false, ◌&&◌, List, [], ◌∷◌, map, ℕ, suc, ◌≤◌, leb, ltb, length, drop, Option, Result, Ok, Err, OnErr}
 use Rattle.meaning.specs.Bytes.{Text}
 use Rattle.meaning.specs.Descriptions as D
 use Rattle.areas.specs.Areas.{zeroed}
 use Rattle.table.specs.declared.Order.{Order}
-use Rattle.table.specs.declared.Order.TheVariants.{All}
 use Rattle.table.specs.Decoded.{name_of}
 use Rattle.table.specs.Encoded.{order_words, order_for}
 use Rattle.grammar.specs.Text.{Past, past, stuck, onward, ended}
@@ -13,30 +12,19 @@ use Rattle.grammar.specs.Forms.{OrderLine, only, label_list}
 use Rattle.grammar.specs.Faults.{fine, order_said, order_fault}
 use Rattle.grammar.specs.Reading.{Flaw, Walk, reached, halted, at_first, one_line, take_order}
 use Rattle.faults.specs.CodedFaults.{found_of, flaw_of}
-use Rattle.faults.specs.declared.Flaw as F
-use Rattle.faults.specs.declared.Found as G
-use Rattle.words.specs.Steps.{Stands}
+use Rattle.faults.specs.declared.FaultAt.{FaultAt}
+use Rattle.words.specs.Steps.{Reading, Stands}
 use Rattle.lists.specs.Lists.{overlaid}
-use Rattle.keyed.specs.declared.Progress.{Progress}
-use Rattle.keyed.specs.declared.Progress.TheVariants.{To, Bad}
-use Rattle.orderlines.specs.declared.Ordered.{Ordered}
-use Rattle.orderlines.specs.declared.OrderStep.{OrderStep}
-use Rattle.orderlines.specs.declared.OrderStep.TheVariants as O
-
--- after how many bytes a line was stuck; of one that was read, how many it took
-abbrev pub order_place : OrderStep → ℕ
-order_place (O.To x f took) = took
-order_place (O.Stuck p) = p
-
-abbrev pub refusal : F.Flaw → ℕ → Ordered
-refusal f line = record { progress = Bad f line; order = All }
+use Rattle.words.specs.declared.Taken.{Taken}
+use Rattle.keyed.specs.declared.BadLine.{BadLine}
+use Rattle.orderlines.specs.declared.OrderSaid.{OrderSaid}
 
 -- LABELS, and the end of the line
 abbrev pub only_these : Text → Past OrderLine
 only_these s = onward (label_list s) (λ ls q. onward (ended q) (λ _ p. past (only ls) p))
 
 -- The order, the fault of its labels, and their words over the start of those that are lent where there is none.
-pub record OrderTaken (words : List Text) (text : Text) (due : Past OrderLine) (before after : List ℕ) (x : Order) (f : G.Found) (took : ℕ) : Type 0 where
+pub record OrderTaken (words : List Text) (text : Text) (due : Past OrderLine) (before after : List ℕ) (x : Order) (f : Option FaultAt) (took : ℕ) : Type 0 where
   pub line : OrderLine
   pub says : past line (drop took text) ≡ due
   pub within : took ≤ length text
@@ -44,9 +32,9 @@ pub record OrderTaken (words : List Text) (text : Text) (due : Past OrderLine) (
   pub faults : found_of f ≡ order_fault words line
   pub stored : order_fault words line ≡ fine → after ≡ overlaid (order_words (order_said words line)) before
 
-abbrev pub OrderRead : List Text → Text → Past OrderLine → List ℕ → List ℕ → OrderStep → Type 0
-OrderRead words text due before after (O.To x f took) = OrderTaken words text due before after x f took
-OrderRead words text due before after (O.Stuck p) = Stands text p (stuck (drop p text)) due
+abbrev pub OrderRead : List Text → Text → Past OrderLine → List ℕ → List ℕ → Reading OrderSaid → Type 0
+OrderRead words text due before after (Ok t) = OrderTaken words text due before after t.value.order t.value.fault t.bytes
+OrderRead words text due before after (Err p) = Stands text p.after (stuck (drop p.after text)) due
 
 -- Bytes after the last line are a fault of the line that they begin.
 abbrev pub nothing_after : {A : Type 0} → Walk A → Walk A
@@ -67,32 +55,26 @@ unfoldable pub order_last : List ℕ → ℕ → Text → Walk D.Order
 order_last names line text = form_if (leb (length names) 24 && ltb line 18446744073709551615) line (nothing_after (order_first names line text))
 
 -- The order, its labels over the start of the words that are lent.
-pub record OrderTo (text : Text) (line : ℕ) (due : Walk D.Order) (before after : List ℕ) (x : Order) (v took : ℕ) : Type 0 where
-  pub plain : v ≡ 0
+pub record OrderTo (text : Text) (line : ℕ) (due : Walk D.Order) (before after : List ℕ) (x : Order) (took : ℕ) : Type 0 where
   pub order : D.Order
   pub says : reached order (suc line) (drop took text) ≡ due
   pub within : took ≤ length text
   pub kept : x ≡ order_for order
   pub stored : after ≡ overlaid (order_words order) before
 
--- The order is all where a line is bad: its own, or that which bytes after it begin.
-pub record OrderBad (line : ℕ) (due : Walk D.Order) (x : Order) (f : Flaw) (l : ℕ) : Type 0 where
+-- A bad line is its own, or that which bytes after it begin.
+pub record OrderBad (line : ℕ) (due : Walk D.Order) (f : Flaw) (l : ℕ) : Type 0 where
   pub says : halted f l ≡ due
   pub low : l ≤ suc line
-  pub none : x ≡ All
 
-abbrev pub OrderWalks : Text → ℕ → Walk D.Order → List ℕ → List ℕ → Order → Progress → Type 0
-OrderWalks text line due before after x (To v took) = OrderTo text line due before after x v took
-OrderWalks text line due before after x (Bad f l) = OrderBad line due x (flaw_of f) l
+abbrev pub OrderWalks : Text → ℕ → Walk D.Order → List ℕ → List ℕ → Result (Taken Order) BadLine → Type 0
+OrderWalks text line due before after (Ok t) = OrderTo text line due before after t.value t.bytes
+OrderWalks text line due before after (Err b) = OrderBad line due (flaw_of b.flaw) b.line
 
-pub record OrderWalked (text : Text) (line : ℕ) (due : Walk D.Order) (before after : List ℕ) (r : Ordered) : Type 0 where
-  pub came : OrderWalks text line due before after r.order r.progress
+pub record OrderWalked (text : Text) (line : ℕ) (due : Walk D.Order) (before after : List ℕ) (r : Result (Taken Order) BadLine) : Type 0 where
+  pub came : OrderWalks text line due before after r
 
 -- All words that are lent: after a bad line the first 64 are 0, and the others are as they were.
-abbrev pub ZeroAfter : Progress → (before after : List ℕ) → Type 0
-ZeroAfter (To v took) before after = Unit {0}
-ZeroAfter (Bad f l) before after = after ≡ zeroed 64 before
-
-pub record OrderEnd (text : Text) (line : ℕ) (names before after : List ℕ) (r : Ordered) : Type 0 where
+pub record OrderEnd (text : Text) (line : ℕ) (names before after : List ℕ) (r : Result (Taken Order) BadLine) : Type 0 where
   pub walked : OrderWalked text line (order_last names line text) before after r
-  pub cleared : ZeroAfter r.progress before after
+  pub cleared : OnErr r (after ≡ zeroed 64 before)

@@ -5,7 +5,7 @@ pub mod Holdings
 pub mod Wholes
 -- terms-refused, terms-read, head-refused, head-crowded, head-read: what a section leaves with those after it
 pub mod Sequels
--- too-much-stored, rooms, kept-stored, cleared-stored, not-fine: what is left in the areas, by the answer
+-- too-much-stored, rooms, kept-stored, cleared-stored: what is left in the areas, by whether the text was read
 pub mod Stores
 -- never-crowded, read-in-full: where there is room for every text's lists; read-holds: what is left of a text that is read
 pub mod Rooms

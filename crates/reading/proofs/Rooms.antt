@@ -8,6 +8,8 @@ use native.Mathlib.Omega.{arith}
 use lib.Dec.{leb, ltb}
 use lib.ListN.{length, length-append}
 use borrow.Author.Tests.{leb-true, le-leb, le-ltb}
+use Rattle.std.specs.Prelude.{Ok}
+use Rattle.std.proofs.lemmas.Result.{IfOk-at_ok}
 use Rattle.meaning.specs.Bytes.{Text, ascii}
 use Rattle.meaning.specs.Descriptions as D
 use Rattle.meaning.specs.Legal.{Legal}
@@ -28,7 +30,7 @@ use Rattle.sections.specs.Laying.{table_after, lists_over}
 use Rattle.sections.proofs.Joins.{ends-bad, ends_on}
 use Rattle.heads.specs.Heads.{Heading, head_terms, head_counts, head_names, head_text}
 use Rattle.reading.specs.Stored.{comes, crowded, unless_crowded, lines_in, too_much, read_in, read_for, table_for, lists_for, listed_for, Stored}
-use Rattle.reading.specs.declared.Read.{Read}
+use Rattle.table.specs.declared.Order.{Order}
 use Rattle.reading.proofs.Holdings.{table-holds, order-held}
 use Rattle.reading.proofs.Wholes.{on_terms, head-joins}
 use Rattle.reading.proofs.Stores.{rooms}
@@ -166,15 +168,15 @@ lists-fit text room {d} {o} e = by-head (head_text text) refl e
         absurd (omega arith)
 
 -- What is left of a text that is read holds its description and order.
-pub read-holds : {text : Text} {table lists listed table' lists' listed' : List ℕ} {r : Read} {d : D.Description} {o : D.Order}
-    → Stored text table lists listed table' lists' listed' r → read_in text (length table) (length lists) (length listed) ≡ comes (read d o)
-    → Legal d o × Holds d table' lists' × HoldsOrder o r.order listed'
+pub read-holds : {text : Text} {table lists listed table' lists' listed' : List ℕ} {x : Order} {d : D.Description} {o : D.Order}
+    → Stored text table lists listed table' lists' listed' (Ok x) → read_in text (length table) (length lists) (length listed) ≡ comes (read d o)
+    → Legal d o × Holds d table' lists' × HoldsOrder o x listed'
 unfolding read_in read_text
-read-holds {text} {table} {lists} {listed} {table'} {lists'} {listed'} {r} {d} {o} stored e =
+read-holds {text} {table} {lists} {listed} {table'} {lists'} {listed'} {x} {d} {o} stored e =
     by-test (too_much (length text) (length table) (length listed)) refl e
   where
     by-test : (b : Bool) → too_much (length text) (length table) (length listed) ≡ b → pick b (comes overlong) (lines_in (length lists) text) ≡ comes (read d o)
-        → Legal d o × Holds d table' lists' × HoldsOrder o r.order listed'
+        → Legal d o × Holds d table' lists' × HoldsOrder o x listed'
     by-test true q k = let z : ◌≡◌ {A = ℕ} 0 1 = cc in absurd (omega arith)
     by-test false q k =
         let room = rooms (length text) (length table) (length listed) q in
@@ -187,7 +189,7 @@ read-holds {text} {table} {lists} {listed} {table'} {lists'} {listed'} {r} {d} {
           legal,
           rw (t, l) (table-holds d o legal table lists room.0 fit.1),
           record {
-            ordered = ap (λ x. x.order) (stored.result ∙ ap read_for e);
+            ordered = IfOk-at_ok (λ y. x ≡ y) (stored.result ∙ ap read_for e) refl;
             labels = rw w (order-held d o legal listed room.1);
           },
         )

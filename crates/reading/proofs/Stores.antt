@@ -8,26 +8,24 @@ use native.Mathlib.Omega.{arith}
 use lib.Dec.{ltb}
 use lib.ListN.{length, drop}
 use borrow.Author.Tests.{ltb-false}
-use types.Run.{OneOf, miss}
-use denote.Enum.Declared.{tag_of}
-use Rattle.reading.specs.contracts.Answer.{the_type}
+use Rattle.std.specs.Prelude.{Result, Err, is_err}
 use Rattle.meaning.specs.Bytes.{Text}
 use Rattle.meaning.proofs.Tests.{or-false→}
 use Rattle.areas.specs.Areas.{zeroed}
 use Rattle.grammar.specs.Reading.{read, overlong, bad_line}
 use Rattle.sections.specs.Sections.{Within}
-use Rattle.reading.specs.Stored.{Coming, comes, crowded, lines_in, too_much, read_in, refusing, read_for, table_for, lists_for, listed_for, Stored}
+use Rattle.reading.specs.Stored.{Coming, comes, crowded, lines_in, too_much, read_in, read_for, table_for, lists_for, listed_for, Stored}
 use Rattle.reading.specs.Whole.{LinesLeft, LinesRead}
-use Rattle.reading.specs.declared.Answer.{Answer}
-use Rattle.reading.specs.declared.Answer.TheVariants.{Fine, NoRoom, TooLong, Bad}
-use Rattle.reading.specs.declared.Read.{Read}
+use Rattle.table.specs.declared.Order.{Order}
+use Rattle.reading.specs.declared.ReadError.{ReadError}
+use Rattle.reading.specs.declared.ReadError.TheVariants.{TooLong}
 
 -- Refusal 1 comes first.
-pub too-much-stored : {text : Text} {table lists listed : List ℕ} {r : Read} → too_much (length text) (length table) (length listed) ≡ true
-    → r ≡ refusing TooLong → Stored text table lists listed table lists listed r
+pub too-much-stored : {text : Text} {table lists listed : List ℕ} → too_much (length text) (length table) (length listed) ≡ true
+    → Stored text table lists listed table lists listed (Err TooLong)
 unfolding read_in
-too-much-stored {text} {table} {lists} {listed} e q = record {
-  result = q ∙ ap read_for (sym over);
+too-much-stored {text} {table} {lists} {listed} e = record {
+  result = ap read_for (sym over);
   tabled = ap (λ x. table_for x table) (sym over);
   listing = ap (λ x. lists_for x lists) (sym over);
   ordered = ap (λ x. listed_for x listed) (sym over);
@@ -56,7 +54,7 @@ cleared : {n : ℕ} {a b : List ℕ} → Within n a b → zeroed n b ≡ zeroed 
 cleared {n} {a} {b} w = cleared-alike n a b w.long w.behind
 
 -- By the answer the areas are kept or cleared.
-module _ {text : Text} {table lists listed table' lists' listed' : List ℕ} {r : Read} (w : LinesRead text table lists listed table' lists' listed' r)
+module _ {text : Text} {table lists listed table' lists' listed' : List ℕ} {r : Result Order ReadError} (w : LinesRead text table lists listed table' lists' listed' r)
     (fits : too_much (length text) (length table) (length listed) ≡ false) where
   looked-at : lines_in (length lists) text ≡ read_in text (length table) (length lists) (length listed)
   unfolding read_in
@@ -72,29 +70,22 @@ module _ {text : Text} {table lists listed table' lists' listed' : List ℕ} {r 
     ordered = k.2 ∙ ap (λ x. listed_for x listed) looked-at;
   }
 
-  pub kept-stored : r.answer ≡ Fine → Stored text table lists listed table' lists' listed' r
+  pub kept-stored : is_err r ≡ false → Stored text table lists listed table' lists' listed' r
   kept-stored h = stored (by-coming (lines_in (length lists) text) w.result w.left)
     where
       by-coming : (x : Coming) → r ≡ read_for x → LinesLeft x table lists listed table' lists' listed'
           → (table' ≡ table_for x table) × (lists' ≡ lists_for x lists) × (listed' ≡ listed_for x listed)
       by-coming (comes (read d o)) e l = l
       by-coming (comes overlong) e l = absurd l
-      by-coming (comes (bad_line f line)) e l = let k = sym (ap (λ x. x.answer) e) ∙ h in let z : ◌≡◌ {A = ℕ} 0 1 = cc in absurd (omega arith)
-      by-coming crowded e l = let k = sym (ap (λ x. x.answer) e) ∙ h in let z : ◌≡◌ {A = ℕ} 0 1 = cc in absurd (omega arith)
+      by-coming (comes (bad_line f line)) e l = let k = sym (ap (λ x. is_err x) e) ∙ h in let z : ◌≡◌ {A = ℕ} 0 1 = cc in absurd (omega arith)
+      by-coming crowded e l = let k = sym (ap (λ x. is_err x) e) ∙ h in let z : ◌≡◌ {A = ℕ} 0 1 = cc in absurd (omega arith)
 
-  pub cleared-stored : (r.answer ≡ Fine → ⊥) → Stored text table lists listed (zeroed 140 table') (zeroed 6144 lists') (zeroed 64 listed') r
+  pub cleared-stored : is_err r ≡ true → Stored text table lists listed (zeroed 140 table') (zeroed 6144 lists') (zeroed 64 listed') r
   cleared-stored h = stored (by-coming (lines_in (length lists) text) w.result w.left)
     where
       by-coming : (x : Coming) → r ≡ read_for x → LinesLeft x table lists listed table' lists' listed'
           → (zeroed 140 table' ≡ table_for x table) × (zeroed 6144 lists' ≡ lists_for x lists) × (zeroed 64 listed' ≡ listed_for x listed)
-      by-coming (comes (read d o)) e l = absurd (h (ap (λ x. x.answer) e))
+      by-coming (comes (read d o)) e l = let k = sym (ap (λ x. is_err x) e) ∙ h in let z : ◌≡◌ {A = ℕ} 0 1 = cc in absurd (omega arith)
       by-coming (comes overlong) e l = absurd l
       by-coming (comes (bad_line f line)) e l = (cleared w.tabled, cleared w.listing, cleared l)
       by-coming crowded e l = (cleared w.tabled, cleared w.listing, cleared l)
-
--- one of the other answers
-pub not-fine : (a : Answer) → OneOf (1 ∷ 2 ∷ 3 ∷ []) (tag_of the_type a) → a ≡ Fine → ⊥
-not-fine Fine h e = miss (1 ∷ 2 ∷ 3 ∷ []) 0 tt h
-not-fine NoRoom h e = let z : ◌≡◌ {A = ℕ} 0 1 = cc in omega arith
-not-fine TooLong h e = let z : ◌≡◌ {A = ℕ} 0 1 = cc in omega arith
-not-fine (Bad f line) h e = let z : ◌≡◌ {A = ℕ} 0 1 = cc in omega arith

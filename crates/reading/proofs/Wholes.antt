@@ -4,19 +4,21 @@ use mathlib.Core.Path.{◌≡◌, refl, sym, ap, ◌∙◌}
 use mathlib.Core.List.{List, []}
 use Prim.Native.Nat.{ℕ, ◌*◌, ◌<◌, ◌≤◌}
 use borrow.Author.Tests.{le-leb, lt-leb}
+use Rattle.std.specs.Prelude.{Result, Err}
 use Rattle.meaning.specs.Bytes.{Text, ascii}
 use Rattle.meaning.specs.Answers.{form}
 use Rattle.faults.specs.CodedFaults.{flaw_of}
-use Rattle.faults.specs.declared.Flaw.{Flaw}
 use Rattle.faults.proofs.Uniqueness.{flaw-back}
 use Rattle.grammar.specs.Reading.{take_number, names_in_range, equations_in_range, terms_in_range, take_name, Walk, reached, halted, walk, one_line, lines}
 use Rattle.grammar.specs.Reading as M
 use Rattle.grammar.specs.Reading.{Reading, bad_line, Whole, from_terms, from_counts, from_names, whole_text, described}
 use Rattle.sections.proofs.Joins.{walk-walk}
 use Rattle.heads.specs.Heads.{Heading, head_terms, head_counts, head_names, head_text}
-use Rattle.reading.specs.Stored.{comes, crowded, lines_in, refusing, read_for}
-use Rattle.reading.specs.declared.Answer.TheVariants.{Bad}
-use Rattle.reading.specs.declared.Read.{Read}
+use Rattle.table.specs.declared.Order.{Order}
+use Rattle.keyed.specs.declared.BadLine.{BadLine}
+use Rattle.reading.specs.Stored.{comes, crowded, lines_in, read_for}
+use Rattle.reading.specs.declared.ReadError.{ReadError}
+use Rattle.reading.specs.declared.ReadError.TheVariants.{Bad}
 
 -- The lines before the terms are lines of the whole text.
 abbrev pub on_terms : Heading → ℕ → Text → Walk Whole
@@ -46,8 +48,9 @@ head-joins text =
     names-join
 
 -- what is returned of a bad line
-pub bad-result : (f : Flaw) {line : ℕ} {x : Reading} {r : Read} → bad_line (flaw_of f) line ≡ x → r ≡ refusing (Bad f line) → r ≡ read_for (comes x)
-bad-result f {line} q h = h ∙ ap (λ g. refusing (Bad g line)) (sym (flaw-back f)) ∙ ap (λ x. read_for (comes x)) q
+pub bad-result : (b : BadLine) {x : Reading} → bad_line (flaw_of b.flaw) b.line ≡ x → ◌≡◌ {A = Result Order ReadError} (Err (Bad b)) (read_for (comes x))
+bad-result b q =
+    ap (λ g. Err (Bad (record { flaw = g; line = b.line }))) (sym (flaw-back b.flaw)) ∙ ap (λ x. read_for (comes x)) q
 
 -- All lines, by what those before the terms come to.
 module _ (text : Text) (room : ℕ) where

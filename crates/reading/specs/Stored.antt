@@ -1,16 +1,15 @@
 -- What reading promises for every text and for areas of any lengths.
 -- Assumes nothing.
-use Rattle.std.specs.Prelude.{◌≡◌, Bool, ◌||◌, List, ℕ, ◌*◌, leb, ltb, length}
+use Rattle.std.specs.Prelude.{◌≡◌, Bool, ◌||◌, List, ℕ, ◌*◌, leb, ltb, length, Result, Ok, Err}
 use Rattle.meaning.specs.Bytes.{Text}
 use Rattle.meaning.specs.Rounds.{pick}
 use Rattle.areas.specs.Areas.{zeroed}
-use Rattle.table.specs.declared.Order.TheVariants.{All}
+use Rattle.table.specs.declared.Order.{Order}
 use Rattle.table.specs.Encoded.{order_for, order_words}
 use Rattle.lists.specs.Lists.{overlaid}
 use Rattle.grammar.specs.Reading.{Walk, reached, halted, Reading, read, overlong, bad_line, described, whole_text}
-use Rattle.reading.specs.declared.Answer.{Answer}
-use Rattle.reading.specs.declared.Answer.TheVariants.{Fine, NoRoom, TooLong, Bad}
-use Rattle.reading.specs.declared.Read.{Read}
+use Rattle.reading.specs.declared.ReadError.{ReadError}
+use Rattle.reading.specs.declared.ReadError.TheVariants.{NoRoom, TooLong, Bad}
 use Rattle.sections.specs.Laying.{table_after, lists_over}
 pub use Rattle.faults.specs.CodedFaults.{flaw_for}
 use Rattle.heads.specs.Heads.{Heading, head_text}
@@ -36,14 +35,11 @@ unfoldable pub read_in : Text → (table lists listed : ℕ) → Coming
 read_in text table lists listed = pick (too_much (length text) table listed) (comes overlong) (lines_in lists text)
 
 -- What is returned.
-abbrev pub refusing : Answer → Read
-refusing a = record { answer = a; order = All }
-
-abbrev pub read_for : Coming → Read
-read_for (comes (read d o)) = record { answer = Fine; order = order_for o }
-read_for (comes overlong) = refusing TooLong
-read_for (comes (bad_line f line)) = refusing (Bad (flaw_for f) line)
-read_for crowded = refusing NoRoom
+abbrev pub read_for : Coming → Result Order ReadError
+read_for (comes (read d o)) = Ok (order_for o)
+read_for (comes overlong) = Err TooLong
+read_for (comes (bad_line f line)) = Err (Bad (record { flaw = flaw_for f; line = line }))
+read_for crowded = Err NoRoom
 
 -- What the areas hold afterwards: the description over what was there; the same as before; or 0.
 abbrev pub table_for : Coming → List ℕ → List ℕ
@@ -64,7 +60,7 @@ listed_for (comes overlong) listed = listed
 listed_for (comes (bad_line f line)) listed = zeroed 64 listed
 listed_for crowded listed = zeroed 64 listed
 
-pub record Stored (text : Text) (table lists listed table' lists' listed' : List ℕ) (r : Read) : Type 0 where
+pub record Stored (text : Text) (table lists listed table' lists' listed' : List ℕ) (r : Result Order ReadError) : Type 0 where
   pub result : r ≡ read_for (read_in text (length table) (length lists) (length listed))
   pub tabled : table' ≡ table_for (read_in text (length table) (length lists) (length listed)) table
   pub listing : lists' ≡ lists_for (read_in text (length table) (length lists) (length listed)) lists

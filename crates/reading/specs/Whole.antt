@@ -1,6 +1,6 @@
 -- What the functions that join the sections leave. Only private functions cite this: no public contract rests on it.
 -- Assumes nothing.
-use Rattle.std.specs.Prelude.{◌≡◌, List, map, ℕ, ◌+◌, length}
+use Rattle.std.specs.Prelude.{◌≡◌, List, map, ℕ, ◌+◌, length, Result}
 use Rattle.meaning.specs.Bytes.{Text}
 use Rattle.meaning.specs.Descriptions as D
 use Rattle.table.specs.Decoded.{name_of}
@@ -8,23 +8,11 @@ use Rattle.table.specs.Encoded.{order_words}
 use Rattle.table.specs.Holding.{names_in, bodies_in}
 use Rattle.lists.specs.Lists.{overlaid}
 use Rattle.grammar.specs.Reading.{Reading, read, overlong, bad_line, described, from_terms}
-use Rattle.keyed.specs.declared.Progress.{Progress}
-use Rattle.keyed.specs.declared.Progress.TheVariants.{To, Bad}
-use Rattle.orderlines.specs.declared.Ordered.{Ordered}
-use Rattle.reading.specs.declared.Answer.{Answer}
-use Rattle.reading.specs.declared.Answer.TheVariants as A
-use Rattle.reading.specs.declared.Read.{Read}
+use Rattle.table.specs.declared.Order.{Order}
+use Rattle.reading.specs.declared.ReadError.{ReadError}
 use Rattle.sections.specs.Laying.{table_after, with_terms, with_foot, lists_over}
 use Rattle.sections.specs.Sections.{Within}
 use Rattle.reading.specs.Stored.{Coming, comes, crowded, lines_in, read_for}
-
--- What is returned of the last lines.
-abbrev pub answer_of : Progress → Answer
-answer_of (To v took) = A.Fine
-answer_of (Bad f line) = A.Bad f line
-
-abbrev pub read_of : Ordered → Read
-read_of x = record { answer = answer_of x.progress; order = x.order }
 
 -- The lines from the terms' on, where the names are known. After a bad line the order's words are touched no further than the longest
 -- order reaches.
@@ -43,11 +31,11 @@ TermsLeft words equations count (read d o) table lists listed table' lists' list
 TermsLeft words equations count overlong table lists listed table' lists' listed' = ⊥
 TermsLeft words equations count (bad_line f line) table lists listed table' lists' listed' = Within 64 listed listed'
 
-pub record TermsDue (text : Text) (count : ℕ) (table lists listed table' lists' listed' : List ℕ) (r : Ordered) : Type 0 where
+pub record TermsDue (text : Text) (count : ℕ) (table lists listed table' lists' listed' : List ℕ) (r : Result Order ReadError) : Type 0 where
   pub tabled : Within 140 table table'
   pub listing : Within 6144 lists lists'
   pub result : (words : List Text) → map (name_of 8) (names_in table) ≡ words
-      → read_of r ≡ read_for (comes (described (from_terms words (length (bodies_in table)) count (4 + length (names_in table)) text)))
+      → r ≡ read_for (comes (described (from_terms words (length (bodies_in table)) count (4 + length (names_in table)) text)))
   pub left : (words : List Text) → map (name_of 8) (names_in table) ≡ words
       → TermsLeft words (length (bodies_in table)) count (described (from_terms words (length (bodies_in table)) count (4 + length (names_in table)) text))
       table lists listed table' lists' listed'
@@ -60,7 +48,7 @@ LinesLeft (comes overlong) table lists listed table' lists' listed' = ⊥
 LinesLeft (comes (bad_line f line)) table lists listed table' lists' listed' = Within 64 listed listed'
 LinesLeft crowded table lists listed table' lists' listed' = Within 64 listed listed'
 
-pub record LinesRead (text : Text) (table lists listed table' lists' listed' : List ℕ) (r : Read) : Type 0 where
+pub record LinesRead (text : Text) (table lists listed table' lists' listed' : List ℕ) (r : Result Order ReadError) : Type 0 where
   pub tabled : Within 140 table table'
   pub listing : Within 6144 lists lists'
   pub result : r ≡ read_for (lines_in (length lists) text)

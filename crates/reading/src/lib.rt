@@ -5,30 +5,32 @@ mod whole;
 
 ghost use Rattle.reading.specs.Stored.{too_much, Stored};
 ghost use Rattle.std.specs.Prelude.{◌≡◌};
+ghost use Rattle.reading.specs.declared.ReadError.TheVariants.{Bad};
 
 use crate::whole::read_lines;
 use areas::clear;
-use faults::Flaw;
+use keyed::BadLine;
 use table::{LIST_WORDS, LISTS_WORDS, Order, TABLE_WORDS};
 
 // The most bytes of a description.
 pub const TEXT_BYTES: usize = 8192;
 
-// Read; the lists have no room for so many terms; the text is too long, or the table or the order's words are too few; or the first bad
-// line, by its fault with its column, and its number.
+// Why a text is not read: it is too long, or the table or the order's words are too few; the lists have no room for so many terms; or the
+// first bad line.
 #[derive(Clone, Copy)]
-pub enum Answer {
-    Fine,
-    NoRoom,
+pub enum ReadError {
     TooLong,
-    Bad(Flaw, usize),
+    NoRoom,
+    Bad(BadLine),
 }
 
-// What is read of a text besides its table: its order, whose labels are in words of their own. It is all after a refusal.
-#[derive(Clone, Copy)]
-pub struct Read {
-    pub answer: Answer,
-    pub order: Order,
+// Why the text of a bad line is not read.
+impl From<BadLine> for ReadError {
+    ghost from_gives = { λ bad e. e ≡ Bad bad };
+
+    fn from(bad: BadLine) -> ReadError {
+        ReadError::Bad(bad)
+    }
 }
 
 // Refusal 1.
@@ -45,23 +47,18 @@ pub fn read_description(
     table: &mut [u64],
     lists: &mut [u64],
     listed: &mut [u64],
-) -> Read
+) -> Result<Order, ReadError>
     ensures { Stored text.now table.old lists.old listed.old
         table.new lists.new listed.new result }
 {
     if too_much(text.len(), table.len(), listed.len()) {
-        return Read {
-            answer: Answer::TooLong,
-            order: Order::All,
-        };
+        return Err(ReadError::TooLong);
     }
     let read = read_lines(text, table, lists, listed);
-    let answer = read.answer;
-    let Answer::Fine = answer else {
+    if read.is_err() {
         clear(table, TABLE_WORDS);
         clear(lists, LISTS_WORDS);
         clear(listed, LIST_WORDS);
-        return read;
-    };
+    }
     read
 }

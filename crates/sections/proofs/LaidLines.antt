@@ -62,7 +62,7 @@ module _ {A : Type 0} {words : List A → List ℕ} {do-take : List A → Text �
         onto = lines_step s.onto h q k;
       }
 
-  pub so-far-end : {Left : ℕ → List A → Type 0} {v : ℕ} → all ≤ i → Left v read → Section text (lines do-take all [] line text) (λ _. line + all) Left v from
+  pub so-far-end : {Left : List A → Type 0} → all ≤ i → Left read → Section text (lines do-take all [] line text) (λ _. line + all) Left from
   so-far-end h l = record { read = read; says = lines_end s.onto h; within = s.onto.within; left = l }
 
   pub all-counted : all ≤ i → length read ≡ all

@@ -16,5 +16,5 @@ pub mod LaidLines
 pub mod Given
 -- walk-walk, ends-bad, ends-on: sections that are lines of the whole text
 pub mod Joins
--- comes-once, given-once: a section's answer is settled, and so is what it leaves where no line is bad
+-- passes-once, comes-once, given-once: a section's answer is settled, and so is what it leaves where no line is bad
 pub mod Uniqueness

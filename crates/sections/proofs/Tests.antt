@@ -4,16 +4,16 @@ use mathlib.Core.Path.{◌≡◌, refl, ap, ◌∙◌}
 use mathlib.Core.Bool.{Bool}
 use Prim.Native.Nat.{ℕ, suc}
 use lib.ListN.{drop}
+use Rattle.std.specs.Prelude.{Result, Ok, Err}
 use Rattle.meaning.specs.Bytes.{Text}
 use Rattle.meaning.specs.Answers.{Fault}
 use Rattle.grammar.specs.Text.{Past, past, stuck, Placed}
 use Rattle.grammar.specs.Forms.{count_line}
 use Rattle.grammar.specs.Reading.{taken_if, formed, take_number, reached, halted, after_line, one_line}
 use Rattle.faults.specs.CodedFaults.{flaw_of}
-use Rattle.faults.specs.declared.Flaw as F
 use Rattle.keyed.specs.Numbers.{between, NumberTo}
-use Rattle.keyed.specs.declared.Progress.{Progress}
-use Rattle.keyed.specs.declared.Progress.TheVariants.{To, Bad}
+use Rattle.words.specs.declared.Taken.{Taken}
+use Rattle.keyed.specs.declared.BadLine.{BadLine}
 use Rattle.keyed.proofs.Walks.{gone-to, gone-bad}
 
 other_test : (key : Text) (f g : ℕ → Bool) → ((n : ℕ) → f n ≡ g n) → (x : Fault) (line : ℕ) (s : Text)
@@ -27,9 +27,9 @@ other_test key f g same x line s = ap (after_line line s) (with_number (count_li
 
 -- What a step over a line with a number says, by the test that the definitions give.
 module _ (key : Text) (low below : ℕ) (test : ℕ → Bool) (same : (n : ℕ) → between low below n ≡ test n) (x : Fault) (line : ℕ) (s : Text)
-    {r : Progress} (w : NumberTo s line below r (one_line (take_number key (between low below) x) line s)) where
-  pub number-to : {v took : ℕ} → r ≡ To v took → reached v (suc line) (drop took s) ≡ one_line (take_number key test x) line s
+    {r : Result (Taken ℕ) BadLine} (w : NumberTo s line below r (one_line (take_number key (between low below) x) line s)) where
+  pub number-to : {t : Taken ℕ} → r ≡ Ok t → reached t.value (suc line) (drop t.bytes s) ≡ one_line (take_number key test x) line s
   number-to e = gone-to w.walks e ∙ other_test key (between low below) test same x line s
 
-  pub number-bad : {f : F.Flaw} {n : ℕ} → r ≡ Bad f n → halted (flaw_of f) n ≡ one_line (take_number key test x) line s
+  pub number-bad : {b : BadLine} → r ≡ Err b → halted (flaw_of b.flaw) b.line ≡ one_line (take_number key test x) line s
   number-bad e = gone-bad w.walks e ∙ other_test key (between low below) test same x line s

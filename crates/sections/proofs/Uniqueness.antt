@@ -1,41 +1,55 @@
 -- What is promised of a section of lines settles its answer, and what it leaves where no line is bad.
 -- Assumes nothing.
-use mathlib.Core.Path.{◌≡◌, ap}
-use Prim.Native.Nat.{ℕ, suc, ◌+◌}
+use mathlib.Core.Path.{◌≡◌, ap, ap₂}
+use Prim.Native.Nat.{ℕ}
 use native.Mathlib.Omega.{arith}
 use lib.ListN.{drop}
+use Rattle.std.specs.Prelude.{Result, Ok, Err, OnOk}
 use Rattle.meaning.specs.Bytes.{Text}
 use Rattle.meaning.proofs.Alike.{alike}
-use Rattle.grammar.specs.Reading.{Walk, reached, walk}
-use Rattle.keyed.specs.declared.Progress.{Progress}
-use Rattle.keyed.specs.declared.Progress.TheVariants.{To, Bad}
-use Rattle.keyed.proofs.Uniqueness.{walk-unique}
-use Rattle.sections.specs.Sections.{Comes, Roomed}
+use Rattle.grammar.specs.Reading.{Walk}
+use Rattle.words.proofs.Uniqueness.{place-unique}
+use Rattle.words.specs.declared.Taken.{Taken}
+use Rattle.keyed.specs.declared.BadLine.{BadLine}
+use Rattle.keyed.proofs.Uniqueness.{bad-unique}
+use Rattle.sections.specs.Sections.{Section, Passes, Comes, Roomed}
 
--- Something that holds where no line is bad.
-abbrev pub Where : Progress → Type 0 → Type 0
-Where (To v took) P = P
-Where (Bad f line) P = Unit {0}
+-- Where no line is bad.
+pub on_ok : {T E P : Type 0} (r : Result T E) → P → OnOk r P
+on_ok (Ok t) p = p
+on_ok (Err e) p = tt
 
-pub everywhere : {P : Type 0} (r : Progress) → P → Where r P
-everywhere (To v took) p = p
-everywhere (Bad f line) p = tt
-
--- The same number is returned with the same lines, and P holds of what these leave.
-pub comes-once : {A : Type 0} (text : Text) (due : Walk A) (next : A → ℕ) {Left₁ Left₂ : ℕ → A → Type 0} {P : Type 0}
-    → ((v w : ℕ) (a : A) → Left₁ v a → Left₂ w a → (v ≡ w) × P)
-    → (r s : Progress) → Comes text due next Left₁ r → Comes text due next Left₂ s → (r ≡ s) × Where r P
-comes-once text due next same (To v t) (To w u) p q =
+-- The same bytes are read as the same lines.
+same-lines : {A : Type 0} (text : Text) {due : Walk A} {next : A → ℕ} {Left₁ Left₂ : A → Type 0} {t u : ℕ}
+    → (p : Section text due next Left₁ t) → (q : Section text due next Left₂ u) → (p.read ≡ q.read) × (t ≡ u)
+same-lines text {t = t} {u} p q =
     let e = alike p.says q.says in
     let x : p.read ≡ q.read = cc in
-    let k = same v w q.read (rw x at p.left) q.left in
-    let there : reached p.read 0 (drop t text) ≡ reached q.read 0 (drop u text) = cc in
-    (walk-unique (λ n. p.read) (λ n. q.read) text 0 (To v t) (To w u) there p.within q.within (λ h. k.0), k.1)
-comes-once text due next same (To v t) (Bad y m) p q = let e = alike p.says q in let z : ◌≡◌ {A = ℕ} 0 1 = cc in absurd (omega arith)
-comes-once text due next same (Bad x l) (To w u) p q = let e = alike p q.says in let z : ◌≡◌ {A = ℕ} 0 1 = cc in absurd (omega arith)
-comes-once text due next same (Bad x l) (Bad y m) p q =
-    let e = ap (λ d. walk {B = ℕ} d (λ a line s. reached 0 line s)) (alike p q) in
-    (walk-unique (λ n. 0) (λ n. 0) text (suc (l + m)) (Bad x l) (Bad y m) e (omega arith) (omega arith) tt, tt)
+    let d : drop t text ≡ drop u text = cc in
+    (x, place-unique text t u p.within q.within d)
+
+-- P holds of what the lines leave.
+pub passes-once : {A : Type 0} (text : Text) (due : Walk A) (next : A → ℕ) {Left₁ Left₂ : A → Type 0} {P : Type 0}
+    → ((a : A) → Left₁ a → Left₂ a → P)
+    → (r s : Result ℕ BadLine) → Passes text due next Left₁ r → Passes text due next Left₂ s → (r ≡ s) × OnOk r P
+passes-once text due next same (Ok t) (Ok u) p q =
+    let x = same-lines text p q in
+    (ap Ok x.1, same q.read (rw x.0 at p.left) q.left)
+passes-once text due next same (Ok t) (Err b) p q = let e = alike p.says q in let z : ◌≡◌ {A = ℕ} 0 1 = cc in absurd (omega arith)
+passes-once text due next same (Err a) (Ok u) p q = let e = alike p q.says in let z : ◌≡◌ {A = ℕ} 0 1 = cc in absurd (omega arith)
+passes-once text due next same (Err a) (Err b) p q = (ap Err (bad-unique a b (alike p q)), tt)
+
+-- The same number is returned with the same lines.
+pub comes-once : {A : Type 0} (text : Text) (due : Walk A) (next : A → ℕ) {Left₁ Left₂ : ℕ → A → Type 0} {P : Type 0}
+    → ((v w : ℕ) (a : A) → Left₁ v a → Left₂ w a → (v ≡ w) × P)
+    → (r s : Result (Taken ℕ) BadLine) → Comes text due next Left₁ r → Comes text due next Left₂ s → (r ≡ s) × OnOk r P
+comes-once text due next same (Ok t) (Ok u) p q =
+    let x = same-lines text p q in
+    let k = same t.value u.value q.read (rw x.0 at p.left) q.left in
+    (ap₂ (λ v n. Ok (record { value = v; bytes = n })) k.0 x.1, k.1)
+comes-once text due next same (Ok t) (Err b) p q = let e = alike p.says q in let z : ◌≡◌ {A = ℕ} 0 1 = cc in absurd (omega arith)
+comes-once text due next same (Err a) (Ok u) p q = let e = alike p q.says in let z : ◌≡◌ {A = ℕ} 0 1 = cc in absurd (omega arith)
+comes-once text due next same (Err a) (Err b) p q = (ap Err (bad-unique a b (alike p q)), tt)
 
 -- Areas have the room that is needed, or they have not.
 pub given-once : {Room Read₁ Read₂ Else₁ Else₂ P : Type 0} → Dec Room → (Read₁ → Read₂ → P) → (Else₁ → Else₂ → P)

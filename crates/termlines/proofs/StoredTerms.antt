@@ -6,6 +6,7 @@ use Prim.Native.Nat.{ℕ, suc, ◌+◌, ◌*◌, ◌-◌, ◌≤◌, ◌<◌}
 use native.Mathlib.Omega.{arith}
 use lib.ListN.{length, take, drop, set, length-append, length-map, length-drop}
 use lib.Seq.{length-take-le}
+use Rattle.std.specs.Prelude.{Result, Ok, Err}
 use Rattle.meaning.specs.Bytes.{Text}
 use Rattle.meaning.specs.Descriptions as D
 use Rattle.table.specs.Decoded.{name_of}
@@ -14,9 +15,10 @@ use Rattle.table.specs.Holding.{names_in}
 use Rattle.words.proofs.Steps.{rest_at}
 use Rattle.grammar.specs.Reading.{take_term, at_first, one_line}
 use Rattle.faults.specs.CodedFaults.{flaw_of}
-use Rattle.faults.specs.declared.Flaw as F
-use Rattle.keyed.specs.declared.Progress.{Progress}
-use Rattle.keyed.specs.declared.Progress.TheVariants.{To, Bad}
+use Rattle.faults.specs.declared.Flaw.{Flaw}
+use Rattle.words.specs.declared.Taken.{Taken}
+use Rattle.keyed.specs.declared.BadLine.{BadLine}
+use Rattle.keyed.specs.Walks.{refusal}
 use Rattle.keyed.proofs.Sequences.{lines-halt}
 use Rattle.sections.specs.Laying.{laid_at, lists_over}
 use Rattle.sections.specs.Sections.{Comes, Section, Within}
@@ -72,7 +74,7 @@ module _ {text : Text} {line equations count : ℕ} {before store table lists : 
     tabled : Within 140 before table
     tabled = so-far-within s.lines even 140 (omega arith)
 
-    module _ (more : n < count) {after : List ℕ} {r : Progress}
+    module _ (more : n < count) {after : List ℕ} {r : Result (Taken ℕ) BadLine}
         (t : TermRead (rest_at text from) (line + n) (names_in table) equations n (own n lists) after r) where
       put_back : Within 6144 lists (with_own n after lists)
       put_back =
@@ -95,22 +97,23 @@ module _ {text : Text} {line equations count : ℕ} {before store table lists : 
           (TermLeft s.read (own n lists) after) r
       said = rw same_names at (t.came s.read (sym s.lines.counted))
 
-      pub terms-halt : {f : F.Flaw} {l : ℕ} → r ≡ Bad f l → TermsRead text line equations count before store table (with_own n after lists) r
+      pub terms-halt : {b : BadLine} → r ≡ Err b → TermsRead text line equations count before store table (with_own n after lists) (Err b)
       terms-halt e =
           let q = rw e at said in
-          rw e (record { tabled = tabled; listing = terms-stored; came = λ words w. rw (← w) (lines-halt s.lines.onto more q) })
+          record { tabled = tabled; listing = terms-stored; came = λ words w. rw (← w) (lines-halt s.lines.onto more q) }
 
-      module _ {w took : ℕ} (e : r ≡ To w took) where
+      module _ {u : Taken ℕ} (e : r ≡ Ok u) where
         one : Section (rest_at text from) (one_line (take_term (words_of before) equations s.read) (line + n) (rest_at text from)) (λ all. suc (line + n))
-            (TermLeft s.read (own n lists) after) w took
+            (TermLeft s.read (own n lists) after u.value) u.bytes
         one = rw e at said
 
-        pub terms-within : from + took ≤ length text
+        pub terms-within : from + u.bytes ≤ length text
         terms-within = rest-within text from s.lines.onto.within one.within
 
-        pub terms-step : TermsSoFar text line equations count before store (set table (44 + n) w) (with_own n after lists) (from + took) (n + 1)
+        pub terms-step : TermsSoFar text line equations count before store (set table (44 + n) u.value) (with_own n after lists) (from + u.bytes) (n + 1)
         terms-step =
             let x = one.left.term in
+            let w = u.value in
             let word : map slot_of (s.read ++ (x ∷ [])) ≡ map slot_of s.read ++ (w ∷ []) =
             map-append slot_of s.read (x ∷ []) ∙ ap (λ v. map slot_of s.read ++ (v ∷ [])) (sym one.left.kept) in
             let m : size n ≡ 64 = omega arith in
@@ -126,16 +129,16 @@ module _ {text : Text} {line equations count : ℕ} {before store table lists : 
               listing = terms-stored;
             }
 
-    pub terms-end : count ≤ n → TermsRead text line equations count before store table lists (To 0 from)
+    pub terms-end : count ≤ n → TermsRead text line equations count before store table lists (Ok from)
     terms-end h =
         record {
           tabled = tabled;
           listing = s.listing;
           came = λ words w.
               let n = all-counted s.lines even h in
-              rw (← w) (so-far-end s.lines even h (record { plain = refl; counted = n; laid = s.lines.laid; listed = s.listed }));
+              rw (← w) (so-far-end s.lines even h (record { counted = n; laid = s.lines.laid; listed = s.listed }));
         }
 
 -- None is read where there is no room for all.
-pub terms-refused : {line : ℕ} {table lists : List ℕ} {f : F.Flaw} → flaw_of f ≡ at_first → TermsRefused line table lists table lists (Bad f line)
+pub terms-refused : {line : ℕ} {table lists : List ℕ} {f : Flaw} → flaw_of f ≡ at_first → TermsRefused line table lists table lists (refusal f line)
 terms-refused e = record { answered = bad-first e; tabled = refl; listing = refl }

@@ -4,6 +4,7 @@ use mathlib.Core.Path.{◌≡◌, refl, sym, ap, ◌∙◌}
 use mathlib.Core.List.{List, [], ◌∷◌, ◌++◌, map}
 use Prim.Native.Nat.{ℕ, ◌-◌, ◌≤◌}
 use lib.ListN.{length, drop, length-map}
+use Rattle.std.specs.Prelude.{Ok}
 use Rattle.meaning.specs.Bytes.{Text}
 use Rattle.meaning.specs.Descriptions as D
 use Rattle.meaning.specs.Answers.{form}
@@ -14,7 +15,8 @@ use Rattle.table.specs.Encoded.{term_for, slot_of}
 use Rattle.grammar.specs.Text.{stuck}
 use Rattle.grammar.specs.Forms.{Line, term_line}
 use Rattle.grammar.specs.Faults.{term_said, term_fault}
-use Rattle.grammar.specs.Reading.{Taken, taken, faulty, taken_unless, formed, take_term, flaw_in, after_line}
+use Rattle.grammar.specs.Reading as M
+use Rattle.grammar.specs.Reading.{taken, faulty, taken_unless, formed, take_term, flaw_in, after_line}
 use Rattle.faults.specs.CodedFaults.{fault_of, flaw_of}
 use Rattle.faults.specs.declared.Fault as F
 use Rattle.faults.specs.declared.Flaw.{Flaw}
@@ -25,7 +27,7 @@ use Rattle.tails.specs.declared.TermStep.TheVariants as T
 use Rattle.tails.proofs.Room.{room}
 use Rattle.forms.specs.Terms.{term_place, TermTaken, TermAnswer}
 use Rattle.forms.specs.Terms as S
-use Rattle.keyed.specs.declared.Progress.TheVariants.{To, Bad}
+use Rattle.keyed.specs.Walks.{refusal}
 use Rattle.keyed.proofs.Walks.{line-bad}
 use Rattle.keyed.proofs.LineFaults.{formed-stuck, found-fine, taken_fine, taken-faulty}
 use Rattle.termlines.specs.Terms.{TermRead}
@@ -56,7 +58,7 @@ same_word n (D.wrap o t) = same-operator n t o
 
 -- What a line makes of the terms before it.
 module _ (words : List Text) (equations : ℕ) (terms : List D.Term) (text : Text) where
-  abbrev then-term : Line → Text → Taken (List D.Term)
+  abbrev then-term : Line → Text → M.Taken (List D.Term)
   then-term x = taken_unless (term_fault words equations (length terms) x) (terms ++ (term_said words x ∷ []))
 
   term-stuck : (p : ℕ) → stuck (drop p text) ≡ term_line text → faulty form (length text - p) ≡ take_term words equations terms text
@@ -85,7 +87,7 @@ module _ (text : Text) (line : ℕ) (names : List ℕ) (equations n : ℕ) (befo
   answer = rw (← room names few (term_line text) text) at r
 
   pub line-stuck : {p at : ℕ} {w : Flaw} → s ≡ T.Stuck p → at ≡ term_place s → flaw_of w ≡ flaw_in text form (length text - at)
-      → TermRead text line names equations n before after (Bad w line)
+      → TermRead text line names equations n before after (refusal w line)
   line-stuck {at = at} e q f =
       let there : s ≡ T.Stuck at = e ∙ ap T.Stuck (sym (q ∙ ap term_place e)) in
       let k = rw there at answer in
@@ -100,14 +102,14 @@ module _ (text : Text) (line : ℕ) (names : List ℕ) (equations n : ℕ) (befo
     after-terms terms counted = rw counted at answered
 
     pub line-faulty : {g : F.Fault} {from : ℕ} {w : Flaw} → f ≡ Faulty g from → flaw_of w ≡ flaw_in text (fault_of g) from
-        → TermRead text line names equations n before after (Bad w line)
+        → TermRead text line names equations n before after (refusal w line)
     line-faulty b q =
         record {
           long = answered.long;
           came = λ terms counted. line-bad line text q (term-faulty words equations terms text (after-terms terms counted) b);
         }
 
-    pub line-fine : {w : ℕ} → f ≡ Fine → w ≡ term_word x → TermRead text line names equations n before after (To w took)
+    pub line-fine : {w : ℕ} → f ≡ Fine → w ≡ term_word x → TermRead text line names equations n before after (Ok (record { value = w; bytes = took }))
     line-fine b p =
         record {
           long = answered.long;

@@ -6,10 +6,11 @@ ghost use Rattle.termlines.specs.Terms.{TermRead, TermsRoom, TermsRead, TermsGiv
 
 use faults::{Fault, Found, first_flaw, flaw_after, flaw_in};
 use forms::terms::{read_term, term_stuck_at};
-use keyed::Progress;
+use keyed::BadLine;
 use slots::packing::pack;
 use table::{LIST_WORDS, TABLE_WORDS, TERMS, TERMS_AT, names_of};
 use tails::TermStep;
+use words::Taken;
 
 // The largest number that the first of the lines can have, behind twenty-four names and three counts.
 const FIRST_LINE: usize = 28;
@@ -22,21 +23,26 @@ fn take_term(
     equations: usize,
     n: usize,
     list: &mut [u64],
-) -> Progress
+) -> Result<Taken<u64>, BadLine>
     requires { length names.now ≤ 24 }
     ensures { TermRead text.now line names.now equations n list.old list.new result }
 {
     let step = read_term(text, names, equations, n, list);
     let TermStep::To(term, found, took) = step else {
-        return Progress::Bad(flaw_after(text, Fault::Form, term_stuck_at(step)), line);
+        let flaw = flaw_after(text, Fault::Form, term_stuck_at(step));
+        return Err(BadLine { flaw, line });
     };
     if let Found::Faulty(f, from) = found {
-        return Progress::Bad(flaw_in(text, f, from), line);
+        let flaw = flaw_in(text, f, from);
+        return Err(BadLine { flaw, line });
     }
-    Progress::To(pack(term), took)
+    Ok(Taken {
+        value: pack(term),
+        bytes: took,
+    })
 }
 
-// So many lines of terms, where there is room for them.
+// So many lines of terms, where there is room for them. How many bytes they took is returned.
 fn take_terms(
     text: &[u8],
     line: usize,
@@ -44,32 +50,27 @@ fn take_terms(
     count: usize,
     table: &mut [u64],
     lists: &mut [u64],
-) -> Progress
+) -> Result<usize, BadLine>
     requires { TermsRoom line count table.old lists.old }
     ensures { TermsRead text.now line equations count table.old lists.old
         table.new lists.new result }
 {
     let mut from = 0;
-    let mut n = 0;
-    while n < count {
+    for n in 0..count {
         let first = LIST_WORDS * n;
         let last = first + LIST_WORDS;
-        let step = take_term(
+        let term = take_term(
             &text[from..],
             line + n,
             names_of(table),
             equations,
             n,
             &mut lists[first..last],
-        );
-        let Progress::To(w, took) = step else {
-            return step;
-        };
-        table[TERMS_AT + n] = w;
-        from += took;
-        n += 1;
+        )?;
+        table[TERMS_AT + n] = term.value;
+        from += term.bytes;
     }
-    Progress::To(0, from)
+    Ok(from)
 }
 
 // So many lines of terms, by the number of the first. Where there is no room for them all is refused as if
@@ -81,21 +82,22 @@ pub fn read_terms(
     count: usize,
     table: &mut [u64],
     lists: &mut [u64],
-) -> Progress
+) -> Result<usize, BadLine>
     ensures { TermsGiven text.now line equations count table.old lists.old
         table.new lists.new result }
 {
+    let flaw = first_flaw();
     if FIRST_LINE < line {
-        return Progress::Bad(first_flaw(), line);
+        return Err(BadLine { flaw, line });
     }
     if TERMS < count {
-        return Progress::Bad(first_flaw(), line);
+        return Err(BadLine { flaw, line });
     }
     if table.len() < TABLE_WORDS {
-        return Progress::Bad(first_flaw(), line);
+        return Err(BadLine { flaw, line });
     }
     if lists.len() / LIST_WORDS < count {
-        return Progress::Bad(first_flaw(), line);
+        return Err(BadLine { flaw, line });
     }
     take_terms(text, line, equations, count, table, lists)
 }

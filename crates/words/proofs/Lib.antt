@@ -3,11 +3,11 @@
 pub mod Rests
 -- word-none, word-other, Worded, name-back, take-snoc: a name, read and packed
 pub mod WordReading
--- stops, goes, shifted, steps-to, steps-stuck, went-on, stays-on, back-past: steps one after the other, and of the rest of a line
+-- stops, goes, shifted, steps-to, steps-stuck, moved, went-on, stays-on, back-past: steps one after the other, and of the rest of a line
 pub mod Steps
 -- word-name, number-here, number-later, rest-literal, packed-split: names looked up by their words
 pub mod Looked
 -- several-few, labels-several: how many entries a list can have
 pub mod Several
--- count-unique, name-unique, passes-unique: any two results that meet a promise are equal
+-- steps-unique, count-unique, name-unique, passes-unique: any two results that meet a promise are equal
 pub mod Uniqueness

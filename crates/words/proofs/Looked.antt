@@ -83,10 +83,11 @@ rest-literal (c ∷ w) (b ∷ s) = cases (eqb c b) refl (rest-literal w s)
     cases false e ih = rw (e, literal)
 
 -- A packed word, byte by byte.
-pub packed-split : (left k : ℕ) → 0 < left → left < 256 ^ k → (m : ℕ) × (left / 256 < 256 ^ m) × (name_of k left ≡ left % 256 ∷ name_of m (left / 256))
+pub packed-split : (left k m : ℕ) → k ≡ suc m → 0 < left → left < 256 ^ k → (left / 256 < 256 ^ m) × (name_of k left ≡ left % 256 ∷ name_of m (left / 256))
 unfolding name_of
-packed-split left zero some h = let j : left < 1 = h in absurd (omega arith)
-packed-split left (suc k) some h = (k, (div-lt_iff_lt-mul (lit< tt)).1 (rw (pow-suc 256 k) at h), rw (ne_eqb left 0 (λ z. omega (arith, z)), name_of))
+packed-split left k m e some h =
+    let j = rw e at h in
+    rw e ((div-lt_iff_lt-mul (lit< tt)).1 (rw (pow-suc 256 m) at j), rw (ne_eqb left 0 (λ z. omega (arith, z)), name_of))
 
 pub packed_all : {left : ℕ} (k : ℕ) → left ≡ 0 → name_of k left ≡ []
 unfolding name_of

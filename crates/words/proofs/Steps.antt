@@ -10,9 +10,12 @@ use lib.ListN.{length, take, drop, length-drop}
 use lib.Seq.{take_all, drop-drop}
 use Rattle.meaning.specs.Bytes.{Text}
 use Rattle.grammar.specs.Text.{Past, past, stuck, onward, byte, starts, literal}
-use Rattle.words.specs.declared.Step.{Step}
-use Rattle.words.specs.declared.Step.TheVariants.{To, Stuck}
-use Rattle.words.specs.Steps.{step_place, Stands, Steps}
+use Rattle.std.specs.Prelude.{Ok, Err}
+use Rattle.std.specs.Result.{IsErrAnd}
+use Rattle.std.proofs.lemmas.Result.{err_from_is_err_and}
+use Rattle.words.specs.declared.Taken.{Taken}
+use Rattle.words.specs.declared.Stuck.{Stuck}
+use Rattle.words.specs.Steps.{Reading, step_place, Stands, Steps, shifted_step}
 use Rattle.words.proofs.Rests.{literal-other, literal-more}
 
 -- Said of any answer.
@@ -37,34 +40,57 @@ module _ {A : Type 0} (answer : Text → Past A) {line : Text} {at n : ℕ} {due
   shifted h s =
       record { says = ap answer (sym (drop-drop n at line)) ∙ s.says; within = omega (arith, s.within, length-drop at line) }
 
--- What is read off a step that was stuck is where it was.
-pub stuck_there : {r : Step} {p q : ℕ} → r ≡ Stuck p → q ≡ step_place r → r ≡ Stuck q
-stuck_there e f = e ∙ ap Stuck (sym (f ∙ ap step_place e))
-
--- A step taken apart, at the start of a line and at a place in it.
-module _ {A : Type 0} {f : ℕ → A} {line : Text} {r : Step} {due : Past A} (s : Steps f line r due) where
-  pub steps-to : {v next : ℕ} → r ≡ To v next → Stands line next (past (f v) (drop next line)) due
+-- A step taken apart.
+module _ {T A : Type 0} {f : T → A} {line : Text} {r : Reading T} {due : Past A} (s : Steps f line r due) where
+  pub steps-to : {t : Taken T} → r ≡ Ok t → Stands line t.bytes (past (f t.value) (drop t.bytes line)) due
   steps-to e = rw e at s.stands
 
-  pub steps-stuck : {p : ℕ} → r ≡ Stuck p → Stands line p (stuck (drop p line)) due
+  pub steps-stuck : {p : Stuck} → r ≡ Err p → Stands line p.after (stuck (drop p.after line)) due
   steps-stuck e = rw e at s.stands
 
-module _ {A : Type 0} {f : ℕ → A} (form : Text → Past A) (line : Text) (at : ℕ) {r : Step} (h : at ≤ length line)
-    (s : Steps f (rest_at line at) r (form (rest_at line at))) where
-  there : Steps f (drop at line) r (form (drop at line))
+-- A step of the rest of a line is one of the line, and lies in it.
+module _ {T A : Type 0} {f : T → A} (line : Text) (at : ℕ) {due : Past A} (h : at ≤ length line) where
+  steps-shifted : (r : Reading T) → Steps f (drop at line) r due → Steps f line (shifted_step at r) due
+  steps-shifted (Ok t) s = record { stands = shifted (past (f t.value)) h s.stands }
+  steps-shifted (Err p) s = record { stands = shifted stuck h s.stands }
+
+  shifted-within : {r : Reading T} → Steps f (drop at line) r due → at + step_place r ≤ length line
+  shifted-within s = omega (arith, s.stands.within, length-drop at line)
+
+-- (what is read may say where it begins, by what is lent)
+module _ {T A : Type 0} (f : Text → T → A) (form : Text → Past A) (line : Text) (at : ℕ) {r : Reading T} (h : at ≤ length line)
+    (s : Steps (f (rest_at line at)) (rest_at line at) r (form (rest_at line at))) where
+  there : Steps (f (drop at line)) (drop at line) r (form (drop at line))
   there = rw (rest-drop line at h) at s
 
-  pub went_on : {v n : ℕ} → r ≡ To v n → Stands line (at + n) (past (f v) (drop (at + n) line)) (form (drop at line))
-  went_on {v} e = shifted (past (f v)) h (steps-to there e)
+  pub went_within : at + step_place r ≤ length line
+  went_within = shifted-within line at h there
 
-  pub stays_on : {p : ℕ} → r ≡ Stuck p → Stands line (at + p) (stuck (drop (at + p) line)) (form (drop at line))
+  pub moved : {q : Reading T} → q ≡ shifted_step at r → Steps (f (drop at line)) line q (form (drop at line))
+  moved e = rw e (steps-shifted line at h r there)
+
+  pub went_on : {t : Taken T} → r ≡ Ok t → Stands line (at + t.bytes) (past (f (drop at line) t.value) (drop (at + t.bytes) line)) (form (drop at line))
+  went_on {t} e = shifted (past (f (drop at line) t.value)) h (steps-to there e)
+
+  pub stays_on : {p : Stuck} → r ≡ Err p → Stands line (at + p.after) (stuck (drop (at + p.after) line)) (form (drop at line))
   stays_on e = shifted stuck h (steps-stuck there e)
 
+-- (and does not begin before that place)
+pub shifted-behind : {T : Type 0} {at : ℕ} {t : Taken T} (r : Reading T) → Ok t ≡ shifted_step at r → at ≤ t.bytes
+shifted-behind (Ok u) h = omega (arith, ap step_place h)
+shifted-behind (Err p) h = omega (arith, ap step_place h)
+
 -- a step that is stuck is the answer of the whole
-pub onward-halted : {A B : Type 0} {f : ℕ → A} {g : ℕ → B} {line : Text} {p : ℕ} {r : Step} {due : Past A} (k : A → Text → Past B)
-    → Steps f line r due → r ≡ Stuck p
-    → Steps g line r (onward due k)
-onward-halted k s e = record { stands = rw e (stops k (steps-stuck s e)) }
+pub onward-halted : {T U A B : Type 0} {f : T → A} {g : U → B} {line : Text} {p : Stuck} {r : Reading T} {due : Past A} (k : A → Text → Past B)
+    → Steps f line r due → r ≡ Err p
+    → Steps g line (Err p) (onward due k)
+onward-halted k s e = record { stands = stops k (steps-stuck s e) }
+
+-- what a `?` hands on is where it was stuck
+pub handed_on : {U B : Type 0} {g : U → B} {line : Text} {p : Stuck} {q : Reading U} {due : Past B} → IsErrAnd q (λ x. x ≡ p)
+    → Stands line p.after (stuck (drop p.after line)) due
+    → Steps g line q due
+handed_on {q = q} h s = let r = err_from_is_err_and q h in rw (r.1, r.2) (record { stands = s })
 
 -- a sign that must stand there
 module _ {B : Type 0} (sign : ℕ) (line : Text) (at : ℕ) (k : Unit {0} → Text → Past B) where

@@ -7,8 +7,8 @@ use Prim.Native.Nat.{ℕ, zero, suc, ◌+◌, ◌*◌, ◌-◌, ◌/◌, ◌%◌
 use native.Mathlib.Nat.{pow-succ', pow-le-pow_right, mul-le-mul, le_refl, one-le-pow, not-suc-le-zero}
 use native.Mathlib.Numerals.{add-one}
 use native.Mathlib.Omega.{arith}
-use lib.Dec.{T, leb, leb→le, lit<}
-use borrow.Author.Tests.{ne_eqb}
+use lib.Dec.{T, leb, ltb, leb→le, lit<}
+use borrow.Author.Tests.{ne_eqb, ltb-true, ltb-false}
 use Rattle.meaning.proofs.Tests.{and_left, and_right}
 use Rattle.meaning.specs.Legal.{Each}
 use lib.ListN.{length, get_or, take, drop, drop_of_length-le, length-drop}
@@ -53,15 +53,23 @@ onward-prefixed p b (past w r) = ap (λ t. past t r) (append_snoc p b w)
 onward-prefixed p b (stuck r) = refl
 
 module _ (line : Text) (next : ℕ) (p : Text) where
-  pub on-full : (room : ℕ) → room ≤ 0 → past p (drop next line) ≡ onward (word_on room (drop next line)) (prefixed p)
+  on-full : (room : ℕ) → room ≤ 0 → past p (drop next line) ≡ onward (word_on room (drop next line)) (prefixed p)
   unfolding word_on
   on-full zero h = rw append-nil
   on-full (suc room) h = absurd (not-suc-le-zero h)
 
-  pub on_none : (room : ℕ) → length line ≤ next → past p (drop next line) ≡ onward (word_on room (drop next line)) (prefixed p)
+  on_none : (room : ℕ) → length line ≤ next → past p (drop next line) ≡ onward (word_on room (drop next line)) (prefixed p)
   unfolding word_on
   on_none zero h = rw append-nil
   on_none (suc room) h = rw (drop_of_length-le line h, append-nil)
+
+  -- no room, or nothing more in the line
+  pub on-end : (room : ℕ) → (next < length line → room ≤ 0) → past p (drop next line) ≡ onward (word_on room (drop next line)) (prefixed p)
+  on-end room h = cases (ltb next (length line)) refl
+    where
+      cases : (t : Bool) → ltb next (length line) ≡ t → past p (drop next line) ≡ onward (word_on room (drop next line)) (prefixed p)
+      cases true e = on-full room (h (ltb-true next (length line) e))
+      cases false e = on_none room (ltb-false next (length line) e)
 
   pub on-other : (room : ℕ) → next < length line → (is_lower (get_or line next 0) || is_digit (get_or line next 0)) ≡ false
       → past p (drop next line) ≡ onward (word_on room (drop next line)) (prefixed p)

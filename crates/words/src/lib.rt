@@ -8,28 +8,35 @@ pub mod literals;
 pub mod names;
 pub mod numbers;
 
-ghost use Rattle.std.specs.Prelude.{◌&&◌, ◌≡◌, leb};
-ghost use Rattle.words.specs.Steps.{step_place};
+ghost use Rattle.std.specs.Prelude.{◌+◌, ◌<◌, ◌^◌, ◌≡◌};
+ghost use Rattle.words.specs.Steps.{shifted_step, step_place};
 
-// What was read, a number or a packed name, and how many bytes it took; or after how many bytes the reading was stuck.
-#[derive(Clone, Copy)]
-pub enum Step {
-    To(u64, usize),
-    Stuck(usize),
+// What was read, as a number, a packed name or an entry of a list, and how many bytes it took.
+#[derive(Clone, Copy, Debug, PartialEq, Eq)]
+pub struct Taken<T> {
+    pub value: T,
+    pub bytes: usize,
 }
 
-// After how many bytes a step was stuck; of one that read something, how many that took.
-pub fn stuck_at(s: Step) -> usize
-    ensures { result ≡ step_place s }
+// After how many bytes the reading was stuck.
+#[derive(Clone, Copy, Debug, PartialEq, Eq)]
+pub struct Stuck {
+    pub after: usize,
+}
+
+// What was read, or where the reading was stuck.
+pub type Reading<T> = Result<Taken<T>, Stuck>;
+
+// A reading of what stands from a place on, as one of the whole: its bytes are counted from the start.
+pub fn shifted<T>(read: Reading<T>, at: usize) -> Reading<T>
+    requires { at + step_place read < 2 ^ 64 }
+    ensures { result ≡ shifted_step at read }
 {
-    match s {
-        Step::To(_, next) => next,
-        Step::Stuck(p) => p,
+    match read {
+        Ok(Taken { value, bytes }) => Ok(Taken {
+            value,
+            bytes: at + bytes,
+        }),
+        Err(Stuck { after }) => Err(Stuck { after: at + after }),
     }
-}
-
-fn between(b: u8, low: u8, high: u8) -> bool
-    ensures { result ≡ (leb low b && leb b high) }
-{
-    low <= b && b <= high
 }

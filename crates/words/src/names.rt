@@ -6,55 +6,44 @@ ghost use Rattle.grammar.specs.Faults.{name_number};
 ghost use Rattle.words.specs.Searches.{number_from};
 ghost use Rattle.words.specs.Steps.{Steps};
 
-use crate::{Step, between};
+use crate::{Reading, Stuck, Taken};
 
 // A letter or a digit, as a name has them after its first letter.
 fn goes_on(b: u8) -> bool
     ensures { result ≡ (is_lower b || is_digit b) }
 {
-    between(b, 97, 122) || between(b, 48, 57)
+    b.is_ascii_lowercase() || b.is_ascii_digit()
 }
 
 // A name: a lower-case letter, then up to seven letters or digits. It is packed in a word, its first byte lowest.
-pub fn read_word(rest: &[u8]) -> Step
+pub fn read_word(rest: &[u8]) -> Reading<u64>
     ensures { Steps (λ w. name_of 8 w) rest.now result (word rest.now) }
 {
-    if rest.len() <= 0 {
-        return Step::Stuck(0);
+    let most = rest.len().min(8);
+    if most == 0 || !rest[0].is_ascii_lowercase() {
+        return Err(Stuck { after: 0 });
     }
-    if !between(rest[0], 97, 122) {
-        return Step::Stuck(0);
-    }
-    let mut w = rest[0] as u64;
-    let mut bytes: u64 = 1;
-    let mut next = 1;
-    while bytes < 8 {
-        if rest.len() <= next {
-            return Step::To(w, next);
-        }
-        let b = rest[next];
+    let mut value = rest[0] as u64;
+    for bytes in 1..most {
+        let b = rest[bytes];
         if !goes_on(b) {
-            return Step::To(w, next);
+            return Ok(Taken { value, bytes });
         }
-        w += (b as u64) << (8 * bytes);
-        bytes += 1;
-        next += 1;
+        value += (b as u64) << (8 * bytes);
     }
-    Step::To(w, next)
+    Ok(Taken { value, bytes: most })
 }
 
 // The number of a name among those given, where none before `start` is that name; a name that is not there has the number after the last.
 pub fn find_from(names: &[u64], start: usize, w: u64) -> usize
     ensures { result ≡ number_from names.now start w }
 {
-    let mut i = start;
-    while i < names.len() {
+    for i in start..names.len() {
         if names[i] == w {
             return i;
         }
-        i += 1;
     }
-    i
+    start.max(names.len())
 }
 
 // The same, looked for from the first name on.

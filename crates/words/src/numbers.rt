@@ -4,50 +4,46 @@ ghost use Rattle.grammar.specs.Text.{onward, byte, number};
 ghost use Rattle.words.specs.Steps.{digit_of, Steps};
 
 use crate::literals::sign_at;
-use crate::{Step, between, stuck_at};
+use crate::{Reading, Stuck, Taken, shifted};
 
-// The digit at a place, 10 where there is none.
-fn digit_at(line: &[u8], at: usize) -> u64
+// The digit at a place, if there is one.
+fn digit_at(line: &[u8], at: usize) -> Option<u64>
     ensures { result ≡ digit_of (drop at line.now) }
 {
-    if line.len() <= at {
-        return 10;
+    if line.len() <= at || !line[at].is_ascii_digit() {
+        return None;
     }
-    let b = line[at];
-    if !between(b, 48, 57) {
-        return 10;
-    }
-    (b - 48) as u64
+    Some((line[at] - b'0') as u64)
 }
 
 // A decimal number: one or two digits, no leading zero.
-pub fn read_number(rest: &[u8]) -> Step
+pub fn read_number(rest: &[u8]) -> Reading<u64>
     ensures { Steps (λ n. n) rest.now result (number rest.now) }
 {
-    let tens = digit_at(rest, 0);
-    if 9 < tens {
-        return Step::Stuck(0);
-    }
+    let Some(tens) = digit_at(rest, 0) else {
+        return Err(Stuck { after: 0 });
+    };
     if tens == 0 {
-        return Step::To(0, 1);
+        return Ok(Taken { value: 0, bytes: 1 });
     }
-    let ones = digit_at(rest, 1);
-    if 9 < ones {
-        return Step::To(tens, 1);
-    }
-    Step::To(10 * tens + ones, 2)
+    let Some(ones) = digit_at(rest, 1) else {
+        return Ok(Taken {
+            value: tens,
+            bytes: 1,
+        });
+    };
+    Ok(Taken {
+        value: 10 * tens + ones,
+        bytes: 2,
+    })
 }
 
 // A number after a sign.
-pub fn number_after(rest: &[u8], sign: u8) -> Step
+pub fn number_after(rest: &[u8], sign: u8) -> Reading<u64>
     ensures { Steps (λ n. n) rest.now result (onward (byte sign rest.now) (λ _ s. number s)) }
 {
     if !sign_at(rest, 0, sign) {
-        return Step::Stuck(0);
+        return Err(Stuck { after: 0 });
     }
-    let read = read_number(&rest[1..]);
-    let Step::To(n, bytes) = read else {
-        return Step::Stuck(1 + stuck_at(read));
-    };
-    Step::To(n, 1 + bytes)
+    shifted(read_number(&rest[1..]), 1)
 }

@@ -12,7 +12,7 @@ returns c =
     let a = c.args in
     let ordered = c.below.ensures in
     record {
-      faults = c.joined.ensures ∙ rw (c.plus-total.ensures, ordered, not-below (code a.key) (code a.t.floor));
+      faults = c.joined.ensures ∙ rw (c.saturating_add-total.ensures, ordered, not-below (code a.key) (code a.t.floor));
       floors = c.joined-2.ensures ∙ ap (λ (n : ℕ). packed ((code a.key + n) % 2 ^ 124)) (code_of c.label_of.ensures);
-      totals = rw (c.least.ensures, c.plus.ensures, c.plus-total.ensures);
+      totals = rw (c.min.ensures, c.saturating_add.ensures, c.saturating_add-total.ensures);
     }

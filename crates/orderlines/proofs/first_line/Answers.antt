@@ -4,30 +4,22 @@ use mathlib.Core.List.{map}
 use native.Mathlib.Omega.{arith}
 use Rattle.table.specs.Decoded.{name_of}
 use Rattle.keyed.proofs.Walks.{line-bad}
-use Rattle.orderlines.proofs.OrderLines.{order-stuck-there, order-formless, order-faulty, order-came}
+use Rattle.orderlines.proofs.OrderLines.{order-formless, order-faulty, order-came}
 use Rattle.orderlines.proofs.OrderEnds.{refused-walked}
 use Rattle.orderlines.proofs.first_line.Goals as goal
 
-pub read_order-step-requires : goal.read_order-step-requires
-read_order-step-requires c = c.requires
-
-pub returns-in_default : goal.returns-in_default
-returns-in_default c =
+pub returns-in-Err : goal.returns-in-Err
+returns-in-Err c =
     let a = c.args in
-    let k = rw (order-stuck-there c.in_default.is c.order_stuck_at.ensures) at c.read_order-step.ensures in
-    refused-walked c.refused.ensures
-    (line-bad a.line a.text.now c.flaw_after.ensures (order-formless (map (name_of 8) a.names.now) a.text.now k)) (omega arith)
+    refused-walked (line-bad a.line a.text.now c.flaw_after-flaw.ensures (order-formless (map (name_of 8) a.names.now) a.text.now c.in-Err.ensures)) (omega arith)
 
-pub returns-in-Faulty : goal.returns-in-Faulty
-returns-in-Faulty c =
+pub returns-in-Some : goal.returns-in-Some
+returns-in-Some c =
     let a = c.args in
-    let k = rw c.in-To.is at c.read_order-step.ensures in
-    refused-walked c.refused-in-Faulty.ensures
-    (line-bad a.line a.text.now c.flaw_in.ensures
-    (order-faulty (map (name_of 8) a.names.now) a.text.now k c.in-Faulty.is)) (omega arith)
+    refused-walked
+    (line-bad a.line a.text.now c.flaw_in-flaw.ensures (order-faulty (map (name_of 8) a.names.now) a.text.now c.in-Ok.ensures c.in-Some.is)) (omega arith)
 
 pub returns : goal.returns
 returns c =
     let a = c.args in
-    let k = rw c.in-To.is at c.read_order-step.ensures in
-    record { came = order-came (map (name_of 8) a.names.now) a.text.now k a.line c.in_default-found.is }
+    record { came = order-came (map (name_of 8) a.names.now) a.text.now c.in-Ok.ensures a.line c.in_default.is }

@@ -1,40 +1,38 @@
 -- `orderlines::only_line` meets its contract: the order, and nothing after it.
 -- Assumes nothing.
+use mathlib.Core.Path.{refl}
 use native.Mathlib.Omega.{arith}
+use Rattle.std.proofs.lemmas.Result.{err_from_is_err_and}
 use Rattle.orderlines.proofs.OrderEnds.{refused-first, names-over, line-over, order-there, order-bad, order-short, order-whole}
 use Rattle.orderlines.proofs.only_line.Goals as goal
 
 pub returns-then-names-gt-NAMES : goal.returns-then-names-gt-NAMES
 returns-then-names-gt-NAMES c =
     let a = c.args in
-    refused-first c.refused.ensures c.first_flaw.ensures
-    (names-over a.names.now a.line a.text.now c.if-names-gt-NAMES.true) (omega arith)
+    refused-first c.first_flaw-flaw.ensures (names-over a.names.now a.line a.text.now c.if-names-gt-NAMES.true) (omega arith)
 
-pub returns-then-line-ge-LARGEST : goal.returns-then-line-ge-LARGEST
-returns-then-line-ge-LARGEST c =
+pub returns-then-line-eq18446744073709551615 : goal.returns-then-line-eq18446744073709551615
+returns-then-line-eq18446744073709551615 c =
     let a = c.args in
-    refused-first c.refused-then-line-ge-LARGEST.ensures c.first_flaw-then-line-ge-LARGEST.ensures
-    (line-over a.names.now a.line a.text.now c.if-names-gt-NAMES.false c.if-line-ge-LARGEST.true) (omega arith)
+    refused-first c.first_flaw-flaw.ensures (line-over a.names.now a.line a.text.now c.if-names-gt-NAMES.false (omega arith)) (omega arith)
 
-pub first_line-last-requires : goal.first_line-last-requires
-first_line-last-requires c = c.if-names-gt-NAMES.false
+pub first_line-requires : goal.first_line-requires
+first_line-requires c = c.if-names-gt-NAMES.false
 
-pub returns-in_default : goal.returns-in_default
-returns-in_default c =
+pub returns-in_err-last : goal.returns-in_err-last
+returns-in_err-last c =
     let a = c.args in
-    order-bad (order-there a.names.now a.line a.text.now c.if-names-gt-NAMES.false c.if-line-ge-LARGEST.false) c.first_line-last.ensures
-    c.in_default.is
+    let p = err_from_is_err_and c.from_residual.result c.from_residual.ensures.1 in
+    rw (p.1, p.2) (order-bad (order-there a.names.now a.line a.text.now c.if-names-gt-NAMES.false (omega arith)) c.in_err-last.ensures refl)
 
-pub returns-then-end-text : goal.returns-then-end-text
-returns-then-end-text c =
+pub returns-then-last-text : goal.returns-then-last-text
+returns-then-last-text c =
     let a = c.args in
-    refused-first c.refused-then-end-text.ensures c.first_flaw-then-end-text.ensures
-    (order-short (order-there a.names.now a.line a.text.now c.if-names-gt-NAMES.false c.if-line-ge-LARGEST.false) c.first_line-last.ensures
-    c.in-To.is c.if-end-text.true)
+    refused-first c.first_flaw-flaw.ensures
+    (order-short (order-there a.names.now a.line a.text.now c.if-names-gt-NAMES.false (omega arith)) c.in_ok-last.ensures refl c.if-last-text.true)
     (omega arith)
 
 pub returns : goal.returns
 returns c =
     let a = c.args in
-    order-whole (order-there a.names.now a.line a.text.now c.if-names-gt-NAMES.false c.if-line-ge-LARGEST.false) c.first_line-last.ensures
-    c.in-To.is c.if-end-text.false
+    order-whole (order-there a.names.now a.line a.text.now c.if-names-gt-NAMES.false (omega arith)) c.in_ok-last.ensures refl c.if-last-text.false

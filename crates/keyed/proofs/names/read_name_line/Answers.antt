@@ -5,30 +5,25 @@ use Rattle.meaning.specs.Bytes.{ascii}
 use Rattle.table.specs.Decoded.{name_of}
 use Rattle.grammar.specs.Text.{word}
 use Rattle.grammar.specs.Forms.{name_line}
-use Rattle.words.proofs.Steps.{steps-to, onward-halted}
+use Rattle.words.proofs.Steps.{stops, handed_on}
 use Rattle.keyed.proofs.Ends.{item-last, place-fits}
 use Rattle.keyed.proofs.names.read_name_line.Goals as goal
-use Rattle.keyed.proofs.names.read_name_line.Goals.{In-To}
 
-pub returns-in_default : goal.returns-in_default
+pub returns-in_err-key : goal.returns-in_err-key
 unfolding name_line
-returns-in_default c = onward-halted _ c.read_literal-start.ensures.steps c.in_default.is
+returns-in_err-key c = handed_on c.from_residual.ensures.1 (stops _ c.in_err-key.ensures.stands)
 
 pub slice_bounds-read_word-start : goal.slice_bounds-read_word-start
-slice_bounds-read_word-start c = (steps-to c.read_literal-start.ensures.steps c.in-To.is).within
+slice_bounds-read_word-start c = c.in_ok-key.ensures.stands.within
 
 pub slice_bounds-read_word-count : goal.slice_bounds-read_word-count
-slice_bounds-read_word-count c = let w = slice_bounds-read_word-start c in omega arith
+slice_bounds-read_word-count c = let w = c.in_ok-key.ensures.stands.within in omega arith
 
 pub at_end-requires : goal.at_end-requires
 at_end-requires c =
-    let text = c.args.text.now in
-    let w = place-fits text c.in-To.at (slice_bounds-read_word-start (goal.at.at_end-requires c).In-To) c.read_word.ensures in
+    let w = place-fits c.args.text.now c.in_ok-key.key.bytes c.in_ok-key.ensures.stands.within c.read_word.ensures in
     omega arith
 
 pub returns : goal.returns
 unfolding name_line
-returns c =
-    let a = c.args in
-    item-last (name_of 8) word (ascii "name=") a.text.now (steps-to c.read_literal-start.ensures.steps c.in-To.is)
-    c.read_word.ensures c.at_end.ensures
+returns c = item-last (name_of 8) word (ascii "name=") c.args.text.now c.in_ok-key.ensures.stands c.read_word.ensures c.at_end.ensures

@@ -3,30 +3,25 @@
 use native.Mathlib.Omega.{arith}
 use Rattle.grammar.specs.Text.{number}
 use Rattle.grammar.specs.Forms.{count_line}
-use Rattle.words.proofs.Steps.{steps-to, onward-halted}
+use Rattle.words.proofs.Steps.{stops, handed_on}
 use Rattle.keyed.proofs.Ends.{item-last, place-fits}
 use Rattle.keyed.proofs.numbers.read_count.Goals as goal
-use Rattle.keyed.proofs.numbers.read_count.Goals.{In-To}
 
-pub returns-in_default : goal.returns-in_default
+pub returns-in_err-start : goal.returns-in_err-start
 unfolding count_line
-returns-in_default c = onward-halted _ c.read_literal-start.ensures.steps c.in_default.is
+returns-in_err-start c = handed_on c.from_residual.ensures.1 (stops _ c.in_err-start.ensures.stands)
 
 pub slice_bounds-read_number-start : goal.slice_bounds-read_number-start
-slice_bounds-read_number-start c = (steps-to c.read_literal-start.ensures.steps c.in-To.is).within
+slice_bounds-read_number-start c = c.in_ok-start.ensures.stands.within
 
 pub slice_bounds-read_number-count : goal.slice_bounds-read_number-count
-slice_bounds-read_number-count c = let w = slice_bounds-read_number-start c in omega arith
+slice_bounds-read_number-count c = let w = c.in_ok-start.ensures.stands.within in omega arith
 
 pub at_end-requires : goal.at_end-requires
 at_end-requires c =
-    let text = c.args.text.now in
-    let w = place-fits text c.in-To.at (slice_bounds-read_number-start (goal.at.at_end-requires c).In-To) c.read_number.ensures in
+    let w = place-fits c.args.text.now c.in_ok-start.start.bytes c.in_ok-start.ensures.stands.within c.read_number.ensures in
     omega arith
 
 pub returns : goal.returns
 unfolding count_line
-returns c =
-    let a = c.args in
-    item-last (λ n. n) number a.key.now a.text.now (steps-to c.read_literal-start.ensures.steps c.in-To.is)
-    c.read_number.ensures c.at_end.ensures
+returns c = item-last (λ n. n) number c.args.key.now c.args.text.now c.in_ok-start.ensures.stands c.read_number.ensures c.at_end.ensures

@@ -1,13 +1,11 @@
 -- `lists::sides::read_pair` meets its contract: a name, and its right side.
 -- Assumes nothing.
-use Rattle.lists.proofs.Seen.{both-sides, pair-seen}
+use Rattle.words.proofs.Steps.{stops, goes, handed_on, become}
+use Rattle.lists.proofs.Seen.{pair-seen}
 use Rattle.lists.proofs.sides.read_pair.Goals as goal
 
-pub name_from-requires : goal.name_from-requires
-name_from-requires c = c.requires
-
-pub with_right-requires : goal.with_right-requires
-with_right-requires c = (c.name_from.ensures.stands.within, c.requires)
+pub returns-in_err-left : goal.returns-in_err-left
+returns-in_err-left c = handed_on c.from_residual.ensures.1 (become (pair-seen _ _) (stops _ c.in_err-left.ensures.stands))
 
 pub returns : goal.returns
-returns c = both-sides c.name_from.ensures c.with_right.ensures (pair-seen _ _)
+returns c = record { stands = become (pair-seen _ _) (goes _ c.in_ok-left.ensures.stands c.with_right.ensures.stands) }

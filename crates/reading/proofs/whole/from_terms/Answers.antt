@@ -1,31 +1,32 @@
 -- `reading::whole::from_terms` meets its contract: the terms, and the lines after them.
 -- Assumes nothing.
-use mathlib.Core.Path.{ap}
-use native.Mathlib.Omega.{arith}
-use lib.ListN.{length}
+use mathlib.Core.Path.{refl}
+use Rattle.std.proofs.lemmas.Result.{err_from_is_err_and}
 use Rattle.words.proofs.Steps.{rest-drop}
-use Rattle.sections.proofs.Places.{names-few}
 use Rattle.reading.proofs.Sequels.{terms-within, terms-refused, terms-read}
 use Rattle.reading.proofs.whole.from_terms.Goals as goal
-use Rattle.reading.proofs.whole.from_terms.Goals.{In-To}
 
-pub returns-in_default : goal.returns-in_default
-returns-in_default c =
-    terms-refused c.names_of.ensures c.bodies_of-equations.ensures c.requires c.read_terms-terms.ensures c.args.listed.now
-    c.in_default.is
+pub returns-in_err-at : goal.returns-in_err-at
+returns-in_err-at c =
+    let p = err_from_is_err_and c.from_residual.result c.from_residual.ensures.1 in
+    rw (p.1, p.2) (terms-refused c.names_of.ensures c.bodies_of-equations.ensures c.requires c.in_err-at.ensures c.args.listed.now refl)
 
 pub slice_bounds-read_end-count : goal.slice_bounds-read_end-count
-slice_bounds-read_end-count c =
-    terms-within c.names_of.ensures c.bodies_of-equations.ensures c.requires c.read_terms-terms.ensures c.in-To.is
+slice_bounds-read_end-count c = terms-within c.names_of.ensures c.bodies_of-equations.ensures c.requires c.in_ok-at.ensures refl
 
 pub slice_bounds-read_end-start : goal.slice_bounds-read_end-start
 slice_bounds-read_end-start c = slice_bounds-read_end-count c
 
-pub overflow_add-line-2 : goal.overflow_add-line-2
-overflow_add-line-2 c =
-    omega (arith, ap length c.names_of.ensures, names-few c.args.table.now, c.requires.0)
+pub returns-in_err-last : goal.returns-in_err-last
+returns-in_err-last c =
+    let within = terms-within c.names_of.ensures c.bodies_of-equations.ensures c.requires c.in_ok-at.ensures refl in
+    let p = err_from_is_err_and c.from_residual-in_err-last.result c.from_residual-in_err-last.ensures.1 in
+    rw (p.1, p.2)
+    (terms-read c.names_of.ensures c.bodies_of-equations.ensures c.requires c.in_ok-at.ensures c.args.listed.now refl
+    (rest-drop c.args.text.now c.in_ok-at.at within) c.in_err-last.ensures)
 
 pub returns : goal.returns
 returns c =
-    terms-read c.names_of.ensures c.bodies_of-equations.ensures c.requires c.read_terms-terms.ensures c.args.listed.now
-    c.in-To.is (rest-drop c.args.text.now c.in-To.at (slice_bounds-read_end-count (goal.at.returns c).In-To)) c.read_end.ensures
+    let within = terms-within c.names_of.ensures c.bodies_of-equations.ensures c.requires c.in_ok-at.ensures refl in
+    terms-read c.names_of.ensures c.bodies_of-equations.ensures c.requires c.in_ok-at.ensures c.args.listed.now refl
+    (rest-drop c.args.text.now c.in_ok-at.at within) c.in_ok-last.ensures

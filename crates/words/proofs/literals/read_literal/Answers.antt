@@ -1,5 +1,4 @@
 use mathlib.Core.Path.{refl, sym, ◌∙◌}
-use borrow.Author.Tests.{not-true, not-false}
 use native.Mathlib.Omega.{arith}
 use lib.ListN.{drop_of_length-le}
 use Rattle.words.proofs.Rests.{rest-cons, spelled-other, spelled-more, spelled-all}
@@ -8,25 +7,15 @@ use Rattle.words.proofs.literals.read_literal.Goals as goal
 pub loop-next-init : goal.loop-next-init
 loop-next-init c = record { says = refl; within = omega arith }
 
-pub bounds-due-next : goal.bounds-due-next
-bounds-due-next c = omega arith
-
 pub returns-then-not-sign_at : goal.returns-then-not-sign_at
 returns-then-not-sign_at c =
-    record {
-      steps = spelled-other c.loop-next.invariant (rest-cons _ _ c.loop-next-test.true) (sym c.sign_at.ensures ∙ not-true _ c.if-not-sign_at.true-raw);
-      numberless = refl;
-    }
-
-pub loop-next-smaller : goal.loop-next-smaller
-loop-next-smaller c = omega arith
+    spelled-other c.loop-next.invariant (rest-cons c.args.due.now c.loop-next.next (omega arith)) (sym c.sign_at.ensures ∙ c.if-not-sign_at.true)
 
 pub loop-next-preserved : goal.loop-next-preserved
 loop-next-preserved c =
-    spelled-more c.loop-next.invariant (rest-cons _ _ c.loop-next-test.true) (sym c.sign_at.ensures ∙ not-false _ c.if-not-sign_at.false-raw)
-
-pub overflow_add-next : goal.overflow_add-next
-overflow_add-next c = omega (arith, (loop-next-preserved c).within)
+    spelled-more c.loop-next.invariant (rest-cons c.args.due.now c.loop-next.next (omega arith)) (sym c.sign_at.ensures ∙ c.if-not-sign_at.false)
 
 pub returns : goal.returns
-returns c = record { steps = spelled-all c.loop-next.invariant (drop_of_length-le _ c.loop-next-test.false); numberless = refl }
+returns c =
+    let l = c.loop-next in
+    spelled-all l.invariant (drop_of_length-le c.args.due.now {i = l.next} (omega arith)) (omega arith)

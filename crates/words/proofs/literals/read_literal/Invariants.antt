@@ -1,12 +1,8 @@
 -- `words::literals::read_literal` meets its contract: what is left of the word against what is left of the line stays the answer.
 -- Assumes nothing.
-use Prim.Native.Nat.{◌-◌}
-use lib.ListN.{length, drop}
+use lib.ListN.{drop}
 use Rattle.words.proofs.Rests.{Spelling}
 use Rattle.words.proofs.literals.read_literal.Given as goal
 
 abbrev pub invariant-loop-next : goal.invariant-loop-next
 invariant-loop-next l = Spelling l.due (drop l.next l.due) l.rest l.next
-
-abbrev pub decreases-loop-next : goal.decreases-loop-next
-decreases-loop-next l = length l.due - l.next

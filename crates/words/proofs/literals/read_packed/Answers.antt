@@ -1,33 +1,28 @@
-use mathlib.Core.Path.{refl, sym, ◌∙◌}
-use borrow.Author.Tests.{not-true, not-false}
+use mathlib.Core.Path.{◌≡◌, refl, sym, ◌∙◌}
+use Prim.Native.Nat.{◌+◌, ◌-◌, ◌<◌, ◌^◌}
 use native.Mathlib.Omega.{arith}
 use Rattle.words.proofs.Rests.{spelled-other, spelled-more, spelled-all}
 use Rattle.words.proofs.Looked.{packed-split, packed_all}
 use Rattle.words.proofs.literals.read_packed.Goals as goal
 
-pub loop-left-init : goal.loop-left-init
-loop-left-init c = (8, omega arith, record { says = refl; within = omega arith })
-
-pub overflow_cast-b : goal.overflow_cast-b
-overflow_cast-b c = omega arith
+pub returns-then-left-eq0 : goal.returns-then-left-eq0
+returns-then-left-eq0 c = spelled-all c.loop-next.invariant.1 (packed_all (8 - c.loop-next.next) c.if-left-eq0.true) refl
 
 pub returns-then-not-sign_at : goal.returns-then-not-sign_at
 returns-then-not-sign_at c =
-    let i = c.loop-left.invariant in
-    let p = packed-split _ i.0 c.loop-left-test.true i.1 in
-    record { steps = spelled-other i.2 p.2 (sym c.sign_at.ensures ∙ not-true _ c.if-not-sign_at.true-raw); numberless = refl }
+    let i = c.loop-next.invariant in
+    let p = packed-split c.loop-next.left _ (8 - (c.loop-next.next + 1)) (omega arith) (omega arith) i.0 in
+    spelled-other i.1 p.1 (sym c.sign_at.ensures ∙ c.if-not-sign_at.true)
 
-pub loop-left-smaller : goal.loop-left-smaller
-loop-left-smaller c = omega arith
-
-pub loop-left-preserved : goal.loop-left-preserved
-loop-left-preserved c =
-    let i = c.loop-left.invariant in
-    let p = packed-split _ i.0 c.loop-left-test.true i.1 in
-    (p.0, p.1, spelled-more i.2 p.2 (sym c.sign_at.ensures ∙ not-false _ c.if-not-sign_at.false-raw))
-
-pub overflow_add-next : goal.overflow_add-next
-overflow_add-next c = omega (arith, (loop-left-preserved c).2.within)
+pub loop-next-preserved : goal.loop-next-preserved
+loop-next-preserved c =
+    let i = c.loop-next.invariant in
+    let p = packed-split c.loop-next.left _ (8 - (c.loop-next.next + 1)) (omega arith) (omega arith) i.0 in
+    (p.0, spelled-more i.1 p.1 (sym c.sign_at.ensures ∙ c.if-not-sign_at.false))
 
 pub returns : goal.returns
-returns c = let i = c.loop-left.invariant in record { steps = spelled-all i.2 (packed_all i.0 (omega arith)); numberless = refl }
+returns c =
+    let l = c.loop-next in
+    let e : 8 ≡ l.next = omega arith in
+    let few : l.left < 256 ^ 0 = rw (← e) at l.invariant.0 in
+    spelled-all l.invariant.1 (packed_all (8 - l.next) (omega arith)) e

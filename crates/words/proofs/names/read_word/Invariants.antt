@@ -1,11 +1,7 @@
 -- `words::names::read_word` meets its contract: byte by byte, each above those before it.
 -- Assumes nothing.
-use Prim.Native.Nat.{◌-◌}
 use Rattle.words.proofs.WordReading.{Worded}
 use Rattle.words.proofs.names.read_word.Given as goal
 
 abbrev pub invariant-loop-bytes : goal.invariant-loop-bytes
-invariant-loop-bytes l = Worded l.rest 0 l.w l.bytes l.next
-
-abbrev pub decreases-loop-bytes : goal.decreases-loop-bytes
-decreases-loop-bytes l = 8 - l.bytes
+invariant-loop-bytes l = Worded l.rest 0 l.value l.bytes l.bytes
