@@ -7,8 +7,8 @@ ghost use Rattle.feet.specs.Ends.{EndRoom, EndGiven};
 ghost use Rattle.sections.specs.Sections.{Whether};
 
 use faults::{Fault, first_flaw};
-use keyed::numbers::take_number;
 use keyed::BadLine;
+use keyed::numbers::take_number;
 use orderlines::take_order;
 use table::{BODIES_AT, EQUATIONS, Order, ROOT_AT, TABLE_WORDS, names_of};
 use words::Taken;

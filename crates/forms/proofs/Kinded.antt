@@ -6,7 +6,7 @@ use mathlib.Core.List.{List, map, ◌++◌}
 use Prim.Native.Nat.{ℕ, ◌+◌, ◌≤◌, ◌<◌, max}
 use native.Mathlib.Omega.{arith}
 use native.Mathlib.Numerals.{add-one}
-use lib.Dec.{ltb}
+use lib.Dec.{T, ltb, lit<}
 use lib.Seq.{drop-cons}
 use lib.ListN.{length, get_or, drop, length-drop, drop_of_length-le}
 use borrow.Author.Tests.{lt-ltb, le-ltb, ltb-true, ltb-false}
@@ -16,19 +16,16 @@ use Rattle.grammar.specs.Text.{Past, past, stuck, literal, word}
 use Rattle.grammar.specs.Forms.{Line, Kind, kinds, farther, of_kind}
 use Rattle.grammar.proofs.Onwards.{literal→}
 use Rattle.grammar.proofs.Atoms.{writes-word}
-use Rattle.words.specs.Steps.{Stands}
+use Rattle.words.specs.Steps.{Reading, step_place, shifted_step, Stands}
 use Rattle.words.proofs.Steps.{rest_at, rest-drop, shifted, become, text_in}
 use Rattle.tails.specs.Lines.{LineRead}
 use Rattle.tails.specs.Tails.{tail_of, TailRead}
 use Rattle.ranges.specs.declared.Bounds.{Bounds}
-use Rattle.tails.specs.declared.TermStep.{TermStep}
-use Rattle.tails.specs.declared.TermStep.TheVariants as T
+use Rattle.std.specs.Prelude.{Ok, Err}
+use Rattle.tails.specs.declared.TermLine.{TermLine}
 use Rattle.tails.proofs.Operands.{line-become}
 use Rattle.tails.proofs.Room.{room}
-use Rattle.forms.specs.Kinds.{kind_word, rest_of, no_kind, kind_place, KindFound, KindRead}
-use Rattle.forms.specs.Terms.{term_place, shifted_step}
-use Rattle.forms.specs.declared.kinds.KindStep.{KindStep}
-use Rattle.forms.specs.declared.kinds.KindStep.TheVariants as K
+use Rattle.forms.specs.Kinds.{kind_word, rest_of, no_kind, KindFound}
 use Rattle.forms.proofs.KindWords.{packed_kinds, kind-word, kind-rest, kind-decides}
 
 kind-count : length kinds ≡ 17
@@ -68,9 +65,6 @@ pub record Sought (text : Text) (at far k : ℕ) : Type 0 where
 module _ (text : Text) (at : ℕ) where
   pub sought-none : at ≤ length text → Sought text at at 17
   sought-none h = record { few = omega arith; stays = record { says = kind-none kinds 17 (drop at text) (rw kind-count (omega arith)); within = h } }
-
-  pub sought-all : {far k : ℕ} → Sought text at far k → k ≡ 0 → Stands text far (stuck (drop far text)) (of_kind kinds (drop at text))
-  sought-all s e = rw e at s.stays
 
   module _ (k : ℕ) (h : k < 17) where
     abbrev word_due : Past (Unit {0})
@@ -113,26 +107,14 @@ module _ (text : Text) (at : ℕ) where
         }
 
 -- a word of the code's table is that of its kind
-pub numbered : {w : ℕ} (k : ℕ) → w ≡ get_or packed_kinds k 0 → k < 17 → name_of 8 w ≡ kind_word k
-numbered k e h = ap (name_of 8) e ∙ kind-word k h
-
--- What is read off a kind's step that was stuck is where it was.
-pub kind-stuck-there : {r : KindStep} {p q : ℕ} → r ≡ K.Stuck p → q ≡ kind_place r → r ≡ K.Stuck q
-kind-stuck-there e f = e ∙ ap K.Stuck (sym (f ∙ ap kind_place e))
-
--- The answer of a search for the kind, taken apart.
-module _ {text : Text} (at : ℕ) (r : KindStep) (h : KindRead text at r) where
-  pub kind-to : {k next : ℕ} → r ≡ K.To k next → KindFound text at k next
-  kind-to e = rw e at h
-
-  pub kind-stays : {p : ℕ} → r ≡ K.Stuck p → Stands text p (stuck (drop p text)) (of_kind kinds (drop at text))
-  kind-stays e = rw e at h
+pub numbered : {w : ℕ} (k : ℕ) → T (ltb k 17) → w ≡ get_or packed_kinds k 0 → (k < 17) × (name_of 8 w ≡ kind_word k)
+numbered k t e = let h = lit< t in (h, ap (name_of 8) e ∙ kind-word k h)
 
 -- the place where a line is read or stuck lies in the text
-place-within : (words : List Text) (bounds : Bounds) (text : Text) (due : Past Line) (before after : List ℕ) (r : TermStep)
-    → LineRead words bounds text due before after r → term_place r ≤ length text
-place-within words bounds text due before after (T.To x f took) l = l.within
-place-within words bounds text due before after (T.Stuck p) s = s.within
+place-within : (words : List Text) (bounds : Bounds) (text : Text) (due : Past Line) (before after : List ℕ) (r : Reading TermLine)
+    → LineRead words bounds text due before after r → step_place r ≤ length text
+place-within words bounds text due before after (Ok t) l = l.within
+place-within words bounds text due before after (Err p) s = s.within
 
 -- What follows the word of the kind that was found, with few enough names, is what the line says.
 module _ {text : Text} {at k next : ℕ} (found : KindFound text at k next) where
@@ -147,14 +129,14 @@ module _ {text : Text} {at k next : ℕ} (found : KindFound text at k next) wher
       become (sym (ap (of_kind kinds) found.begins ∙ kind-decides k found.known tail shorter)) (shifted answer found.within s)
 
   module _ (names : List ℕ) (bounds : Bounds) (before after : List ℕ) where
-    line-decided : (r : TermStep) → LineRead (map (name_of 8) names) bounds tail (rest_of k tail) before after r
+    line-decided : (r : Reading TermLine) → LineRead (map (name_of 8) names) bounds tail (rest_of k tail) before after r
         → LineRead (map (name_of 8) names) bounds text (of_kind kinds (drop at text)) before after (shifted_step next r)
-    line-decided (T.To x f took) l =
-        let s = decided (past l.line) (λ t. refl) {p = took} (record { says = l.says; within = l.within }) in
+    line-decided (Ok t) l =
+        let s = decided (past l.line) (λ t. refl) {p = t.bytes} (record { says = l.says; within = l.within }) in
         record { line = l.line; says = s.says; within = s.within; term = l.term; faults = l.faults; stored = l.stored }
-    line-decided (T.Stuck p) s = decided stuck (λ t. refl) s
+    line-decided (Err p) s = decided stuck (λ t. refl) s
 
-    module _ (r : TermStep) (t : TailRead names bounds k (rest_at text next) before after r) where
+    module _ (r : Reading TermLine) (t : TailRead names bounds k (rest_at text next) before after r) where
       there : TailRead names bounds k tail before after r
       there = subst (λ l. TailRead names bounds k l before after r) (rest-drop text next found.within) t
 
@@ -163,5 +145,5 @@ module _ {text : Text} {at k next : ℕ} (found : KindFound text at k next) wher
           line-decided r
           (line-become (map (name_of 8) names) bounds tail before after r (sym (room names few (tail_of k tail) tail) ∙ kind-rest k found.known tail) there)
 
-      pub tail_within : next + term_place r ≤ length text
+      pub tail_within : next + step_place r ≤ length text
       tail_within = omega (arith, place-within (map (name_of 8) names) bounds tail _ before after r there, length-drop next text, found.within)

@@ -9,14 +9,15 @@ use Rattle.grammar.specs.Text.{Past}
 use Rattle.grammar.specs.Forms.{Line}
 use Rattle.tails.specs.Lines.{LineRead}
 use Rattle.ranges.specs.declared.Bounds.{Bounds}
-use Rattle.tails.specs.declared.TermStep.{TermStep}
-use Rattle.tails.specs.declared.TermStep.TheVariants as T
+use Rattle.std.specs.Prelude.{Ok, Err}
+use Rattle.words.specs.Steps.{Reading}
+use Rattle.tails.specs.declared.TermLine.{TermLine}
 use Rattle.forms.specs.Terms.{TermRead}
 
-pub line_taken : (words : List Text) (bounds : Bounds) (text : Text) (due : Past Line) (before after : List ℕ) (r : TermStep)
+pub line_taken : (words : List Text) (bounds : Bounds) (text : Text) (due : Past Line) (before after : List ℕ) (r : Reading TermLine)
     → length after ≡ length before
     → LineRead words bounds text due before after r
     → TermRead words bounds.equations bounds.term text due before after r
-line_taken words bounds text due before after (T.To x f took) h l =
+line_taken words bounds text due before after (Ok t) h l =
     record { line = l.line; says = l.says; within = l.within; term = l.term; faults = l.faults; stored = l.stored; long = h }
-line_taken words bounds text due before after (T.Stuck p) h s = (s.says, h)
+line_taken words bounds text due before after (Err p) h s = (s.says, h)

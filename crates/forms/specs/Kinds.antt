@@ -1,12 +1,10 @@
 -- The kind's word as the code finds it.
 -- Assumes nothing.
-use Rattle.std.specs.Prelude.{◌≡◌, [], ◌++◌, ℕ, ◌≤◌, ◌<◌, length, get_or, drop}
+use Rattle.std.specs.Prelude.{◌≡◌, [], ◌++◌, ℕ, ◌≤◌, ◌<◌, Ok, Err, length, get_or, drop}
 use Rattle.meaning.specs.Bytes.{Text}
 use Rattle.grammar.specs.Text.{Past, stuck}
 use Rattle.grammar.specs.Forms.{Line, Kind, kinds, of_kind}
-use Rattle.words.specs.Steps.{Stands}
-use Rattle.forms.specs.declared.kinds.KindStep.{KindStep}
-use Rattle.forms.specs.declared.kinds.KindStep.TheVariants.{To, Stuck}
+use Rattle.words.specs.Steps.{Reading, Stands}
 
 -- past the kinds nothing is due
 abbrev pub no_kind : Kind
@@ -25,10 +23,6 @@ pub record KindFound (text : Text) (at k next : ℕ) : Type 0 where
   pub begins : drop at text ≡ kind_word k ++ drop next text
   pub within : next ≤ length text
 
-abbrev pub kind_place : KindStep → ℕ
-kind_place (To k next) = next
-kind_place (Stuck p) = p
-
-abbrev pub KindRead : Text → ℕ → KindStep → Type 0
-KindRead text at (To k next) = KindFound text at k next
-KindRead text at (Stuck p) = Stands text p (stuck (drop p text)) (of_kind kinds (drop at text))
+abbrev pub KindRead : Text → ℕ → Reading ℕ → Type 0
+KindRead text at (Ok t) = KindFound text at t.value t.bytes
+KindRead text at (Err s) = Stands text s.after (stuck (drop s.after text)) (of_kind kinds (drop at text))

@@ -1,11 +1,11 @@
 // The kind's word, with which a term begins.
-ghost use Rattle.std.specs.Prelude.{◌≤◌, ◌<◌, max, ◌≡◌, length};
+ghost use Rattle.std.specs.Prelude.{◌≤◌, ◌<◌, ◌≡◌, IfSome, length};
 ghost use Rattle.table.specs.Decoded.{name_of};
-ghost use Rattle.forms.specs.Kinds.{kind_word, kind_place, KindRead};
+ghost use Rattle.forms.specs.Kinds.{kind_word, KindRead};
 
 use words::literals::read_packed;
 use words::names::read_word;
-use words::{Step, stuck_at};
+use words::{Reading, Stuck, Taken, shifted};
 
 // The words of the kinds, packed as names are: the first byte lowest.
 const DELTA: u64 = 0x61746c6564;
@@ -48,90 +48,69 @@ const KINDS: [u64; 17] = [
     COMM, ALLOW,
 ];
 
-// The kind whose word stands there, and the place after it; or the farthest place where a word was stuck.
-#[derive(Clone, Copy)]
-pub enum KindStep {
-    To(usize, usize),
-    Stuck(usize),
-}
-
-// The farthest place where a word was stuck, where none stands there; of a kind that was found, the place after its word.
-pub fn kind_stuck_at(s: KindStep) -> usize
-    ensures { result ≡ kind_place s }
-{
-    match s {
-        KindStep::To(_, next) => next,
-        KindStep::Stuck(p) => p,
-    }
-}
-
-// The larger of two places.
-fn most(a: usize, b: usize) -> usize
-    ensures { result ≡ max a b }
-{
-    if a <= b { b } else { a }
-}
-
-// The number of the kind with this word; 17 where it is none.
-fn kind_number(word: u64) -> usize
-    ensures { result < 17 → name_of 8 word ≡ kind_word result }
+// The number of the kind with this word, if there is one.
+fn kind_number(word: u64) -> Option<usize>
+    ensures { IfSome result (λ k. (k < 17) × (name_of 8 word ≡ kind_word k)) }
 {
     match word {
-        DELTA => 0,
-        TAU => 1,
-        ACT => 2,
-        REF => 3,
-        SUM => 4,
-        COND => 5,
-        CHOICE => 6,
-        IFELSE => 7,
-        SEQ => 8,
-        MERGE => 9,
-        LMERGE => 10,
-        SYNC => 11,
-        BLOCK => 12,
-        HIDE => 13,
-        RENAME => 14,
-        COMM => 15,
-        ALLOW => 16,
-        _ => 17,
+        DELTA => Some(0),
+        TAU => Some(1),
+        ACT => Some(2),
+        REF => Some(3),
+        SUM => Some(4),
+        COND => Some(5),
+        CHOICE => Some(6),
+        IFELSE => Some(7),
+        SEQ => Some(8),
+        MERGE => Some(9),
+        LMERGE => Some(10),
+        SYNC => Some(11),
+        BLOCK => Some(12),
+        HIDE => Some(13),
+        RENAME => Some(14),
+        COMM => Some(15),
+        ALLOW => Some(16),
+        _ => None,
     }
 }
 
 // The kind whose word stands at a place, by trying every word: also where more letters follow it. Where none stands there this
 // finds how far the text agrees with one.
-fn try_kinds(text: &[u8], at: usize) -> KindStep
+fn try_kinds(text: &[u8], at: usize) -> Reading<usize>
     requires { at ≤ length text.now }
     ensures { KindRead text.now at result }
 {
     // In a local of its own, or the whole table would be laid out again for each word.
     let words = KINDS;
     let mut far = at;
-    let mut k = 17;
-    while 0 < k {
-        k -= 1;
-        let word = read_packed(&text[at..], words[k]);
+    for k in (0..words.len()).rev() {
         // This is a search and no reading step: a word that reads ends it, and one that does not is passed over.
-        if let Step::To(_, bytes) = word {
-            return KindStep::To(k, at + bytes);
+        match shifted(read_packed(&text[at..], words[k]), at) {
+            Ok(word) => {
+                return Ok(Taken {
+                    value: k,
+                    bytes: word.bytes,
+                });
+            }
+            Err(stuck) => far = stuck.after.max(far),
         }
-        far = most(at + stuck_at(word), far);
     }
-    KindStep::Stuck(far)
+    Err(Stuck { after: far })
 }
 
 // The kind whose word stands at a place: in a right line the letters there are no more than the word.
-pub fn find_kind(text: &[u8], at: usize) -> KindStep
+pub fn find_kind(text: &[u8], at: usize) -> Reading<usize>
     requires { at ≤ length text.now }
     ensures { KindRead text.now at result }
 {
-    let letters = read_word(&text[at..]);
-    let Step::To(word, bytes) = letters else {
+    let Ok(letters) = shifted(read_word(&text[at..]), at) else {
         return try_kinds(text, at);
     };
-    let k = kind_number(word);
-    if 17 <= k {
+    let Some(k) = kind_number(letters.value) else {
         return try_kinds(text, at);
-    }
-    KindStep::To(k, at + bytes)
+    };
+    Ok(Taken {
+        value: k,
+        bytes: letters.bytes,
+    })
 }

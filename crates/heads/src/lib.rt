@@ -5,9 +5,9 @@ ghost use Rattle.std.specs.Prelude.{◌≤◌, length};
 ghost use Rattle.heads.specs.Heads.{NamesRead, CountsRead, HeadGiven};
 
 use faults::{Fault, first_flaw};
+use keyed::BadLine;
 use keyed::names::take_name;
 use keyed::numbers::take_number;
-use keyed::BadLine;
 use table::{COUNTED_AT, EQUATED_AT, NAMED_AT, NAMES_AT, TABLE_WORDS};
 use words::Taken;
 

@@ -21,7 +21,7 @@ use Rattle.grammar.specs.Forms.{Places, Line, plain, acts, space, alone, of_name
 use Rattle.grammar.specs.Faults.{name_number, name_fault, words_of_fault, term_fault}
 use Rattle.labels.specs.Packing.{code}
 use Rattle.faults.proofs.Ranks.{worse-fine}
-use Rattle.words.specs.Steps.{Stands}
+use Rattle.words.specs.Steps.{Reading, Stands}
 use Rattle.words.proofs.Rests.{sign-within, literal-other, literal-more}
 use Rattle.words.proofs.Steps.{stops, become, back-stuck, back-past}
 use Rattle.lists.specs.Entries.{said_of, seen, name_entry}
@@ -32,8 +32,8 @@ use Rattle.lists.proofs.Parts.{name-low}
 use Rattle.tails.specs.Lines.{LineTerm, LineRead, Storeless}
 use Rattle.tails.specs.Plains.{PlainRead, made_of, plain_tail}
 use Rattle.ranges.specs.declared.Bounds.{Bounds}
-use Rattle.tails.specs.declared.TermStep.{TermStep}
-use Rattle.tails.specs.declared.TermStep.TheVariants as T
+use Rattle.std.specs.Prelude.{Ok, Err}
+use Rattle.tails.specs.declared.TermLine.{TermLine}
 
 -- The LF that ends the line, or anything else.
 pub ended_here : (text : Text) (at : ℕ) → starts lf (drop at text) ≡ true → past tt (drop (at + 1) text) ≡ ended (drop at text)
@@ -120,7 +120,7 @@ module _ (line : Text) (at : ℕ) where
     unfolding of_two
     two-read e s = ap (λ d. onward d after_first) (operand_read e s)
 
-pub line-become : (words : List Text) (bounds : Bounds) (line : Text) {due other : Past Line} (before after : List ℕ) (r : TermStep) → due ≡ other
+pub line-become : (words : List Text) (bounds : Bounds) (line : Text) {due other : Past Line} (before after : List ℕ) (r : Reading TermLine) → due ≡ other
     → LineRead words bounds line due before after r → LineRead words bounds line other before after r
 line-become words bounds line before after r e h = subst (λ d. LineRead words bounds line d before after r) e h
 
@@ -145,28 +145,28 @@ unfolding overlaid
 over_nothing store = refl
 
 -- what is due, in another form
-module _ (bounds : Bounds) (line : Text) {due other : Past Line} (r : TermStep) (e : due ≡ other) where
+module _ (bounds : Bounds) (line : Text) {due other : Past Line} (r : Reading TermLine) (e : due ≡ other) where
   pub plain-become : PlainRead bounds line due r → PlainRead bounds line other r
   plain-become h = subst (λ d. PlainRead bounds line d r) e h
 
   pub storeless-become : (words : List Text) → Storeless bounds words line due r → Storeless bounds words line other r
   storeless-become words h = subst (λ d. Storeless bounds words line d r) e h
 
-plain-line : (bounds : Bounds) (words : List Text) (line : Text) (due : Past Line) (r : TermStep) → PlainRead bounds line due r
+plain-line : (bounds : Bounds) (words : List Text) (line : Text) (due : Past Line) (r : Reading TermLine) → PlainRead bounds line due r
     → Storeless bounds words line due r
 unfolding words_of_fault term_fault
-plain-line bounds words line due (T.To x f took) h store =
+plain-line bounds words line due (Ok t) h store =
     record {
-      line = plain (bare_term x) h.places;
+      line = plain (bare_term t.value.term) h.places;
       says = h.says;
       within = h.within;
-      term = (plain-bare bounds.term x h.plainly).0;
+      term = (plain-bare bounds.term t.value.term h.plainly).0;
       faults = h.faults;
-      stored = λ _. rw (plain-bare bounds.term x h.plainly).1 (over_nothing store);
+      stored = λ _. rw (plain-bare bounds.term t.value.term h.plainly).1 (over_nothing store);
     }
-plain-line bounds words line due (T.Stuck p) h store = h
+plain-line bounds words line due (Err p) h store = h
 
-pub plain→storeless : (bounds : Bounds) (line : Text) {due other : Past Line} (r : TermStep) (e : due ≡ other) (words : List Text)
+pub plain→storeless : (bounds : Bounds) (line : Text) {due other : Past Line} (r : Reading TermLine) (e : due ≡ other) (words : List Text)
     → PlainRead bounds line due r → Storeless bounds words line other r
 plain→storeless bounds line {due} r e words h = storeless-become bounds line r e words (plain-line bounds words line due r h)
 

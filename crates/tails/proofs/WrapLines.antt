@@ -23,22 +23,23 @@ use Rattle.grammar.specs.Faults.{operator_said, name_number, pair_said, rule_sai
 use Rattle.grammar.proofs.Onwards.{When, when-weaken}
 use Rattle.labels.specs.Packing.{code}
 use Rattle.lists.specs.Tallies.{Said}
-use Rattle.words.specs.Steps.{Stands}
+use Rattle.words.specs.Steps.{Reading, shifted_step, Stands}
 use Rattle.faults.specs.CodedFaults.{found_of}
-use Rattle.faults.specs.declared.Found as G
+use Rattle.faults.specs.declared.FaultAt.{FaultAt}
 use Rattle.faults.proofs.Ranks.{worse-none}
-use Rattle.lists.specs.Entries.{said_place, said_of, name_entry, pair_entry, rule_entry, label_entry}
+use Rattle.lists.specs.Entries.{said_of, name_entry, pair_entry, rule_entry, label_entry}
 use Rattle.lists.specs.Lists.{list_faults, list_entry, list_words, whole_list, overlaid, ListRead}
 use Rattle.tails.specs.Lines.{LineTerm}
 use Rattle.tails.specs.Wraps.{WrapKind, Block, Hide, Rename, Comm, Allow, wrap_of, list_kind, ContentsOf, contents, wrap_listed}
 use Rattle.lists.specs.declared.Said as C
-use Rattle.lists.specs.declared.SaidStep.{SaidStep}
-use Rattle.lists.specs.declared.SaidStep.TheVariants as S
+use Rattle.std.specs.Prelude.{Option, Ok, Err}
+use Rattle.words.specs.declared.Taken.{Taken}
+use Rattle.words.specs.declared.Stuck.{Stuck}
 use Rattle.lists.specs.declared.ListKind.{ListKind}
 use Rattle.words.proofs.Rests.{sign-within, literal-other, literal-more}
 use Rattle.words.proofs.Several.{several-few, labels-several}
-use Rattle.words.proofs.Steps.{shifted, stops, back-stuck, back-past}
-use Rattle.lists.proofs.Seen.{carried, said-went, said-stays, said-within}
+use Rattle.words.proofs.Steps.{steps-shifted, stops, back-stuck, back-past}
+use Rattle.lists.proofs.Seen.{carried}
 use Rattle.lists.proofs.Gathered.{all-too}
 use Rattle.ranges.specs.declared.Bounds.{Bounds}
 use Rattle.tails.proofs.Operands.{ended_here, ended-not, spaced, operand_stuck, operand_read}
@@ -114,7 +115,7 @@ listed-operator Comm words n c = rw (same_length (rule_entry words) (λ r. rule_
 listed-operator Allow words n c = rw (same_length (label_entry words) (λ l. label_said words l.it) c)
 
 -- The list at a place of the line.
-module _ (w : WrapKind) (words : List Text) (line : Text) (at : ℕ) (i : at ≤ length line) {before after : List ℕ} {r : SaidStep}
+module _ (w : WrapKind) (words : List Text) (line : Text) (at : ℕ) (i : at ≤ length line) {before after : List ℕ} {r : Reading C.Said}
     (h : ListRead (list_kind w) (drop at line) (whole_list words (list_kind w) (drop at line)) before after r) where
   abbrev whole : List Said → Said
   whole es = list_entry (length (drop at line)) (list_kind w) es
@@ -125,16 +126,17 @@ module _ (w : WrapKind) (words : List Text) (line : Text) (at : ℕ) (i : at ≤
       ap (λ d. onward d (λ es p. past (whole es) p)) (listed-entries w words (drop at line))
       ∙ carried (entries w words) (λ es p. past (whole es) p) (contents w (drop at line))
 
-  pub wrap-stuck : {p : ℕ} → r ≡ S.Stuck p → stuck (drop (at + p) line) ≡ contents w (drop at line)
+  pub wrap-stuck : {p : Stuck} → Err p ≡ shifted_step at r → stuck (drop p.after line) ≡ contents w (drop at line)
   wrap-stuck e =
-      back-stuck (λ c. whole (entries w words c)) (contents w (drop at line)) ((shifted stuck i (said-stays h.read e)).says ∙ flat)
+      back-stuck (λ c. whole (entries w words c)) (contents w (drop at line)) ((steps-shifted line at i h.read e).stands.says ∙ flat)
 
-  pub wrap-went : {e : C.Said} {n : ℕ} → r ≡ S.To e n
-      → (c : ContentsOf w) × (past c (drop (at + n) line) ≡ contents w (drop at line)) × (said_of (length (drop at line)) e ≡ whole (entries w words c))
+  pub wrap-went : {t : Taken C.Said} → Ok t ≡ shifted_step at r
+      → (c : ContentsOf w) × (past c (drop t.bytes line) ≡ contents w (drop at line))
+      × (said_of (length (drop at line)) t.value ≡ whole (entries w words c))
       × (after ≡ overlaid (list_words (list_kind w) (entries w words c)) before)
-  wrap-went {e} g =
-      let s = shifted (past (said_of (length (drop at line)) e)) i (said-went h.read g) in
-      let b = back-past (λ c. whole (entries w words c)) (contents w (drop at line)) (s.says ∙ flat) in
+  wrap-went e =
+      let s = steps-shifted line at i h.read e in
+      let b = back-past (λ c. whole (entries w words c)) (contents w (drop at line)) (s.stands.says ∙ flat) in
       let all = ap (λ d. onward d (λ c o. past (entries w words c) o)) b.1 ∙ sym (listed-entries w words (drop at line)) in
       (b.0, b.1, b.2, h.stored (entries w words b.0) _ all)
 
@@ -170,7 +172,7 @@ module _ (w : WrapKind) (words : List Text) (line : Text) where
     no-space f = reach (ap (λ d. onward d (after-space w t)) (literal-other space [] (drop at line) f)) s.within
 
     module _ (f : starts space (drop at line) ≡ true) {kind : ListKind} (j : kind ≡ list_kind w) (i : at + 1 ≤ length line)
-        {before after : List ℕ} {l : SaidStep}
+        {before after : List ℕ} {l : Reading C.Said}
         (h : ListRead kind (drop (at + 1) line) (whole_list words kind (drop (at + 1) line)) before after l) where
       list : ListRead (list_kind w) (drop (at + 1) line) (whole_list words (list_kind w) (drop (at + 1) line)) before after l
       list = rw j at h
@@ -179,39 +181,39 @@ module _ (w : WrapKind) (words : List Text) (line : Text) where
       unfolding literal
       beyond e k = reach (e ∙ ap (λ d. onward d (after-space w t)) (literal-more space [] line at f)) k
 
-      inside : {p : ℕ} → p ≡ said_place l → at + 1 + p ≤ length line
-      inside e = said-within line (at + 1) i h.read e
+      pub no-list : {p : Stuck} → Err p ≡ shifted_step (at + 1) l → Stands line p.after (stuck (drop p.after line)) Due
+      no-list e =
+          beyond (ap (λ d. onward d (after_list w t)) (wrap-stuck w words line (at + 1) i list e)) (steps-shifted line (at + 1) i h.read e).stands.within
 
-      pub no-list : {p : ℕ} → l ≡ S.Stuck p → Stands line (at + 1 + p) (stuck (drop (at + 1 + p) line)) Due
-      no-list e = beyond (ap (λ d. onward d (after_list w t)) (wrap-stuck w words line (at + 1) i list e)) (inside (sym (ap said_place e)))
-
-      module _ {said : C.Said} {m : ℕ} (g : l ≡ S.To said m) where
+      module _ {told : Taken C.Said} (g : Ok told ≡ shifted_step (at + 1) l) where
         abbrev end : ContentsOf w → Unit {0} → Text → Past Line
         end c u o = past (wraps (wrap_listed w c) t) o
 
-        pub no_end : starts lf (drop (at + 1 + m) line) ≡ false → Stands line (at + 1 + m) (stuck (drop (at + 1 + m) line)) Due
+        inside : told.bytes ≤ length line
+        inside = (steps-shifted line (at + 1) i h.read g).stands.within
+
+        pub no_end : starts lf (drop told.bytes line) ≡ false → Stands line told.bytes (stuck (drop told.bytes line)) Due
         no_end k =
             let c = wrap-went w words line (at + 1) i list g in
-            beyond (ap (λ d. onward d (end c.0)) (ended-not line (at + 1 + m) k) ∙ ap (λ d. onward d (after_list w t)) c.1)
-            (inside (sym (ap said_place g)))
+            beyond (ap (λ d. onward d (end c.0)) (ended-not line told.bytes k) ∙ ap (λ d. onward d (after_list w t)) c.1) inside
 
-        pub wrap-line : (bounds : Bounds) {o : Operator} {fault : G.Found} → length line < 2 ^ 64 → starts lf (drop (at + 1 + m) line) ≡ true
-            → o ≡ wrapped_of w (record { at = bounds.term; entries = code said.first % 2 ^ 64 })
-            → found_of fault ≡ worse (found_of said.fault) (number_fault bounds.term n (length line - 1))
-            → LineTerm words bounds line Due before after (Wrap o n) fault (at + 1 + m + 1)
+        pub wrap-line : (bounds : Bounds) {o : Operator} {fault : Option FaultAt} → length line < 2 ^ 64 → starts lf (drop told.bytes line) ≡ true
+            → o ≡ wrapped_of w (record { at = bounds.term; entries = code told.value.first % 2 ^ 64 })
+            → found_of fault ≡ worse (found_of told.value.fault) (number_fault bounds.term n (length line - 1))
+            → LineTerm words bounds line Due before after (Wrap o n) fault (told.bytes + 1)
         unfolding words_of_fault term_fault
         wrap-line bounds wide k o e =
             let c = wrap-went w words line (at + 1) i list g in
             let few = (listed-few w words (drop (at + 1) line)).holds c.0 _ (sym c.1) in
-            let all : code said.first % 2 ^ 64 ≡ length (entries w words c.0) =
+            let all : code told.value.first % 2 ^ 64 ≡ length (entries w words c.0) =
             omega (arith, ap (λ d. d.first) c.2, length-drop (at + 1) line) in
-            let ending = ap (λ d. onward d (end c.0)) (ended_here line (at + 1 + m) k) ∙ ap (λ d. onward d (after_list w t)) c.1 in
+            let ending = ap (λ d. onward d (end c.0)) (ended_here line told.bytes k) ∙ ap (λ d. onward d (after_list w t)) c.1 in
             let operandFault = number_fault bounds.term n (length line - 1) in
             let faults = ap (λ d. d.found) c.2 ∙ listed-faults w words c.0 in
             record {
               line = wraps (wrap_listed w c.0) t;
-              says = (beyond ending (inside (sym (ap said_place g)))).says;
-              within = omega (arith, sign-within lf line (at + 1 + m) k);
+              says = (beyond ending inside).says;
+              within = omega (arith, sign-within lf line told.bytes k);
               term =
                   ap (λ p. Wrap p n)
                   (o ∙ ap (λ i. wrapped_of w (record { at = bounds.term; entries = i })) all

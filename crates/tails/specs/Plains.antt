@@ -1,6 +1,6 @@
 -- The kinds without a list.
 -- Assumes nothing.
-use Rattle.std.specs.Prelude.{◌≡◌, ℕ, ◌≤◌, ltb, length, drop}
+use Rattle.std.specs.Prelude.{◌≡◌, ℕ, ◌≤◌, Option, Ok, Err, ltb, length, drop}
 use Rattle.meaning.specs.Bytes.{Text}
 use Rattle.meaning.specs.Descriptions as D
 use Rattle.meaning.specs.Rounds.{pick}
@@ -11,23 +11,22 @@ use Rattle.grammar.specs.Text.{Past, past, stuck}
 use Rattle.grammar.specs.Forms.{Places, Line, plain, alone, of_name, of_one, of_two}
 use Rattle.grammar.specs.Faults.{range_fault}
 use Rattle.faults.specs.CodedFaults.{found_of}
-use Rattle.faults.specs.declared.Found as G
-use Rattle.words.specs.Steps.{Stands}
+use Rattle.faults.specs.declared.FaultAt.{FaultAt}
+use Rattle.words.specs.Steps.{Reading, Stands}
 use Rattle.ranges.specs.declared.Bounds.{Bounds}
-use Rattle.tails.specs.declared.TermStep.{TermStep}
-use Rattle.tails.specs.declared.TermStep.TheVariants as T
+use Rattle.tails.specs.declared.TermLine.{TermLine}
 
 -- A term of numbers alone: there is no name and no list in it that could have a fault.
-pub record PlainTerm (bounds : Bounds) (text : Text) (due : Past Line) (x : Term) (f : G.Found) (took : ℕ) : Type 0 where
+pub record PlainTerm (bounds : Bounds) (text : Text) (due : Past Line) (x : Term) (f : Option FaultAt) (took : ℕ) : Type 0 where
   pub places : Places
   pub says : past (plain (bare_term x) places) (drop took text) ≡ due
   pub within : took ≤ length text
   pub faults : found_of f ≡ range_fault bounds.equations bounds.term (bare_term x) places
   pub plainly : IsPlain x
 
-abbrev pub PlainRead : Bounds → Text → Past Line → TermStep → Type 0
-PlainRead bounds text due (T.To x f took) = PlainTerm bounds text due x f took
-PlainRead bounds text due (T.Stuck p) = Stands text p (stuck (drop p text)) due
+abbrev pub PlainRead : Bounds → Text → Past Line → Reading TermLine → Type 0
+PlainRead bounds text due (Ok t) = PlainTerm bounds text due t.value.term t.value.fault t.bytes
+PlainRead bounds text due (Err s) = Stands text s.after (stuck (drop s.after text)) due
 
 -- The kinds with one number and with two, which the table counts by their places among all kinds: by the last number, and one
 -- before it for the kinds with two.

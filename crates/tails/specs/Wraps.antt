@@ -4,17 +4,15 @@ use Rattle.std.specs.Prelude.{List, ℕ, ◌%◌, ◌^◌, eqb}
 use Rattle.meaning.specs.Bytes.{Text}
 use Rattle.meaning.specs.Rounds.{pick}
 use Rattle.slots.specs.Packing.{operator_at}
+use Rattle.slots.specs.declared.Term.{Term}
 use Rattle.slots.specs.declared.Term.TheVariants.{Wrap}
 use Rattle.grammar.specs.Text.{Past, Placed}
 use Rattle.grammar.specs.Forms as F
 use Rattle.grammar.specs.Forms.{Listed, Parts, WordPair, WordRule, word_list, pair_list, rule_list, label_list}
 use Rattle.labels.specs.Packing.{code}
-use Rattle.faults.specs.declared.Found.{Found}
 use Rattle.lists.specs.declared.Said.{Said}
 use Rattle.lists.specs.declared.ListKind.{ListKind}
 use Rattle.lists.specs.declared.ListKind.TheVariants.{Names, Pairs, Rules, Labels}
-use Rattle.tails.specs.declared.TermStep.{TermStep}
-use Rattle.tails.specs.declared.TermStep.TheVariants as T
 
 pub data WrapKind : Type 0 where
   Block Hide Rename Comm Allow : WrapKind
@@ -51,6 +49,6 @@ wrap_listed Rename ps = F.rename ps
 wrap_listed Comm rs = F.comm rs
 wrap_listed Allow ls = F.allow ls
 
--- the term of a kind with a list, at its number, with the fault of its line
-abbrev pub wrap_step : ℕ → ℕ → ℕ → Said → Found → ℕ → TermStep
-wrap_step k t n said fault took = T.To (Wrap (operator_at k (record { at = n; entries = code said.first % 2 ^ 64 })) t) fault took
+-- the term of a kind with a list, at its number
+abbrev pub wrap_term : ℕ → ℕ → ℕ → Said → Term
+wrap_term k t n said = Wrap (operator_at k (record { at = n; entries = code said.first % 2 ^ 64 })) t

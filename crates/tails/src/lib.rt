@@ -10,19 +10,21 @@ ghost use Rattle.tails.specs.Tails.{TailRead};
 
 use crate::plains::read_plain;
 use crate::wraps::read_wrap;
-use faults::Found;
+use faults::FaultAt;
 use ranges::Bounds;
 use slots::Term;
 use table::NAMES;
+use words::{Reading, Stuck};
 
-// A term with the fault of its line and how many bytes that took, the LF included; or after how many bytes the line was stuck.
+// A term with the fault of its line.
 #[derive(Clone, Copy)]
-pub enum TermStep {
-    To(Term, Found, usize),
-    Stuck(usize),
+pub struct TermLine {
+    pub term: Term,
+    pub fault: Option<FaultAt>,
 }
 
-// What follows the word of the kind at a place among the kinds: the term at its number, its list's words put into the store.
+// What follows the word of the kind at a place among the kinds: the term at its number, its list's words put into the store. The LF
+// that ends the line is among the bytes that it takes.
 // With more names than a description has nothing is read.
 pub fn read_tail(
     k: usize,
@@ -30,11 +32,11 @@ pub fn read_tail(
     names: &[u64],
     bounds: Bounds,
     store: &mut [u64],
-) -> TermStep
+) -> Reading<TermLine>
     ensures { TailRead names.now bounds k rest.now store.old store.new result }
 {
     if NAMES < names.len() {
-        return TermStep::Stuck(0);
+        return Err(Stuck { after: 0 });
     }
     if k < 12 {
         return read_plain(k, rest, names, bounds);

@@ -9,97 +9,91 @@ ghost use Rattle.tails.specs.Lines.{Storeless, Unbounded};
 ghost use Rattle.ranges.specs.Ranges.{places_for};
 ghost use Rattle.tails.specs.Plains.{PlainRead, made_of, plain_tail};
 
-use crate::TermStep;
+use crate::TermLine;
 use labels::packing::number_of;
-use lists::{SaidStep, read_name, said_stuck_at};
+use lists::read_name;
 use ranges::{Bounds, Places, left_at, range_fault};
 use slots::Term;
 use slots::packing::plain;
 use words::literals::sign_at;
 use words::numbers::number_after;
-use words::{Step, stuck_at};
+use words::{Reading, Stuck, Taken, shifted};
 
 // A term with nothing after it, whose numbers begin at these places.
-fn finish(rest: &[u8], at: usize, x: Term, places: Places, bounds: Bounds) -> TermStep
-    requires { (at ≤ length rest.now) × IsPlain x }
+fn finish(rest: &[u8], at: usize, term: Term, places: Places, bounds: Bounds) -> Reading<TermLine>
+    requires { (at ≤ length rest.now) × IsPlain term }
     ensures { PlainRead bounds rest.now
-        (onward (ended (drop at rest.now)) (λ _ s. past (plain (bare_term x) (places_for places)) s)) result }
+        (onward (ended (drop at rest.now)) (λ _ s. past (plain (bare_term term) (places_for places)) s)) result }
 {
     if !sign_at(rest, at, b'\n') {
-        return TermStep::Stuck(at);
+        return Err(Stuck { after: at });
     }
-    TermStep::To(x, range_fault(x, places, bounds), at + 1)
+    let fault = range_fault(term, places, bounds);
+    Ok(Taken {
+        value: TermLine { term, fault },
+        bytes: at + 1,
+    })
 }
 
 // A number after a space, at a place of what is lent; the answer's place is one of that too.
-fn read_operand(rest: &[u8], at: usize) -> Step
+fn read_operand(rest: &[u8], at: usize) -> Reading<u64>
     requires { at ≤ length rest.now }
     ensures { Steps (λ n. n) rest.now result (onward (byte space (drop at rest.now)) (λ _ s. number s)) }
 {
-    let read = number_after(&rest[at..], b' ');
-    let Step::To(n, bytes) = read else {
-        return Step::Stuck(at + stuck_at(read));
-    };
-    Step::To(n, at + bytes)
+    shifted(number_after(&rest[at..], b' '), at)
 }
 
 // One number. A kind has the same number here, by its word's place, as in the table.
-fn read_one(k: usize, rest: &[u8], bounds: Bounds) -> TermStep
+fn read_one(k: usize, rest: &[u8], bounds: Bounds) -> Reading<TermLine>
     ensures { PlainRead bounds rest.now (of_one (made_of k 0) rest.now) result }
 {
-    let only = read_operand(rest, 0);
-    let Step::To(t, next) = only else {
-        return TermStep::Stuck(stuck_at(only));
-    };
+    let only = read_operand(rest, 0)?;
     let from = left_at(rest, 1);
     let places = Places {
         first: from,
         second: from,
     };
-    finish(rest, next, plain(k, 0, t as usize), places, bounds)
+    let term = plain(k, 0, only.value as usize);
+    finish(rest, only.bytes, term, places, bounds)
 }
 
 // Two numbers.
-fn read_two(k: usize, rest: &[u8], bounds: Bounds) -> TermStep
+fn read_two(k: usize, rest: &[u8], bounds: Bounds) -> Reading<TermLine>
     ensures { PlainRead bounds rest.now (of_two (made_of k) rest.now) result }
 {
-    let first = read_operand(rest, 0);
-    let Step::To(t, after) = first else {
-        return TermStep::Stuck(stuck_at(first));
-    };
-    let second = read_operand(rest, after);
-    let Step::To(u, next) = second else {
-        return TermStep::Stuck(stuck_at(second));
-    };
+    let first = read_operand(rest, 0)?;
+    let second = read_operand(rest, first.bytes)?;
     let places = Places {
         first: left_at(rest, 1),
-        second: left_at(rest, after + 1),
+        second: left_at(rest, first.bytes + 1),
     };
-    finish(rest, next, plain(k, t as usize, u as usize), places, bounds)
+    let term = plain(k, first.value as usize, second.value as usize);
+    finish(rest, second.bytes, term, places, bounds)
 }
 
 // A name, whose number is the term's.
-fn read_act(rest: &[u8], names: &[u64]) -> TermStep
+fn read_act(rest: &[u8], names: &[u64]) -> Reading<TermLine>
     ensures { Unbounded (map (name_of 8) names.now) rest.now (of_name rest.now) result }
 {
     if !sign_at(rest, 0, b' ') {
-        return TermStep::Stuck(0);
+        return Err(Stuck { after: 0 });
     }
-    let name = read_name(&rest[1..], names);
-    let SaidStep::To(said, bytes) = name else {
-        return TermStep::Stuck(1 + said_stuck_at(name));
+    let name = shifted(read_name(&rest[1..], names), 1)?;
+    if !sign_at(rest, name.bytes, b'\n') {
+        return Err(Stuck { after: name.bytes });
+    }
+    let value = TermLine {
+        term: Term::Act(number_of(name.value.first) as usize),
+        fault: name.value.fault,
     };
-    let next = 1 + bytes;
-    if !sign_at(rest, next, b'\n') {
-        return TermStep::Stuck(next);
-    }
-    let fault = said.fault;
-    let number = said.first;
-    TermStep::To(Term::Act(number_of(number) as usize), fault, next + 1)
+    Ok(Taken {
+        value,
+        bytes: name.bytes + 1,
+    })
 }
 
 // What follows the word of the kind at a place before those with a list.
-pub fn read_plain(k: usize, rest: &[u8], names: &[u64], bounds: Bounds) -> TermStep
+pub fn read_plain(k: usize, rest: &[u8], names: &[u64], bounds: Bounds) -> Reading<TermLine>
     ensures { Storeless bounds (map (name_of 8) names.now) rest.now (plain_tail k rest.now) result }
 {
     let nowhere = Places {

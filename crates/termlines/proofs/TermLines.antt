@@ -4,7 +4,7 @@ use mathlib.Core.Path.{◌≡◌, refl, sym, ap, ◌∙◌}
 use mathlib.Core.List.{List, [], ◌∷◌, ◌++◌, map}
 use Prim.Native.Nat.{ℕ, ◌-◌, ◌≤◌}
 use lib.ListN.{length, drop, length-map}
-use Rattle.std.specs.Prelude.{Ok}
+use Rattle.std.specs.Prelude.{Option, Some, None, Ok, Err}
 use Rattle.meaning.specs.Bytes.{Text}
 use Rattle.meaning.specs.Descriptions as D
 use Rattle.meaning.specs.Answers.{form}
@@ -18,15 +18,13 @@ use Rattle.grammar.specs.Faults.{term_said, term_fault}
 use Rattle.grammar.specs.Reading as M
 use Rattle.grammar.specs.Reading.{taken, faulty, taken_unless, formed, take_term, flaw_in, after_line}
 use Rattle.faults.specs.CodedFaults.{fault_of, flaw_of}
-use Rattle.faults.specs.declared.Fault as F
 use Rattle.faults.specs.declared.Flaw.{Flaw}
-use Rattle.faults.specs.declared.Found as G
-use Rattle.faults.specs.declared.Found.TheVariants.{Fine, Faulty}
-use Rattle.tails.specs.declared.TermStep.{TermStep}
-use Rattle.tails.specs.declared.TermStep.TheVariants as T
+use Rattle.faults.specs.declared.FaultAt.{FaultAt}
+use Rattle.words.specs.declared.Taken.{Taken}
+use Rattle.words.specs.declared.Stuck.{Stuck}
+use Rattle.tails.specs.declared.TermLine.{TermLine}
 use Rattle.tails.proofs.Room.{room}
-use Rattle.forms.specs.Terms.{term_place, TermTaken, TermAnswer}
-use Rattle.forms.specs.Terms as S
+use Rattle.forms.specs.Terms.{TermTaken, TermAnswer}
 use Rattle.keyed.specs.Walks.{refusal}
 use Rattle.keyed.proofs.Walks.{line-bad}
 use Rattle.keyed.proofs.LineFaults.{formed-stuck, found-fine, taken_fine, taken-faulty}
@@ -65,43 +63,40 @@ module _ (words : List Text) (equations : ℕ) (terms : List D.Term) (text : Tex
   unfolding take_term
   term-stuck p q = formed-stuck then-term text p q
 
-  module _ {before after : List ℕ} {x : Term} {f : G.Found} {took : ℕ}
+  module _ {before after : List ℕ} {x : Term} {f : Option FaultAt} {took : ℕ}
       (k : TermTaken words equations (length terms) text (term_line text) before after x f took) where
     term-line : then-term k.line (drop took text) ≡ take_term words equations terms text
     unfolding take_term
     term-line = ap (λ d. formed d then-term) k.says
 
-    term-fine : f ≡ Fine → taken (terms ++ (term_said words k.line ∷ [])) (drop took text) ≡ take_term words equations terms text
+    term-fine : f ≡ None → taken (terms ++ (term_said words k.line ∷ [])) (drop took text) ≡ take_term words equations terms text
     term-fine e = taken_fine k.faults (terms ++ (term_said words k.line ∷ [])) (drop took text) term-line e
 
-    term-faulty : {g : F.Fault} {from : ℕ} → f ≡ Faulty g from → faulty (fault_of g) from ≡ take_term words equations terms text
+    term-faulty : {g : FaultAt} → f ≡ Some g → faulty (fault_of g.fault) g.from ≡ take_term words equations terms text
     term-faulty e = taken-faulty k.faults (terms ++ (term_said words k.line ∷ [])) (drop took text) term-line e
 
 -- The line by what its reader came to.
-module _ (text : Text) (line : ℕ) (names : List ℕ) (equations n : ℕ) (before after : List ℕ) (s : TermStep) (few : length names ≤ 24)
-    (r : TermAnswer names equations n text before after s) where
+module _ (text : Text) (line : ℕ) (names : List ℕ) (equations n : ℕ) (before after : List ℕ) (few : length names ≤ 24) where
   abbrev words : List Text
   words = map (name_of 8) names
 
-  answer : S.TermRead words equations n text (term_line text) before after s
-  answer = rw (← room names few (term_line text) text) at r
-
-  pub line-stuck : {p at : ℕ} {w : Flaw} → s ≡ T.Stuck p → at ≡ term_place s → flaw_of w ≡ flaw_in text form (length text - at)
+  pub line-stuck : (p : Stuck) {w : Flaw} → TermAnswer names equations n text before after (Err p)
+      → flaw_of w ≡ flaw_in text form (length text - p.after)
       → TermRead text line names equations n before after (refusal w line)
-  line-stuck {at = at} e q f =
-      let there : s ≡ T.Stuck at = e ∙ ap T.Stuck (sym (q ∙ ap term_place e)) in
-      let k = rw there at answer in
-      record { long = k.1; came = λ terms counted. line-bad line text f (term-stuck words equations terms text at k.0) }
+  line-stuck p r f =
+      let k = rw (← room names few (term_line text) text) at r in
+      record { long = k.1; came = λ terms counted. line-bad line text f (term-stuck words equations terms text p.after k.0) }
 
-  module _ {x : Term} {f : G.Found} {took : ℕ} (e : s ≡ T.To x f took) where
-    answered : TermTaken words equations n text (term_line text) before after x f took
-    answered = rw e at answer
+  module _ {t : Taken TermLine} (r : TermAnswer names equations n text before after (Ok t)) where
+    answered : TermTaken words equations n text (term_line text) before after t.value.term t.value.fault t.bytes
+    answered = rw (← room names few (term_line text) text) at r
 
     -- with the number of the terms before it
-    after-terms : (terms : List D.Term) → n ≡ length terms → TermTaken words equations (length terms) text (term_line text) before after x f took
+    after-terms : (terms : List D.Term) → n ≡ length terms
+        → TermTaken words equations (length terms) text (term_line text) before after t.value.term t.value.fault t.bytes
     after-terms terms counted = rw counted at answered
 
-    pub line-faulty : {g : F.Fault} {from : ℕ} {w : Flaw} → f ≡ Faulty g from → flaw_of w ≡ flaw_in text (fault_of g) from
+    pub line-faulty : {g : FaultAt} {w : Flaw} → t.value.fault ≡ Some g → flaw_of w ≡ flaw_in text (fault_of g.fault) g.from
         → TermRead text line names equations n before after (refusal w line)
     line-faulty b q =
         record {
@@ -109,7 +104,8 @@ module _ (text : Text) (line : ℕ) (names : List ℕ) (equations n : ℕ) (befo
           came = λ terms counted. line-bad line text q (term-faulty words equations terms text (after-terms terms counted) b);
         }
 
-    pub line-fine : {w : ℕ} → f ≡ Fine → w ≡ term_word x → TermRead text line names equations n before after (Ok (record { value = w; bytes = took }))
+    pub line-fine : {w : ℕ} → t.value.fault ≡ None → w ≡ term_word t.value.term
+        → TermRead text line names equations n before after (Ok (record { value = w; bytes = t.bytes }))
     line-fine b p =
         record {
           long = answered.long;
@@ -125,7 +121,7 @@ module _ (text : Text) (line : ℕ) (names : List ℕ) (equations n : ℕ) (befo
                   term = said;
                   more = refl;
                   kept = p ∙ ap term_word k.term ∙ same_word (length terms) said;
-                  fits = list-fits words (rw (length-map names (name_of 8)) few) equations (length terms) text (drop took text) k.line (sym k.says) clear;
+                  fits = list-fits words (rw (length-map names (name_of 8)) few) equations (length terms) text (drop t.bytes text) k.line (sym k.says) clear;
                   stored = k.stored clear;
                 };
               };

@@ -4,12 +4,11 @@
 ghost use Rattle.std.specs.Prelude.{◌≤◌, length};
 ghost use Rattle.termlines.specs.Terms.{TermRead, TermsRoom, TermsRead, TermsGiven};
 
-use faults::{Fault, Found, first_flaw, flaw_after, flaw_in};
-use forms::terms::{read_term, term_stuck_at};
+use faults::{Fault, first_flaw, flaw_after, flaw_in};
+use forms::terms::read_term;
 use keyed::BadLine;
 use slots::packing::pack;
 use table::{LIST_WORDS, TABLE_WORDS, TERMS, TERMS_AT, names_of};
-use tails::TermStep;
 use words::Taken;
 
 // The largest number that the first of the lines can have, behind twenty-four names and three counts.
@@ -27,18 +26,20 @@ fn take_term(
     requires { length names.now ≤ 24 }
     ensures { TermRead text.now line names.now equations n list.old list.new result }
 {
-    let step = read_term(text, names, equations, n, list);
-    let TermStep::To(term, found, took) = step else {
-        let flaw = flaw_after(text, Fault::Form, term_stuck_at(step));
-        return Err(BadLine { flaw, line });
+    let read = match read_term(text, names, equations, n, list) {
+        Ok(read) => read,
+        Err(stuck) => {
+            let flaw = flaw_after(text, Fault::Form, stuck.after);
+            return Err(BadLine { flaw, line });
+        }
     };
-    if let Found::Faulty(f, from) = found {
-        let flaw = flaw_in(text, f, from);
+    if let Some(found) = read.value.fault {
+        let flaw = flaw_in(text, found.fault, found.from);
         return Err(BadLine { flaw, line });
     }
     Ok(Taken {
-        value: pack(term),
-        bytes: took,
+        value: pack(read.value.term),
+        bytes: read.bytes,
     })
 }
 

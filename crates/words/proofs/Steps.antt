@@ -50,9 +50,12 @@ module _ {T A : Type 0} {f : T → A} {line : Text} {r : Reading T} {due : Past 
 
 -- A step of the rest of a line is one of the line, and lies in it.
 module _ {T A : Type 0} {f : T → A} (line : Text) (at : ℕ) {due : Past A} (h : at ≤ length line) where
-  steps-shifted : (r : Reading T) → Steps f (drop at line) r due → Steps f line (shifted_step at r) due
-  steps-shifted (Ok t) s = record { stands = shifted (past (f t.value)) h s.stands }
-  steps-shifted (Err p) s = record { stands = shifted stuck h s.stands }
+  there-shifted : (r : Reading T) → Steps f (drop at line) r due → Steps f line (shifted_step at r) due
+  there-shifted (Ok t) s = record { stands = shifted (past (f t.value)) h s.stands }
+  there-shifted (Err p) s = record { stands = shifted stuck h s.stands }
+
+  pub steps-shifted : {r q : Reading T} → Steps f (drop at line) r due → q ≡ shifted_step at r → Steps f line q due
+  steps-shifted {r} s e = rw e (there-shifted r s)
 
   shifted-within : {r : Reading T} → Steps f (drop at line) r due → at + step_place r ≤ length line
   shifted-within s = omega (arith, s.stands.within, length-drop at line)
@@ -67,7 +70,7 @@ module _ {T A : Type 0} (f : Text → T → A) (form : Text → Past A) (line : 
   went_within = shifted-within line at h there
 
   pub moved : {q : Reading T} → q ≡ shifted_step at r → Steps (f (drop at line)) line q (form (drop at line))
-  moved e = rw e (steps-shifted line at h r there)
+  moved = steps-shifted line at h there
 
   pub went_on : {t : Taken T} → r ≡ Ok t → Stands line (at + t.bytes) (past (f (drop at line) t.value) (drop (at + t.bytes) line)) (form (drop at line))
   went_on {t} e = shifted (past (f (drop at line) t.value)) h (steps-to there e)
@@ -87,10 +90,13 @@ pub onward-halted : {T U A B : Type 0} {f : T → A} {g : U → B} {line : Text}
 onward-halted k s e = record { stands = stops k (steps-stuck s e) }
 
 -- what a `?` hands on is where it was stuck
+pub told_err : {U : Type 0} (p : Stuck) {q : Reading U} → IsErrAnd q (λ x. x ≡ p) → q ≡ Err p
+told_err p {q} h = let r = err_from_is_err_and q h in r.1 ∙ ap Err r.2
+
 pub handed_on : {U B : Type 0} {g : U → B} {line : Text} {p : Stuck} {q : Reading U} {due : Past B} → IsErrAnd q (λ x. x ≡ p)
     → Stands line p.after (stuck (drop p.after line)) due
     → Steps g line q due
-handed_on {q = q} h s = let r = err_from_is_err_and q h in rw (r.1, r.2) (record { stands = s })
+handed_on {p = p} h s = rw (told_err p h) (record { stands = s })
 
 -- a sign that must stand there
 module _ {B : Type 0} (sign : ℕ) (line : Text) (at : ℕ) (k : Unit {0} → Text → Past B) where

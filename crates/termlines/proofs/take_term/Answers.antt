@@ -3,17 +3,11 @@
 use Rattle.termlines.proofs.TermLines.{line-stuck, line-faulty, line-fine}
 use Rattle.termlines.proofs.take_term.Goals as goal
 
-pub returns-in_default : goal.returns-in_default
-returns-in_default c =
-    line-stuck _ _ _ _ _ _ _ _ c.requires c.read_term-step.ensures c.in_default.is
-    c.term_stuck_at.ensures c.flaw_after-flaw.ensures
+pub returns-in-Err : goal.returns-in-Err
+returns-in-Err c = line-stuck _ _ _ _ _ _ _ c.requires c.in-Err.stuck c.in-Err.ensures c.flaw_after-flaw.ensures
 
-pub returns-in-Faulty : goal.returns-in-Faulty
-returns-in-Faulty c =
-    line-faulty _ _ _ _ _ _ _ _ c.requires c.read_term-step.ensures c.in-To.is
-    c.in-Faulty.is c.flaw_in-flaw.ensures
+pub returns-in-Some : goal.returns-in-Some
+returns-in-Some c = line-faulty _ _ _ _ _ _ _ c.requires c.in-Ok.ensures c.in-Some.is c.flaw_in-flaw.ensures
 
 pub returns : goal.returns
-returns c =
-    line-fine _ _ _ _ _ _ _ _ c.requires c.read_term-step.ensures c.in-To.is
-    c.in_default-found.is c.pack.ensures
+returns c = line-fine _ _ _ _ _ _ _ c.requires c.in-Ok.ensures c.in_default.is c.pack.ensures

@@ -1,59 +1,55 @@
 -- `forms::kinds::kind_number` meets its contract: each word has its number.
 -- Assumes nothing.
-use native.Mathlib.Omega.{arith}
 use Rattle.forms.proofs.Kinded.{numbered}
 use Rattle.forms.proofs.kinds.kind_number.Goals as goal
 
 pub returns-in-418565088612 : goal.returns-in-418565088612
-returns-in-418565088612 c = numbered 0 c.in-418565088612.is
+returns-in-418565088612 c = numbered 0 tt c.in-418565088612.is
 
 pub returns-in-7692660 : goal.returns-in-7692660
-returns-in-7692660 c = numbered 1 c.in-7692660.is
+returns-in-7692660 c = numbered 1 tt c.in-7692660.is
 
 pub returns-in-7627617 : goal.returns-in-7627617
-returns-in-7627617 c = numbered 2 c.in-7627617.is
+returns-in-7627617 c = numbered 2 tt c.in-7627617.is
 
 pub returns-in-6710642 : goal.returns-in-6710642
-returns-in-6710642 c = numbered 3 c.in-6710642.is
+returns-in-6710642 c = numbered 3 tt c.in-6710642.is
 
 pub returns-in-7173491 : goal.returns-in-7173491
-returns-in-7173491 c = numbered 4 c.in-7173491.is
+returns-in-7173491 c = numbered 4 tt c.in-7173491.is
 
 pub returns-in-1684959075 : goal.returns-in-1684959075
-returns-in-1684959075 c = numbered 5 c.in-1684959075.is
+returns-in-1684959075 c = numbered 5 tt c.in-1684959075.is
 
 pub returns-in-111477645076579 : goal.returns-in-111477645076579
-returns-in-111477645076579 c = numbered 6 c.in-111477645076579.is
+returns-in-111477645076579 c = numbered 6 tt c.in-111477645076579.is
 
 pub returns-in-111546414229097 : goal.returns-in-111546414229097
-returns-in-111546414229097 c = numbered 7 c.in-111546414229097.is
+returns-in-111546414229097 c = numbered 7 tt c.in-111546414229097.is
 
 pub returns-in-7431539 : goal.returns-in-7431539
-returns-in-7431539 c = numbered 8 c.in-7431539.is
+returns-in-7431539 c = numbered 8 tt c.in-7431539.is
 
 pub returns-in-435527247213 : goal.returns-in-435527247213
-returns-in-435527247213 c = numbered 9 c.in-435527247213.is
+returns-in-435527247213 c = numbered 9 tt c.in-435527247213.is
 
 pub returns-in-111494975286636 : goal.returns-in-111494975286636
-returns-in-111494975286636 c = numbered 10 c.in-111494975286636.is
+returns-in-111494975286636 c = numbered 10 tt c.in-111494975286636.is
 
 pub returns-in-1668184435 : goal.returns-in-1668184435
-returns-in-1668184435 c = numbered 11 c.in-1668184435.is
+returns-in-1668184435 c = numbered 11 tt c.in-1668184435.is
 
 pub returns-in-461229747298 : goal.returns-in-461229747298
-returns-in-461229747298 c = numbered 12 c.in-461229747298.is
+returns-in-461229747298 c = numbered 12 tt c.in-461229747298.is
 
 pub returns-in-1701079400 : goal.returns-in-1701079400
-returns-in-1701079400 c = numbered 13 c.in-1701079400.is
+returns-in-1701079400 c = numbered 13 tt c.in-1701079400.is
 
 pub returns-in-111520460465522 : goal.returns-in-111520460465522
-returns-in-111520460465522 c = numbered 14 c.in-111520460465522.is
+returns-in-111520460465522 c = numbered 14 tt c.in-111520460465522.is
 
 pub returns-in-1835888483 : goal.returns-in-1835888483
-returns-in-1835888483 c = numbered 15 c.in-1835888483.is
+returns-in-1835888483 c = numbered 15 tt c.in-1835888483.is
 
 pub returns-in-512970484833 : goal.returns-in-512970484833
-returns-in-512970484833 c = numbered 16 c.in-512970484833.is
-
-pub returns-in_default : goal.returns-in_default
-returns-in_default c h = absurd (omega arith)
+returns-in-512970484833 c = numbered 16 tt c.in-512970484833.is

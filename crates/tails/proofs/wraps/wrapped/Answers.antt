@@ -3,11 +3,10 @@
 use mathlib.Core.Path.{ap, ◌∙◌}
 use Rattle.slots.specs.Packing.{operator_at}
 use Rattle.slots.specs.declared.Term.TheVariants.{Wrap}
-use Rattle.tails.specs.declared.TermStep.TheVariants as T
 use Rattle.tails.proofs.wraps.wrapped.Goals as goal
 
 pub returns : goal.returns
 returns c =
     let a = c.args in
-    ap (λ o. T.To (Wrap o a.t) a.fault a.took)
-    (c.operator-with_list.ensures ∙ ap (λ n. operator_at a.k (record { at = a.n; entries = n })) c.number_of.ensures)
+    ap (λ o. Wrap o a.t)
+    (c.operator.ensures ∙ ap (λ n. operator_at a.k (record { at = a.n; entries = n })) c.number_of.ensures)
