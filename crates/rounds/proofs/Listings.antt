@@ -1,5 +1,6 @@
 -- The root's set cut to the order, and the whole call.
 -- Assumes nothing.
+use Rattle.std.specs.Prelude.{Result, Ok, Err}
 use mathlib.Core.Path.{◌≡◌, refl, sym, ap, ap₂, subst, ◌∙◌, ◌≡⟨◌⟩◌, ◌∎}
 use mathlib.Core.Logic.{◌⊎◌, inl, inr}
 use mathlib.Core.Bool.{Bool}
@@ -34,16 +35,15 @@ use Rattle.cutting.specs.Cutting.{put, cut_labels, cut_into, where_room}
 use Rattle.deltas.specs.Deltas.{over_in}
 use Rattle.deltas.proofs.Passing.{over-in, few-labels, few-packs}
 use Rattle.extents.specs.Extents.{part_at, words_in}
-use Rattle.stability.specs.declared.Last.TheVariants as L
 use Rattle.stability.specs.Running.{Ready, RootListed, RunEnds, Ran}
 use Rattle.stability.proofs.Runs.{ready-zeros, length-zeros}
 use Rattle.stability.proofs.Reaches.{passing-large}
-use Rattle.stability.specs.declared.Found.TheVariants as F
 use Rattle.keeping.specs.Settling.{whole, alone}
-use Rattle.stability.specs.Endings.{found_of, labels_of, Reached}
-use Rattle.rounds.specs.declared.Answer.{Answer}
-use Rattle.rounds.specs.declared.Answer.TheVariants as A
-use Rattle.rounds.specs.Alphabets.{alphabet_of, answer_area, all_in, list_in, Answered, AnsweredFew, AnsweredOwn, Listing}
+use Rattle.stability.specs.Endings.{found_at, found_of, labels_of, Reached}
+use Rattle.sets.specs.declared.TooLarge.{TooLarge}
+use Rattle.stability.specs.declared.Found.{Found}
+use Rattle.rounds.specs.declared.Listed.{Listed}
+use Rattle.rounds.specs.Alphabets.{listed_at, alphabet_of, answer_area, all_in, list_in, Answered, AnsweredFew, AnsweredOwn, Listing}
 use Rattle.rounds.proofs.Answering.{is_all, list_of, cut-number}
 use Rattle.rounds.proofs.Orders.{Cuts, cuts-to}
 
@@ -102,21 +102,34 @@ module _ (d : D.Description) (o : D.Order) (k : ℕ) (labels : List Label) (l : 
         ∙ cut-number (D.names d) o labels l.order root-packs)
 
     listed-right : {area' : List ℕ} {n : ℕ} → Listing set order own area area' n
-        → (A.Listed k n ≡ alphabet_of (answer d o)) × (area' ≡ answer_area (answer d o) area)
+        → (listed_at k n ≡ alphabet_of (answer d o)) × (area' ≡ answer_area (answer d o) area)
     listed-right t = rw c.0 (
-      ap (A.Listed k) (t.1 ∙ ap length cut-words ∙ length-map (cut o labels) number),
+      ap (listed_at k) (t.1 ∙ ap length cut-words ∙ length-map (cut o labels) number),
       t.0 ∙ ap (λ (ws : List ℕ). put (in_words ws) area) cut-words,
     )
 
+-- The numbers of what is found and of what is answered.
+abbrev rounds_found : Result Found TooLarge → ℕ
+rounds_found (Ok f) = f.rounds
+rounds_found (Err e) = 0
+
+abbrev labels_found : Result Found TooLarge → ℕ
+labels_found (Ok f) = f.labels
+labels_found (Err e) = 0
+
+abbrev rounds_listed : Result Listed TooLarge → ℕ
+rounds_listed (Ok l) = l.rounds
+rounds_listed (Err e) = 0
+
 -- The call: an area too short, a limit passed, an answer.
 module _ {table lists : List ℕ} {order : Order} {own work area : List ℕ} where
-  pub answered-short : length area < 2048 → Answered table lists order own work area work area A.TooLarge
+  pub answered-short : length area < 2048 → Answered table lists order own work area work area (Err (record {}))
   answered-short h = record { short = λ x. (refl, refl, refl); right = λ d o l e g room m. absurd (omega arith) }
 
   module _ (most : 2048 ≤ length area) where
     pub answered-large : {work' : List ℕ}
-        → Reached table lists work work' F.TooLarge
-        → Answered table lists order own work area work' area A.TooLarge
+        → Reached table lists work work' (Err (record {}))
+        → Answered table lists order own work area work' area (Err (record {}))
     unfolding in_words
     answered-large {work'} p =
         record {
@@ -127,19 +140,19 @@ module _ {table lists : List ℕ} {order : Order} {own work area : List ℕ} whe
       where
         by : (d : D.Description) (o : D.Order) (x : Outcome)
             → Cuts d o x (answer d o)
-            → F.TooLarge ≡ found_of x
+            → Err (record {}) ≡ found_of x
             → work' ≡ alone (in_words (map number (labels_of x))) work
-            → (A.TooLarge ≡ alphabet_of (answer d o)) × (area ≡ answer_area (answer d o) area) × (work' ≡ alone [] work)
+            → (Err (record {}) ≡ alphabet_of (answer d o)) × (area ≡ answer_area (answer d o) area) × (work' ≡ alone [] work)
         by d o too_large c e w = rw c (refl, refl, w)
         by d o (listed j labels) c e w = absurd (let z : ◌≡◌ {A = ℕ} 0 1 = cc in omega arith)
 
     pub answered-listed : {now set work' area' : List ℕ} {k count used n : ℕ}
-        → Reached table lists work now (F.At k count)
+        → Reached table lists work now (found_at k count)
         → set ≡ words_in (record { from = 0; to = count }) (held now)
         → used ≡ length set
         → Listing set order own area area' n
         → work' ≡ zeroed (2 * used) now
-        → Answered table lists order own work area work' area' (A.Listed k n)
+        → Answered table lists order own work area work' area' (listed_at k n)
     answered-listed {now} {set} {work'} {area'} {k} {count} {used} {n} p taken all q w =
         record {
           short = λ x. elim x [
@@ -155,23 +168,23 @@ module _ {table lists : List ℕ} {order : Order} {own work area : List ℕ} whe
             → HoldsOrder o order own
             → (x : Outcome)
             → Cuts d o x (answer d o)
-            → F.At k count ≡ found_of x
+            → found_at k count ≡ found_of x
             → now ≡ alone (in_words (map number (labels_of x))) work
-            → (A.Listed k n ≡ alphabet_of (answer d o)) × (area' ≡ answer_area (answer d o) area) × (work' ≡ alone [] work)
+            → (listed_at k n ≡ alphabet_of (answer d o)) × (area' ≡ answer_area (answer d o) area) × (work' ≡ alone [] work)
         by d o l g too_large c e v = absurd (let z : ◌≡◌ {A = ℕ} 0 1 = cc in omega arith)
         by d o l g (listed j labels) c e v =
             let found = map number labels in
             let words = in_words found in
             let behind = zeros (whole - length words) ++ drop whole work in
-            let same : k ≡ j = cc in
-            let size : length found ≡ count = length-map labels number ∙ (cc) in
+            let same : k ≡ j = ap rounds_found e in
+            let size : length found ≡ count = length-map labels number ∙ sym (ap labels_found e) in
             let small = root-few d o j labels l c in
             let there : held now ≡ found ++ held behind =
             ap held v ∙ held-append (length found) words behind (length-in_words found) ∙ ap (λ (s : List ℕ). s ++ held behind) (held-in_words found) in
             let start : set ≡ found = taken ∙ ap (take count) there ∙ take_at found (held behind) count size in
             let long : length words ≡ 2 * used = omega (arith, length-in_words found, all, ap length start) in
             let right = listed-right d o j labels l c area g start (omega arith) q in (
-              ap (λ (i : ℕ). A.Listed i n) same ∙ right.0,
+              ap (λ (i : ℕ). listed_at i n) same ∙ right.0,
               right.1,
               w ∙ ap (zeroed (2 * used)) v ∙ alone-cleared words work (2 * used) long (omega (arith, length-in_words found, length-map labels number)),
             )
@@ -180,7 +193,7 @@ module _ {table lists : List ℕ} {order : Order} {own work area : List ℕ} whe
 root-listed : {table lists : List ℕ} {order : Order} {own sets work set : List ℕ} {k root most : ℕ} (d : D.Description) (o : D.Order) → Legal d o
     → Holds d table lists → HoldsOrder o order own → RootListed d k sets work most → root ≡ root_in table → set ≡ words_in (part_at sets root) work
     → (area : List ℕ) {area' : List ℕ} {n : ℕ} → min most 1024 ≤ length area / 2 → Listing set order own area area' n
-    → (A.Listed k n ≡ alphabet_of (answer d o)) × (area' ≡ answer_area (answer d o) area)
+    → (listed_at k n ≡ alphabet_of (answer d o)) × (area' ≡ answer_area (answer d o) area)
 root-listed {sets = sets} {work} {set} {k} d o l h g x e taken area room q =
     let start : set ≡ map number x.labels = taken ∙ ap (λ (t : ℕ). words_in (part_at sets t) work) (e ∙ h.rooted) ∙ x.words in
     let cuts = subst (λ (y : Outcome). Cuts d o y (answer d o)) x.outcome (cuts-to d o) in
@@ -188,13 +201,13 @@ root-listed {sets = sets} {work} {set} {k} d o l h g x e taken area room q =
 
 -- The call in small areas: no room, or an answer.
 module _ {table lists : List ℕ} {order : Order} {own area : List ℕ} where
-  pub few-large : AnsweredFew table lists order own area area A.TooLarge
+  pub few-large : AnsweredFew table lists order own area area (Err (record {}))
   few-large = record { unchanged = λ e. refl; right = λ d o l h g k n e. absurd (let z : ◌≡◌ {A = ℕ} 0 1 = cc in omega arith) }
 
   pub few-listed : {slots sets news work log out set area' : List ℕ} {k n : ℕ} {root : ℕ} → 192 ≤ length area
-      → Ran table lists (zeros 16) (zeros 34) (zeros 224) (held (zeros 384)) (held (zeros 192)) (held (zeros 192)) slots sets news work log out (L.Stable k)
+      → Ran table lists (zeros 16) (zeros 34) (zeros 224) (held (zeros 384)) (held (zeros 192)) (held (zeros 192)) slots sets news work log out (Ok k)
       → root ≡ root_in table → set ≡ words_in (part_at sets root) work → Listing set order own area area' n
-      → AnsweredFew table lists order own area area' (A.Listed k n)
+      → AnsweredFew table lists order own area area' (listed_at k n)
   few-listed {k = k} room run e taken q = record {
     unchanged = λ z. absurd (let y : ◌≡◌ {A = ℕ} 0 1 = cc in omega arith);
     right = λ d o l h g j m z.
@@ -213,7 +226,7 @@ module _ {table lists : List ℕ} {order : Order} {own area : List ℕ} where
           (omega arith) (omega arith) (omega arith)
 
       -- a table of more terms has no stable round here
-      few-slots : (terms : ℕ) → (16 < terms → L.Stable k ≡ L.TooLarge) → terms ≤ 16
+      few-slots : (terms : ℕ) → (16 < terms → ◌≡◌ {A = Result ℕ TooLarge} (Ok k) (Err (record {}))) → terms ≤ 16
       few-slots terms short = elim (dec_lt 16 terms) [
         | yes h ↦ absurd (let s = short h in let y : ◌≡◌ {A = ℕ} 0 1 = cc in omega arith)
         | no h ↦ omega arith
@@ -229,29 +242,29 @@ own-ready area most terms h =
     ready-zeros terms 194 224 (zeros 96) (held (zeros 8192)) (held (zeros 4096)) (held area) (omega (arith, length-replicate {A = ℕ} 96 0))
     (omega arith) (omega arith) (omega arith) (omega arith) (omega arith)
 
-passed-any : (d : D.Description) (o : D.Order) (sets work : List ℕ) → RunEnds d sets work 2048 L.TooLarge → answer d o ≡ too_large
+passed-any : (d : D.Description) (o : D.Order) (sets work : List ℕ) → RunEnds d sets work 2048 (Err (record {})) → answer d o ≡ too_large
 passed-any d o sets work (inl e) = subst (λ (y : Outcome). Cuts d o y (answer d o)) e (cuts-to d o)
 passed-any d o sets work (inr x) = subst (λ (y : Outcome). Cuts d o y (answer d o)) (passing-large x) (cuts-to d o)
 
 module _ {table lists : List ℕ} {order : Order} {own area : List ℕ} where
-  pub own-short : length area < 2048 → AnsweredOwn table lists order own area area A.TooLarge
+  pub own-short : length area < 2048 → AnsweredOwn table lists order own area area (Err (record {}))
   own-short h = record { under = area; right = λ d o l e g m. absurd (omega arith) }
 
   pub own-large : {slots sets news work log out area' : List ℕ}
-      → Ran table lists (zeros 96) (zeros 194) (zeros 224) (held (zeros 8192)) (held (zeros 4096)) (held area) slots sets news work log out L.TooLarge
-      → AnsweredOwn table lists order own area area' A.TooLarge
+      → Ran table lists (zeros 96) (zeros 194) (zeros 224) (held (zeros 8192)) (held (zeros 4096)) (held area) slots sets news work log out (Err (record {}))
+      → AnsweredOwn table lists order own area area' (Err (record {}))
   own-large {sets = sets} {work = work} {area' = area'} run = record {
     under = area';
     right = λ d o l h g m.
         let ends = run.right d o l h (own-ready area m _ l.terms_count.1) in
-        let none = passed-any d o sets work (subst (λ (n : ℕ). RunEnds d sets work n L.TooLarge) (length-zeros 4096) ends) in
+        let none = passed-any d o sets work (subst (λ (n : ℕ). RunEnds d sets work n (Err (record {}))) (length-zeros 4096) ends) in
         (sym (ap alphabet_of none), sym (ap (λ (y : Outcome). answer_area y area') none));
   }
 
   pub own-listed : {slots sets news work log out set : List ℕ} (after : List ℕ) {area' : List ℕ} {k n root : ℕ} → length after ≡ length area
-      → Ran table lists (zeros 96) (zeros 194) (zeros 224) (held (zeros 8192)) (held (zeros 4096)) (held area) slots sets news work log out (L.Stable k)
+      → Ran table lists (zeros 96) (zeros 194) (zeros 224) (held (zeros 8192)) (held (zeros 4096)) (held area) slots sets news work log out (Ok k)
       → root ≡ root_in table → set ≡ words_in (part_at sets root) work → Listing set order own after area' n
-      → AnsweredOwn table lists order own area area' (A.Listed k n)
+      → AnsweredOwn table lists order own area area' (listed_at k n)
   own-listed after long run e taken q = record {
     under = after;
     right = λ d o l h g m.
@@ -259,9 +272,9 @@ module _ {table lists : List ℕ} {order : Order} {own area : List ℕ} where
   }
 
 -- What is promised settles the answer and both areas; and the round count that is answered is the description's.
-module _ (table lists : List ℕ) (order : Order) (own work area work₁ area₁ work₂ area₂ : List ℕ) (r₁ r₂ : Answer)
+module _ (table lists : List ℕ) (order : Order) (own work area work₁ area₁ work₂ area₂ : List ℕ) (r₁ r₂ : Result Listed TooLarge)
     (p : Answered table lists order own work area work₁ area₁ r₁) (q : Answered table lists order own work area work₂ area₂ r₂) where
-  same : (s : Answer) (v w : List ℕ)
+  same : (s : Result Listed TooLarge) (v w : List ℕ)
       → (r₁ ≡ s) × (area₁ ≡ v) × (work₁ ≡ w)
       → (r₂ ≡ s) × (area₂ ≡ v) × (work₂ ≡ w)
       → (r₁ ≡ r₂) × (area₁ ≡ area₂) × (work₁ ≡ work₂)
@@ -284,18 +297,18 @@ module _ (table lists : List ℕ) (order : Order) (own work area work₁ area₁
   ]
     where
       too_short : (length work < whole) ⊎ (length area < 2048) → (r₁ ≡ r₂) × (area₁ ≡ area₂) × (work₁ ≡ work₂)
-      too_short h = let a = p.short h in let b = q.short h in same A.TooLarge area work (a.0, a.2, a.1) (b.0, b.2, b.1)
+      too_short h = let a = p.short h in let b = q.short h in same (Err (record {})) area work (a.0, a.2, a.1) (b.0, b.2, b.1)
 
 outcome-rounds : (d : D.Description) (o : D.Order) (x : Outcome) (k n : ℕ)
     → Answers d o x
-    → A.Listed k n ≡ alphabet_of x
+    → listed_at k n ≡ alphabet_of x
     → Rounds d k × (k ≤ 2049)
 outcome-rounds d o too_large k n right e = absurd (let z : ◌≡◌ {A = ℕ} 0 1 = cc in omega arith)
 outcome-rounds d o (listed j labels) k n right e =
-    let z : k ≡ j = cc in rw z (right.counted, rounds-bound d j right.within right.counted)
+    let z : k ≡ j = ap rounds_listed e in rw z (right.counted, rounds-bound d j right.within right.counted)
 
 pub answered-rounds : (table lists : List ℕ) (order : Order) (own work area work' area' : List ℕ) (k n : ℕ)
-    → Answered table lists order own work area work' area' (A.Listed k n)
+    → Answered table lists order own work area work' area' (listed_at k n)
     → (d : D.Description) (o : D.Order)
     → Legal d o
     → Holds d table lists

@@ -3,11 +3,12 @@
 // what a try in vain has worked out is lost.
 ghost use Rattle.rounds.specs.Alphabets.{AnsweredFew};
 
-use crate::Answer;
+use crate::Listed;
 use crate::listing::cut_to;
 use extents::{labels_of, part_at};
+use sets::TooLarge;
+use stability::NEWS_ROW;
 use stability::running::run;
-use stability::{Last, NEWS_ROW};
 use table::{Order, root_of};
 
 // Descriptions of more terms mostly have more labels than there is room for.
@@ -28,11 +29,11 @@ pub fn alphabet_of_few(
     order: Order,
     listed: &[u64],
     answer: &mut [u64],
-) -> Answer
+) -> Result<Listed, TooLarge>
     ensures { AnsweredFew table.now lists.now order listed.now answer.old answer.new result }
 {
     if answer.len() < FEW_WORDS {
-        return Answer::TooLarge;
+        return Err(TooLarge);
     }
     let mut slots = [0u64; FEW_TERMS];
     let mut sets = [0usize; FEW_ROW];
@@ -40,15 +41,10 @@ pub fn alphabet_of_few(
     let mut work = [0u64; FEW_HALVES];
     let mut log = [0u64; FEW_WORDS];
     let mut out = [0u64; FEW_WORDS];
-    let last = run(
+    let rounds = run(
         table, lists, &mut slots, &mut sets, &mut news, &mut work, &mut log, &mut out,
-    );
-    match last {
-        Last::TooLarge => Answer::TooLarge,
-        Last::Stable(rounds) => {
-            let set = labels_of(&work, part_at(&sets, root_of(table)));
-            let labels = cut_to(order, listed, set, answer);
-            Answer::Listed(rounds, labels)
-        }
-    }
+    )?;
+    let set = labels_of(&work, part_at(&sets, root_of(table)));
+    let labels = cut_to(order, listed, set, answer);
+    Ok(Listed { rounds, labels })
 }

@@ -13,7 +13,8 @@ use areas::rows::labels_in;
 use extents::labels_of;
 use labels::LABEL_WORDS;
 use parts::Part;
-use stability::{Found, until_stable};
+use sets::TooLarge;
+use stability::until_stable;
 use table::Order;
 
 // The words that are used of the work area, and the words that the answer may take.
@@ -21,11 +22,11 @@ pub const WORK_WORDS: usize = stability::WORK_WORDS;
 
 pub const ANSWER_WORDS: usize = 2048;
 
-// A limit is passed; or the round count, and how many labels are listed.
-#[derive(Clone, Copy)]
-pub enum Answer {
-    TooLarge,
-    Listed(usize, usize),
+// The round count, and how many labels are listed.
+#[derive(Clone, Copy, Debug, PartialEq, Eq)]
+pub struct Listed {
+    pub rounds: usize,
+    pub labels: usize,
 }
 
 // The alphabet of the description that a table and its lists hold, cut to an order whose labels are the first of words of its own. A
@@ -38,20 +39,26 @@ pub fn alphabet(
     listed: &[u64],
     work: &mut [u64],
     answer: &mut [u64],
-) -> Answer
+) -> Result<Listed, TooLarge>
     ensures { Answered table.now lists.now order listed.now
         work.old answer.old work.new answer.new result }
 {
     if answer.len() < ANSWER_WORDS {
-        return Answer::TooLarge;
+        return Err(TooLarge);
     }
-    let found = until_stable(table, lists, work);
-    let Found::At(rounds, count) = found else {
-        return Answer::TooLarge;
-    };
-    let set = labels_of(work, Part { from: 0, to: count });
+    let found = until_stable(table, lists, work)?;
+    let set = labels_of(
+        work,
+        Part {
+            from: 0,
+            to: found.labels,
+        },
+    );
     let used = LABEL_WORDS * labels_in(set);
     let labels = cut_to(order, listed, set, answer);
     clear(work, used);
-    Answer::Listed(rounds, labels)
+    Ok(Listed {
+        rounds: found.rounds,
+        labels,
+    })
 }

@@ -2,10 +2,11 @@
 ghost use Rattle.rounds.specs.Alphabets.{AnsweredOwn};
 
 use crate::listing::cut_to;
-use crate::{ANSWER_WORDS, Answer, WORK_WORDS};
+use crate::{ANSWER_WORDS, Listed, WORK_WORDS};
 use extents::{labels_of, part_at};
+use sets::TooLarge;
+use stability::NEWS_ROW;
 use stability::running::run;
-use stability::{Last, NEWS_ROW};
 use table::{Order, TERMS, root_of};
 
 // The numbers that say where the sets of 96 terms stand and where their half ends, and the words of as many labels as all sets may have
@@ -21,26 +22,21 @@ pub fn alphabet_in_own(
     order: Order,
     listed: &[u64],
     answer: &mut [u64],
-) -> Answer
+) -> Result<Listed, TooLarge>
     ensures { AnsweredOwn table.now lists.now order listed.now answer.old answer.new result }
 {
     if answer.len() < ANSWER_WORDS {
-        return Answer::TooLarge;
+        return Err(TooLarge);
     }
     let mut slots = [0u64; TERMS];
     let mut sets = [0usize; SETS_ROW];
     let mut news = [0usize; NEWS_ROW];
     let mut work = [0u64; WORK_WORDS];
     let mut log = [0u64; LOG_WORDS];
-    let last = run(
+    let rounds = run(
         table, lists, &mut slots, &mut sets, &mut news, &mut work, &mut log, answer,
-    );
-    match last {
-        Last::TooLarge => Answer::TooLarge,
-        Last::Stable(rounds) => {
-            let set = labels_of(&work, part_at(&sets, root_of(table)));
-            let labels = cut_to(order, listed, set, answer);
-            Answer::Listed(rounds, labels)
-        }
-    }
+    )?;
+    let set = labels_of(&work, part_at(&sets, root_of(table)));
+    let labels = cut_to(order, listed, set, answer);
+    Ok(Listed { rounds, labels })
 }

@@ -1,49 +1,16 @@
 -- `rounds::few::alphabet_of_few` meets its contract: the rounds in small areas, and the listing from where the root's set stands.
 -- Assumes nothing.
-use mathlib.Core.Path.{refl}
+use Rattle.sets.proofs.Steps.{handed_on}
 use Rattle.rounds.proofs.Listings.{few-large, few-listed}
 use Rattle.rounds.proofs.few.alphabet_of_few.Goals as goal
 
 pub returns-then-answer-lt-FEW_WORDS : goal.returns-then-answer-lt-FEW_WORDS
 returns-then-answer-lt-FEW_WORDS c = few-large
 
-pub slice_bounds-run-end : goal.slice_bounds-run-end
-slice_bounds-run-end c = refl
+pub returns-in_err-rounds : goal.returns-in_err-rounds
+returns-in_err-rounds c = rw (handed_on c.from_residual.result c.from_residual.ensures.0) few-large
 
-pub slice_bounds-run-end-2 : goal.slice_bounds-run-end-2
-slice_bounds-run-end-2 c = refl
-
-pub slice_bounds-run-end-3 : goal.slice_bounds-run-end-3
-slice_bounds-run-end-3 c = refl
-
-pub slice_bounds-run-end-4 : goal.slice_bounds-run-end-4
-slice_bounds-run-end-4 c = refl
-
-pub slice_bounds-run-end-5 : goal.slice_bounds-run-end-5
-slice_bounds-run-end-5 c = refl
-
-pub slice_bounds-run-end-6 : goal.slice_bounds-run-end-6
-slice_bounds-run-end-6 c = refl
-
-pub run-last-requires : goal.run-last-requires
-run-last-requires c = tt
-
-pub returns-in-TooLarge : goal.returns-in-TooLarge
-returns-in-TooLarge c = few-large
-
-pub root_of-requires : goal.root_of-requires
-root_of-requires c = tt
-
-pub part_at-requires : goal.part_at-requires
-part_at-requires c = tt
-
-pub labels_of-set-requires : goal.labels_of-set-requires
-labels_of-set-requires c = tt
-
-pub cut_to-labels-requires : goal.cut_to-labels-requires
-cut_to-labels-requires c = tt
-
-pub returns-in-Stable : goal.returns-in-Stable
-returns-in-Stable c =
-    few-listed c.if-answer-lt-FEW_WORDS.false (rw c.in-Stable.is at c.run-last.ensures) c.root_of.ensures
+pub returns : goal.returns
+returns c =
+    few-listed c.if-answer-lt-FEW_WORDS.false c.in_ok-rounds.ensures c.root_of.ensures
     (rw c.part_at.ensures at c.labels_of-set.ensures) c.cut_to-labels.ensures
