@@ -90,7 +90,7 @@ fn refusal_fits(reason: usize, line: usize, column: usize, room: usize) -> bool
     write_fitting_refusal(&mut scratch, reason, line, column) <= room
 }
 
-// The text of a refusal, by its number, its line and its column, in the same way.
+// The text of a refusal, by its number, its line and its column, in the same way. The number stays one: any is printed (`refused_text`).
 pub fn write_refusal(text: &mut [u8], reason: usize, line: usize, column: usize) -> Option<usize>
     ensures { WrittenOrNone (refused_text reason line column) text.old text.new result }
 {

@@ -24,8 +24,8 @@ pub struct TermLine {
 }
 
 // What follows the word of the kind at a place among the kinds: the term at its number, its list's words put into the store. The LF
-// that ends the line is among the bytes that it takes.
-// With more names than a description has nothing is read.
+// that ends the line is among the bytes that it takes. With more names than a description has nothing is read. The place stays a number,
+// here and in `plains` and `wraps`, and no enum: every number has its tail (`TailRead`), and the table holds the same one.
 pub fn read_tail(
     k: usize,
     rest: &[u8],

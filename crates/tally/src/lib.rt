@@ -11,7 +11,8 @@ ghost use Rattle.tally.specs.Additions.{Adds};
 use crate::figures::{counting, has_room};
 use crate::verdicts::is_given;
 
-// What a call said, as far as it is counted: the number of its refusal, 0 for an answer; its rounds and how many labels it listed.
+// What a call said, as far as it is counted: the number of its refusal, 0 for an answer; its rounds and how many labels it listed. The
+// number stays one, and no enum: any is taken, and one that no call gives is left out with 18 (`given`).
 #[derive(Clone, Copy, Debug, PartialEq, Eq)]
 pub struct Verdict {
     pub reason: usize,
@@ -39,7 +40,8 @@ pub enum LeftOut {
     Full,
 }
 
-// The tally afterwards, with what became of the verdict: it is taken in, or left out. One that is left out leaves the tally as it was.
+// The tally afterwards, with what became of the verdict: it is taken in, or left out. One that is left out leaves the tally as it was, so
+// the tally stands beside the Result and not in its Ok (`Adds`).
 #[derive(Clone, Copy, Debug, PartialEq, Eq)]
 pub struct Addition {
     pub tally: Tally,

@@ -35,6 +35,7 @@ pub fn read_word(rest: &[u8]) -> Reading<u64>
 }
 
 // The number of a name among those given, where none before `start` is that name; a name that is not there has the number after the last.
+// It stays a number, and no Option: an entry whose name was not given is still ordered by that number (`name_entry` of `lists`).
 pub fn find_from(names: &[u64], start: usize, w: u64) -> usize
     ensures { result ≡ number_from names.now start w }
 {
