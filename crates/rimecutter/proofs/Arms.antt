@@ -1,38 +1,21 @@
--- What is left for the last arm of a match, by the numbers of the answers.
+-- Whether an answer is refusal 7.
 -- Assumes nothing.
+use Rattle.std.specs.Prelude.{Ok, Err}
 use mathlib.Core.Path.{◌≡◌, refl}
-use mathlib.Core.List.{List, [], ◌∷◌}
+use mathlib.Core.Bool.{true, false}
 use Prim.Native.Nat.{ℕ}
 use native.Mathlib.Omega.{arith}
-use types.Run.{OneOf, miss}
-use denote.Enum.Declared.{tag_of}
-use Rattle.areas.specs.Areas.{zeroed}
-use Rattle.reading.specs.contracts.Answer as ReadType
-use Rattle.reading.specs.declared.Answer as ReadAnswer
-use Rattle.reading.specs.declared.Answer.TheVariants as B
-use Rattle.rimecutter.specs.declared.Answer.{Answer}
-use Rattle.rimecutter.specs.declared.Answer.TheVariants.{Listed, TooLong, Bad, TooLarge}
-use Rattle.rimecutter.specs.Calls.{work_words}
-use Rattle.rimecutter.specs.Answers.{refusal_for, cleared_unless}
-use Rattle.rimecutter.specs.contracts.Answer.{the_type}
+use Rattle.rimecutter.specs.declared.Refusal.TheVariants.{TooLong, Bad, TooLarge}
+use Rattle.rimecutter.specs.Answers.{Answer, is_large}
 
--- not a bad line, nor too long
-pub no_room : (a : ReadAnswer.Answer) → OneOf (0 ∷ 1 ∷ []) (tag_of ReadType.the_type a) → TooLarge ≡ refusal_for a
-no_room B.Fine h = refl
-no_room B.NoRoom h = refl
-no_room B.TooLong h = absurd (miss (0 ∷ 1 ∷ []) 2 tt h)
-no_room (B.Bad f line) h = absurd (miss (0 ∷ 1 ∷ []) 3 tt h)
+pub untold : (a : Answer) → is_large a ≡ true → a ≡ Err TooLarge
+untold (Err TooLarge) e = refl
+untold (Err TooLong) e = let z : ◌≡◌ {A = ℕ} 0 1 = cc in absurd (omega arith)
+untold (Err (Bad b)) e = let z : ◌≡◌ {A = ℕ} 0 1 = cc in absurd (omega arith)
+untold (Ok l) e = let z : ◌≡◌ {A = ℕ} 0 1 = cc in absurd (omega arith)
 
--- not too long
-pub clears : (a : Answer) (work : List ℕ) → OneOf (0 ∷ 2 ∷ 3 ∷ []) (tag_of the_type a) → zeroed work_words work ≡ cleared_unless a work
-clears (Listed rounds labels) work h = refl
-clears TooLong work h = absurd (miss (0 ∷ 2 ∷ 3 ∷ []) 1 tt h)
-clears (Bad f line) work h = refl
-clears TooLarge work h = refl
-
--- not too large
-pub told : (a : Answer) → OneOf (0 ∷ 1 ∷ 2 ∷ []) (tag_of the_type a) → a ≡ TooLarge → ⊥
-told (Listed rounds labels) h e = let z : ◌≡◌ {A = ℕ} 0 1 = cc in omega arith
-told TooLong h e = let z : ◌≡◌ {A = ℕ} 0 1 = cc in omega arith
-told (Bad f line) h e = let z : ◌≡◌ {A = ℕ} 0 1 = cc in omega arith
-told TooLarge h e = miss (0 ∷ 1 ∷ 2 ∷ []) 3 tt h
+pub told : (a : Answer) → is_large a ≡ false → a ≡ Err TooLarge → ⊥
+told (Err TooLarge) e f = let z : ◌≡◌ {A = ℕ} 0 1 = cc in omega arith
+told (Err TooLong) e f = let z : ◌≡◌ {A = ℕ} 0 1 = cc in omega arith
+told (Err (Bad b)) e f = let z : ◌≡◌ {A = ℕ} 0 1 = cc in omega arith
+told (Ok l) e f = let z : ◌≡◌ {A = ℕ} 0 1 = cc in omega arith

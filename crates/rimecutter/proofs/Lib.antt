@@ -3,7 +3,7 @@
 pub mod Readings
 -- verdict-unique, settled-unique: any two results that meet the promise of a call are equal
 pub mod Uniqueness
--- no-room, clears, told: what is left for the last arm of a match
+-- untold, told: whether an answer is refusal 7
 pub mod Arms
 -- short-, long- and cleared-responded, few-refused, few-worked, roomy-refused, full-worked: from what reading and the rounds answer to what a call leaves
 pub mod Responses

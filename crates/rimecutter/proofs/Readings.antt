@@ -1,6 +1,7 @@
 -- What reading leaves for the call, in areas of its own: a table of 140 words, an order's list of 64, and lists of any length.
 -- Assumes nothing.
-use mathlib.Core.Path.{◌≡◌, refl, ap, ◌∙◌}
+use Rattle.std.specs.Prelude.{Result, Ok, Err}
+use mathlib.Core.Path.{◌≡◌, refl, sym, ap, subst, ◌∙◌}
 use mathlib.Core.Bool.{Bool, true, false, ◌||◌}
 use mathlib.Core.List.{List}
 use Prim.Native.Nat.{ℕ, ◌*◌, ◌≤◌}
@@ -19,9 +20,8 @@ use Rattle.table.specs.declared.Order.{Order}
 use Rattle.table.specs.Holding.{Holds, HoldsOrder}
 use Rattle.heads.specs.Heads.{Heading, head_text}
 use Rattle.reading.specs.Stored.{Coming, comes, crowded, unless_crowded, lines_in, read_in, read_for, Stored}
-use Rattle.reading.specs.declared.Answer as A
-use Rattle.reading.specs.declared.Answer.TheVariants.{Fine, NoRoom, TooLong, Bad}
-use Rattle.reading.specs.declared.Read.{Read}
+use Rattle.reading.specs.declared.ReadError.{ReadError}
+use Rattle.reading.specs.declared.ReadError.TheVariants.{NoRoom, TooLong, Bad}
 use Rattle.reading.proofs.Rooms.{read-in-full, read-holds}
 
 -- A text that is not crowded comes to what it reads as.
@@ -51,11 +51,10 @@ pub record ReadAs (text : Text) (table lists listed : List ℕ) (order : Order) 
   pub ordered : HoldsOrder wanted order listed
 
 -- Why a text was not read: for what it is, or for want of room.
-abbrev pub Refused : Text → (room : ℕ) → A.Answer → Type 0
-Refused text room Fine = ⊥
+abbrev pub Refused : Text → (room : ℕ) → ReadError → Type 0
 Refused text room NoRoom = 6144 ≤ room → ⊥
 Refused text room TooLong = read_text text ≡ overlong
-Refused text room (Bad f line) = read_text text ≡ bad_line (flaw_of f) line
+Refused text room (Bad b) = read_text text ≡ bad_line (flaw_of b.flaw) b.line
 
 pub fault-back : (f : Fault) → fault_of (fault_for f) ≡ f
 fault-back form = refl
@@ -63,37 +62,45 @@ fault-back name = refl
 fault-back range = refl
 fault-back amount = refl
 
-module _ {text : Text} {table lists listed table' lists' listed' : List ℕ} {r : Read} (done : Stored text table lists listed table' lists' listed' r)
-    (wide : length table ≡ 140) (long : length listed ≡ 64) where
+-- what is an error, and what is not
+abbrev why_of : Result Order ReadError → ReadError
+why_of (Ok order) = NoRoom
+why_of (Err why) = why
+
+module _ {text : Text} {table lists listed table' lists' listed' : List ℕ} {r : Result Order ReadError}
+    (done : Stored text table lists listed table' lists' listed' r) (wide : length table ≡ 140) (long : length listed ≡ 64) where
   abbrev coming : Coming
   coming = read_in text (length table) (length lists) (length listed)
 
   came : {x : Reading} → coming ≡ comes x → read_text text ≡ x
   came q = read_as text (length table) (length lists) (length listed) (omega arith) (omega arith) q
 
-  answered : {c : Coming} → coming ≡ c → r.answer ≡ (read_for c).answer
-  answered q = ap (λ (x : Read). x.answer) (done.result ∙ ap read_for q)
+  answered : {c : Coming} → coming ≡ c → r ≡ read_for c
+  answered q = done.result ∙ ap read_for q
 
-  pub fine-read : r.answer ≡ Fine → ReadAs text table' lists' listed' r.order
-  fine-read e = by coming refl
+  pub fine-read : {order : Order} → r ≡ Ok order → ReadAs text table' lists' listed' order
+  fine-read {order} e = by coming refl
     where
-      by : (c : Coming) → coming ≡ c → ReadAs text table' lists' listed' r.order
+      by : (c : Coming) → coming ≡ c → ReadAs text table' lists' listed' order
       by (comes (read d o)) q =
-          let left = read-holds done q in
+          let left = read-holds (subst (Stored text table lists listed table' lists' listed') e done) q in
           record { given = d; wanted = o; reads = came q; legal = left.0; holds = left.1; ordered = left.2 }
       by (comes overlong) q = let h = answered q in let z : ◌≡◌ {A = ℕ} 0 1 = cc in absurd (omega arith)
       by (comes (bad_line f line)) q = let h = answered q in let z : ◌≡◌ {A = ℕ} 0 1 = cc in absurd (omega arith)
       by crowded q = let h = answered q in let z : ◌≡◌ {A = ℕ} 0 1 = cc in absurd (omega arith)
 
-  pub refused-read : (r.answer ≡ Fine → ⊥) → Refused text (length lists) r.answer
-  refused-read some = by coming refl
+  pub refused-read : {why : ReadError} → r ≡ Err why → Refused text (length lists) why
+  refused-read {why} e = by coming refl
     where
-      by : (c : Coming) → coming ≡ c → Refused text (length lists) r.answer
-      by (comes (read d o)) q = absurd (some (answered q))
-      by (comes overlong) q = rw (answered q) (came q)
-      by (comes (bad_line f line)) q = rw (answered q, fault-back f.fault) (came q)
+      the : {c : Coming} {w : ReadError} → coming ≡ c → read_for c ≡ Err w → w ≡ why
+      the q k = ap why_of (sym k ∙ sym (answered q) ∙ e)
+
+      by : (c : Coming) → coming ≡ c → Refused text (length lists) why
+      by (comes (read d o)) q = let h = answered q in let z : ◌≡◌ {A = ℕ} 0 1 = cc in absurd (omega arith)
+      by (comes overlong) q = subst (Refused text (length lists)) (the q refl) (came q)
+      by (comes (bad_line f line)) q = subst (Refused text (length lists)) (the q refl) (rw (fault-back f.fault) (came q))
       by crowded q =
-          rw (answered q) (λ roomy.
+          subst (Refused text (length lists)) (the q refl) (λ roomy.
           let full = read-in-full text (length table) (length lists) (length listed) (omega arith) roomy (omega arith) in
           let z : ◌≡◌ {A = ℕ} 0 1 = cc in
           omega arith)

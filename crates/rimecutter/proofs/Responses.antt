@@ -1,8 +1,9 @@
 -- From what reading and the rounds answer to what a call leaves.
 -- Assumes nothing.
+use Rattle.std.specs.Prelude.{Result, Ok, Err}
 use mathlib.Core.Path.{◌≡◌, refl, sym, ap, subst, ◌∙◌}
 use mathlib.Core.Bool.{Bool, true, false}
-use mathlib.Core.List.{List, ◌++◌, map}
+use mathlib.Core.List.{List, [], ◌++◌, map}
 use Prim.Native.Nat.{ℕ, ◌*◌, ◌≤◌}
 use native.Mathlib.Omega.{arith}
 use lib.Dec.{ltb}
@@ -22,23 +23,24 @@ use Rattle.table.specs.Holding.{names_in}
 use Rattle.table.proofs.Holdings.{names-held}
 use Rattle.areas.proofs.Held.{length-in_words}
 use Rattle.areas.proofs.Zeroes.{zeroed-front}
-use Rattle.reading.specs.declared.Answer as ReadAnswer
-use Rattle.reading.specs.declared.Answer.TheVariants as B
-use Rattle.rounds.specs.declared.Answer as RoundsAnswer
-use Rattle.rounds.specs.declared.Answer.TheVariants as R
+use Rattle.reading.specs.declared.ReadError.{ReadError}
+use Rattle.reading.specs.declared.ReadError.TheVariants as B
+use Rattle.sets.specs.declared.TooLarge as S
+use Rattle.rounds.specs.declared.Listed.{Listed}
 use Rattle.rounds.specs.Alphabets.{alphabet_of, answer_area, Answered, AnsweredFew, AnsweredOwn}
-use Rattle.rimecutter.specs.declared.Answer.{Answer}
-use Rattle.rimecutter.specs.declared.Answer.TheVariants.{Listed, TooLong, Bad, TooLarge}
+use Rattle.rimecutter.specs.declared.Refusal.{Refusal}
+use Rattle.rimecutter.specs.declared.Refusal.TheVariants.{TooLong, Bad, TooLarge}
 use Rattle.rimecutter.specs.declared.calls.Response.{Response}
 use Rattle.rimecutter.specs.Calls.{Call, refusing, answering, too_short, of_outcome, of_reading, unless_short, call, own_call}
 use Rattle.rimecutter.specs.Calls.{verdict_of, answer_after, cleared, work_after, work_words, answer_words}
-use Rattle.rimecutter.specs.Answers.{verdict_for, NamesFor, Responded, answer_for, refusal_for, RespondedFew, RespondedOwn, cleared_unless, Cleared}
+use Rattle.rimecutter.specs.Answers.{Answer, verdict_for, answer_in, names_with, NamesFor, Responded}
+use Rattle.rimecutter.specs.Answers.{answer_for, refusal_for, RespondedFew, RespondedOwn, cleared_unless, Cleared}
 use Rattle.rimecutter.proofs.Readings.{fault-back, Refused, ReadAs}
 use Rattle.rimecutter.proofs.Uniqueness.{verdict-unique}
 
 -- What is told of a call besides the work area.
-abbrev pub Told : Call → (answer answer' : List ℕ) → Response → Type 0
-Told c answer answer' r = (verdict_for r.answer ≡ verdict_of c) × (answer' ≡ answer_after c answer) × NamesFor c r.names
+abbrev pub Told : Call → (answer answer' : List ℕ) → Result Response Refusal → Type 0
+Told c answer answer' r = (verdict_for (answer_in r) ≡ verdict_of c) × (answer' ≡ answer_after c answer) × NamesFor c (names_with r)
 
 -- Areas that are long enough are as good as areas of the call's own.
 own_read : (text : Text) → own_call text ≡ of_reading (read_text text)
@@ -50,14 +52,14 @@ long-enough work answer long =
     let fits = or-false→ (ltb work work_words) (ltb answer answer_words) long in
     (ltb-false work work_words fits.0, ltb-false answer answer_words fits.1)
 
-pub long-responded : (text : Text) {work work' answer answer' : List ℕ} {r : Response} → too_short (length work) (length answer) ≡ false
+pub long-responded : (text : Text) {work work' answer answer' : List ℕ} {r : Result Response Refusal} → too_short (length work) (length answer) ≡ false
     → Responded (own_call text) work work' answer answer' r → Responded (call text (length work) (length answer)) work work' answer answer' r
 unfolding call
 long-responded text {work} {work'} {answer} {answer'} {r} long h =
     subst (λ (b : Bool). Responded (unless_short b (read_text text)) work work' answer answer' r) (sym long) h
 
 -- Refusal 1 before anything is read.
-pub short-responded : (text : Text) (work answer : List ℕ) (r : Response) → r.answer ≡ TooLong → too_short (length work) (length answer) ≡ true
+pub short-responded : (text : Text) (work answer : List ℕ) (r : Result Response Refusal) → answer_in r ≡ Err TooLong → too_short (length work) (length answer) ≡ true
     → Responded (call text (length work) (length answer)) work work answer answer r
 unfolding call
 short-responded text work answer r said e =
@@ -66,10 +68,10 @@ short-responded text work answer r said e =
 
 -- The work area, from what is told.
 answer_of : Call → Answer
-answer_of (refusing too_long) = TooLong
-answer_of (refusing (in_line f line column)) = Bad (record { fault = fault_for f; column = column }) line
-answer_of (refusing large) = TooLarge
-answer_of (answering words rounds labels) = Listed rounds (length labels)
+answer_of (refusing too_long) = Err TooLong
+answer_of (refusing (in_line f line column)) = Err (Bad (record { flaw = record { fault = fault_for f; column = column }; line = line }))
+answer_of (refusing large) = Err TooLarge
+answer_of (answering words rounds labels) = Ok (record { rounds = rounds; labels = length labels })
 
 told-once : (c : Call) → verdict_for (answer_of c) ≡ verdict_of c
 unfolding answer_of
@@ -86,10 +88,10 @@ module _ (work : List ℕ) (long : work_words ≤ length work) where
   cleared-after (refusing large) = zeroed-front work_words work long
   cleared-after (answering words rounds labels) = zeroed-front work_words work long
 
-  pub cleared-responded : (c : Call) (answer answer' : List ℕ) {work' : List ℕ} {r a : Response} → Told c answer answer' r → Cleared r work work' a
+  pub cleared-responded : (c : Call) (answer answer' : List ℕ) {work' : List ℕ} {r a : Result Response Refusal} → Told c answer answer' r → Cleared r work work' a
       → Responded c work work' answer answer' a
   cleared-responded c answer answer' {work'} {r} t h =
-      let one : r.answer ≡ answer_of c = verdict-unique r.answer (answer_of c) (verdict_of c) t.0 (told-once c) in
+      let one : answer_in r ≡ answer_of c = verdict-unique (answer_in r) (answer_of c) (verdict_of c) t.0 (told-once c) in
       subst (Responded c work work' answer answer') (sym h.same)
       (record {
         settled = record {
@@ -101,74 +103,88 @@ module _ (work : List ℕ) (long : work_words ≤ length work) where
       })
 
 -- A text that was not read.
-module _ (text : Text) (room : ℕ) (answer : List ℕ) (r : Response) where
-  refused-told : (s : ReadAnswer.Answer) → r.answer ≡ refusal_for s → Refused text room s → (r.answer ≡ TooLarge → ⊥) → Told (own_call text) answer answer r
-  refused-told B.Fine e h some = absurd h
-  refused-told B.NoRoom e h some = absurd (some e)
-  refused-told B.TooLong e h some = subst (λ (c : Call). Told c answer answer r) (sym (own_read text ∙ ap of_reading h)) (ap verdict_for e, refl, tt)
-  refused-told (B.Bad f line) e h some =
-      subst (λ (c : Call). Told c answer answer r) (sym (own_read text ∙ ap of_reading h)) (ap verdict_for e, refl, tt)
+module _ (text : Text) (room : ℕ) (answer : List ℕ) where
+  abbrev Untold : ReadError → Type 0
+  Untold s = ◌≡◌ {A = Answer} (Err (refusal_for s)) (Err TooLarge)
 
-  pub few-refused : (s : ReadAnswer.Answer) → r.answer ≡ refusal_for s → Refused text room s → RespondedFew (own_call text) answer answer r
-  few-refused s e h = record { untold = λ large. refl; told = refused-told s e h }
+  refused-told : (s : ReadError) → Refused text room s → (Untold s → ⊥) → Told (own_call text) answer answer (Err (refusal_for s))
+  refused-told B.NoRoom h some = absurd (some refl)
+  refused-told B.TooLong h some =
+      subst (λ (c : Call). Told c answer answer (Err TooLong)) (sym (own_read text ∙ ap of_reading h)) (refl, refl, tt)
+  refused-told (B.Bad b) h some =
+      subst (λ (c : Call). Told c answer answer (Err (Bad b))) (sym (own_read text ∙ ap of_reading h)) (refl, refl, tt)
+
+  pub few-refused : (s : ReadError) → Refused text room s → RespondedFew (own_call text) answer answer (Err (refusal_for s))
+  few-refused s h = record { untold = λ large. refl; told = refused-told s h }
 
   -- where there was room for it
-  pub roomy-refused : (s : ReadAnswer.Answer) → r.answer ≡ refusal_for s → Refused text room s → room ≡ 6144 → Told (own_call text) answer answer r
-  roomy-refused s e h roomy = refused-told s e h (λ large. never s (sym e ∙ large) h)
+  pub roomy-refused : (s : ReadError) → Refused text room s → room ≡ 6144 → Told (own_call text) answer answer (Err (refusal_for s))
+  roomy-refused s h roomy = refused-told s h (never s h)
     where
-      never : (s : ReadAnswer.Answer) → refusal_for s ≡ TooLarge → Refused text room s → ⊥
-      never B.Fine e h = h
-      never B.NoRoom e h = h (omega arith)
-      never B.TooLong e h = let z : ◌≡◌ {A = ℕ} 0 1 = cc in omega arith
-      never (B.Bad f line) e h = let z : ◌≡◌ {A = ℕ} 0 1 = cc in omega arith
+      never : (s : ReadError) → Refused text room s → Untold s → ⊥
+      never B.NoRoom h e = h (omega arith)
+      never B.TooLong h e = let z : ◌≡◌ {A = ℕ} 0 1 = cc in omega arith
+      never (B.Bad b) h e = let z : ◌≡◌ {A = ℕ} 0 1 = cc in omega arith
+
+  pub own-refused : (s : ReadError) → Refused text room s → room ≡ 6144 → RespondedOwn (own_call text) answer (Err (refusal_for s))
+  own-refused s h roomy = record { under = answer; told = roomy-refused s h roomy }
 
 -- Labels are two words each.
 pub shown-length : (labels : List Label) → length (in_words (map number labels)) ≡ 2 * length labels
 shown-length labels = length-in_words (map number labels) ∙ ap (λ (n : ℕ). 2 * n) (length-map labels number)
 
 -- A description that was read, with what the rounds found.
-outcome-told : (d : D.Description) (x : Outcome) (answer : List ℕ) {f : RoundsAnswer.Answer} {answer' : List ℕ} {r : Response} → f ≡ alphabet_of x
-    → answer' ≡ answer_area x answer → r.answer ≡ answer_for f → r.names ≡ filled 24 0 (map word_of d.words) → Told (of_outcome d x) answer answer' r
-outcome-told d too_large answer e a s n = (ap verdict_for (s ∙ ap answer_for e), a, tt)
-outcome-told d (listed rounds labels) answer e a s n =
-    (ap verdict_for (s ∙ ap answer_for e), a ∙ ap (λ (n : ℕ). in_words (map number labels) ++ drop n answer) (shown-length labels), n)
+outcome-told : (d : D.Description) (x : Outcome) (answer : List ℕ) {f : Result Listed S.TooLarge} {answer' : List ℕ}
+    (r : Result Response Refusal) → f ≡ alphabet_of x → answer' ≡ answer_area x answer → answer_in r ≡ answer_for f
+    → ((l : Listed) → answer_in r ≡ Ok l → names_with r ≡ filled 24 0 (map word_of d.words)) → Told (of_outcome d x) answer answer' r
+outcome-told d too_large answer r e a s n = (ap verdict_for (s ∙ ap answer_for e), a, tt)
+outcome-told d (listed rounds labels) answer r e a s n = (
+  ap verdict_for (s ∙ ap answer_for e),
+  a ∙ ap (λ (n : ℕ). in_words (map number labels) ++ drop n answer) (shown-length labels),
+  n _ (s ∙ ap answer_for e),
+)
 
 outcome-works : (d : D.Description) (x : Outcome) (work : List ℕ) → cleared work ≡ work_after (of_outcome d x) work
 outcome-works d too_large work = refl
 outcome-works d (listed rounds labels) work = refl
 
-module _ {text : Text} {table lists listed : List ℕ} {order : Order} (h : ReadAs text table lists listed order) (r : Response)
-    (printed : r.names ≡ filled 24 0 (names_in table)) where
+-- A refusal has no names.
+pub unprinted : {e : Refusal} {names : List ℕ} (l : Listed) → ◌≡◌ {A = Answer} (Err e) (Ok l) → [] ≡ names
+unprinted l e = absurd (let z : ◌≡◌ {A = ℕ} 0 1 = cc in omega arith)
+
+module _ {text : Text} {table lists listed : List ℕ} {order : Order} (h : ReadAs text table lists listed order) (r : Result Response Refusal)
+    (printed : (l : Listed) → answer_in r ≡ Ok l → names_with r ≡ filled 24 0 (names_in table)) where
   abbrev outcome : Outcome
   outcome = A.answer h.given h.wanted
 
   own-outcome : own_call text ≡ of_outcome h.given outcome
   own-outcome = own_read text ∙ ap of_reading h.reads
 
-  found-told : (answer : List ℕ) {f : RoundsAnswer.Answer} {answer' : List ℕ} → f ≡ alphabet_of outcome → answer' ≡ answer_area outcome answer
-      → r.answer ≡ answer_for f → Told (own_call text) answer answer' r
+  found-told : (answer : List ℕ) {f : Result Listed S.TooLarge} {answer' : List ℕ} → f ≡ alphabet_of outcome → answer' ≡ answer_area outcome answer
+      → answer_in r ≡ answer_for f → Told (own_call text) answer answer' r
   found-told answer {answer'} e a s =
-      let named = printed ∙ ap (filled 24 0) (names-held h.holds h.legal.name_count.1) in
-      subst (λ (c : Call). Told c answer answer' r) (sym own-outcome) (outcome-told h.given outcome answer e a s named)
+      let named : (l : Listed) → answer_in r ≡ Ok l → names_with r ≡ filled 24 0 (map word_of h.given.words) =
+      λ l k. printed l k ∙ ap (filled 24 0) (names-held h.holds h.legal.name_count.1) in
+      subst (λ (c : Call). Told c answer answer' r) (sym own-outcome) (outcome-told h.given outcome answer r e a s named)
 
-  pub few-worked : (f : RoundsAnswer.Answer) {answer answer' : List ℕ} → AnsweredFew table lists order listed answer answer' f → r.answer ≡ answer_for f
+  pub few-worked : (f : Result Listed S.TooLarge) {answer answer' : List ℕ} → AnsweredFew table lists order listed answer answer' f → answer_in r ≡ answer_for f
       → RespondedFew (own_call text) answer answer' r
-  few-worked R.TooLarge w s = record { untold = λ large. w.unchanged refl; told = λ some. absurd (some s) }
-  few-worked (R.Listed rounds labels) {answer} w s =
-      let found = w.right h.given h.wanted h.legal h.holds h.ordered rounds labels refl in
+  few-worked (Err e) w s = record { untold = λ large. w.unchanged refl; told = λ some. absurd (some s) }
+  few-worked (Ok l) {answer} w s =
+      let found = w.right h.given h.wanted h.legal h.holds h.ordered l.rounds l.labels refl in
       record {
         untold = λ large. let z : ◌≡◌ {A = ℕ} 0 1 = cc in absurd (omega arith);
         told = λ some. found-told answer found.0 found.1 s;
       }
 
-  pub own-worked : (f : RoundsAnswer.Answer) {answer answer' : List ℕ} → AnsweredOwn table lists order listed answer answer' f → r.answer ≡ answer_for f
+  pub own-worked : (f : Result Listed S.TooLarge) {answer answer' : List ℕ} → AnsweredOwn table lists order listed answer answer' f → answer_in r ≡ answer_for f
       → answer_words ≤ length answer → RespondedOwn (own_call text) answer' r
   own-worked f w s wide =
       let found = w.right h.given h.wanted h.legal h.holds h.ordered wide in
       record { under = w.under; told = found-told w.under found.0 found.1 s }
 
-  pub full-worked : (f : RoundsAnswer.Answer) {work answer work' answer' : List ℕ} → Answered table lists order listed work answer work' answer' f
-      → r.answer ≡ answer_for f → work_words ≤ length work → answer_words ≤ length answer → Responded (own_call text) work work' answer answer' r
+  pub full-worked : (f : Result Listed S.TooLarge) {work answer work' answer' : List ℕ} → Answered table lists order listed work answer work' answer' f
+      → answer_in r ≡ answer_for f → work_words ≤ length work → answer_words ≤ length answer → Responded (own_call text) work work' answer answer' r
   full-worked f {work} {answer} w s long wide =
       let found = w.right h.given h.wanted h.legal h.holds h.ordered long wide in
       let t = found-told answer found.0 found.1 s in

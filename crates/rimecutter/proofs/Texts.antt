@@ -1,5 +1,6 @@
 -- From what a call comes to, to the text that is printed of it.
 -- Assumes nothing.
+use Rattle.std.specs.Prelude.{Result, Ok, Err}
 use mathlib.Core.Path.{◌≡◌, refl, sym, ap, ap₂, subst, ◌∙◌, ◌≡⟨◌⟩◌, ◌∎}
 use mathlib.Core.Bool.{Bool, true, false, ◌&&◌}
 use mathlib.Core.Logic.{inl, inr}
@@ -40,10 +41,11 @@ use Rattle.label_texts.specs.Packed.{name_texts, counts_of}
 use Rattle.printing.proofs.Callers.{Bytes, Fits, same_answer}
 use Rattle.rimecutter.specs.Calls.{Call, refusing, answering, work_words, answer_words, too_short, of_outcome}
 use Rattle.rimecutter.specs.Calls.{of_reading, unless_short, call, own_call, verdict_of, shown, answer_after, text_of}
-use Rattle.rimecutter.specs.Answers.{verdict_for, NamesFor, said_text, listed_in, TextWritten}
-use Rattle.rimecutter.specs.declared.Answer.{Answer}
+use Rattle.rimecutter.specs.Answers.{Answer, answer_in, names_with, verdict_for, NamesFor, said_text, listed_in, TextWritten}
 use Rattle.rimecutter.specs.declared.calls.Response.{Response}
-use Rattle.rimecutter.specs.declared.Answer.TheVariants.{Listed, TooLong, Bad, TooLarge}
+use Rattle.rounds.specs.declared.Listed.{Listed}
+use Rattle.rimecutter.specs.declared.Refusal as Why
+use Rattle.rimecutter.specs.declared.Refusal.TheVariants.{TooLong, Bad, TooLarge}
 use Rattle.rimecutter.proofs.Responses.{Told, shown-length}
 
 -- A refusal's text is that of its number, line and column.
@@ -159,7 +161,7 @@ record Listing (c : Call) (rounds n : ℕ) (names answer : List ℕ) : Type 0 wh
   pub says : text_of c ≡ answer_text (name_texts names) rounds (map counts_of (take n (held answer)))
 
 listed-text : (text : Text) (c : Call) → own_call text ≡ c → (rounds n : ℕ) (names answer answer' : List ℕ)
-    → verdict_for (Listed rounds n) ≡ verdict_of c → NamesFor c names → answer' ≡ answer_after c answer → Listing c rounds n names answer'
+    → verdict_for (Ok (record { rounds = rounds; labels = n })) ≡ verdict_of c → NamesFor c names → answer' ≡ answer_after c answer → Listing c rounds n names answer'
 listed-text text (refusing r) e rounds n names answer answer' v ns put = absurd (omega (arith, refusals-numbered r, reason-eq v))
 listed-text text (answering words k ls) e rounds n names answer answer' v ns put =
     let from = call→origin text words k ls work_words answer_words e in
@@ -189,20 +191,20 @@ pub words-there : {labels count : ℕ} (words : List ℕ) → count ≡ length (
 words-there words counted h = omega (arith, length-held words)
 
 -- What a response's text is, by its answer.
-module _ {r : Response} {words area area' : List ℕ} {o : Option ℕ} where
-  pub written : (a : Answer) → r.answer ≡ a → WrittenOrNone (said_text a r.names words) area area' o → TextWritten r words area area' o
-  written a e h = record { printed = λ all. subst (λ (x : Answer). WrittenOrNone (said_text x r.names words) area area' o) (sym e) h }
+module _ {r : Result Response Why.Refusal} {words area area' : List ℕ} {o : Option ℕ} where
+  pub written : (a : Answer) → answer_in r ≡ a → WrittenOrNone (said_text a (names_with r) words) area area' o → TextWritten r words area area' o
+  written a e h = record { printed = λ all. subst (λ (x : Answer). WrittenOrNone (said_text x (names_with r) words) area area' o) (sym e) h }
 
-  pub unwritten : {rounds : ℕ} (labels : ℕ) {count : ℕ} → r.answer ≡ Listed rounds labels → count ≡ length (held words) → count < labels
+  pub unwritten : (l : Listed) {count : ℕ} → answer_in r ≡ Ok l → count ≡ length (held words) → count < l.labels
       → TextWritten r words area area' o
-  unwritten labels e counted few = record { printed = λ all. absurd (omega (arith, ap listed_in e)) }
+  unwritten l e counted few = record { printed = λ all. absurd (omega (arith, ap listed_in e)) }
 
 -- An answer's labels are words of the answer area.
 listed-count : (a : Answer) → listed_in a ≡ (verdict_for a).labels
-listed-count (Listed rounds labels) = refl
-listed-count TooLong = refl
-listed-count (Bad f line) = refl
-listed-count TooLarge = refl
+listed-count (Ok l) = refl
+listed-count (Err TooLong) = refl
+listed-count (Err (Bad b)) = refl
+listed-count (Err TooLarge) = refl
 
 labels-fit : (c : Call) (answer : List ℕ) → (verdict_of c).labels ≤ length (held (answer_after c answer))
 labels-fit (refusing r) answer = zero-le
@@ -211,21 +213,24 @@ labels-fit (answering words rounds labels) answer =
     omega (arith, ap length (shown-held labels answer), length-append (map number labels) rest, length-map labels number)
 
 -- The text of what is told of a call is the call's.
-module _ (text : Text) (answer answer' : List ℕ) (r : Response) (h : Told (own_call text) answer answer' r) where
-  all_there : listed_in r.answer ≤ length (held answer')
-  all_there = omega (arith, listed-count r.answer, labels-eq h.0, labels-fit (own_call text) answer, ap (λ (ws : List ℕ). length (held ws)) h.1)
+module _ (text : Text) (answer answer' : List ℕ) (r : Result Response Why.Refusal) (h : Told (own_call text) answer answer' r) where
+  all_there : listed_in (answer_in r) ≤ length (held answer')
+  all_there = omega (arith, listed-count (answer_in r), labels-eq h.0, labels-fit (own_call text) answer, ap (λ (ws : List ℕ). length (held ws)) h.1)
 
-  told_text : (a : Answer) → r.answer ≡ a → text_of (own_call text) ≡ said_text a r.names answer'
-  told_text (Listed rounds labels) e =
-      (listed-text text (own_call text) refl rounds labels r.names answer answer' (ap verdict_for (sym e) ∙ h.0) h.2 h.1).says
-  told_text TooLong e = refused-text (own_call text) (verdict_for TooLong) (ap verdict_for (sym e) ∙ h.0) (λ z. omega arith)
-  told_text (Bad f line) e =
-      refused-text (own_call text) (verdict_for (Bad f line)) (ap verdict_for (sym e) ∙ h.0) (λ z. omega (arith, faults-numbered (fault_of f.fault)))
-  told_text TooLarge e = refused-text (own_call text) (verdict_for TooLarge) (ap verdict_for (sym e) ∙ h.0) (λ z. omega arith)
+  told_text : (a : Answer) → answer_in r ≡ a → text_of (own_call text) ≡ said_text a (names_with r) answer'
+  told_text (Ok l) e =
+      (listed-text text (own_call text) refl l.rounds l.labels (names_with r) answer answer' (ap verdict_for (sym e) ∙ h.0) h.2 h.1).says
+  told_text (Err TooLong) e =
+      refused-text (own_call text) (verdict_for (Err TooLong)) (ap verdict_for (sym e) ∙ h.0) (λ z. omega arith)
+  told_text (Err (Bad b)) e =
+      refused-text (own_call text) (verdict_for (Err (Bad b))) (ap verdict_for (sym e) ∙ h.0)
+      (λ z. omega (arith, faults-numbered (fault_of b.flaw.fault)))
+  told_text (Err TooLarge) e =
+      refused-text (own_call text) (verdict_for (Err TooLarge)) (ap verdict_for (sym e) ∙ h.0) (λ z. omega arith)
 
   pub told-printed : {area area' : Text} {o : Option ℕ} → TextWritten r answer' area area' o → WrittenOrNone (text_of (own_call text)) area area' o
   told-printed {area} {area'} {o} w =
-      subst (λ (t : Text). WrittenOrNone t area area' o) (sym (told_text r.answer refl)) (w.printed all_there)
+      subst (λ (t : Text). WrittenOrNone t area area' o) (sym (told_text (answer_in r) refl)) (w.printed all_there)
 
 -- 303,104 bytes hold every text.
 pub text-fits : (text : Text) → length (text_of (own_call text)) ≤ 303104

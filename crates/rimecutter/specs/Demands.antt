@@ -12,9 +12,8 @@ use Rattle.meaning.specs.Answers.{Allows, listed, Lists, Refusal, Verdict}
 use Rattle.grammar.specs.Reading.{read, read_text}
 use Rattle.grammar.specs.Printed.{line, answer_text}
 use Rattle.grammar.specs.Areas.{with_start, Printed}
-use Rattle.rimecutter.specs.declared.Answer.{Answer}
 use Rattle.rimecutter.specs.Calls.{refusing, call, own_call, shown, cleared, work_after, text_of, number_in_text}
-use Rattle.rimecutter.specs.Answers.{verdict_for, Settled}
+use Rattle.rimecutter.specs.Answers.{Answer, verdict_for, Settled}
 use Rattle.rimecutter.specs.Refusals.{Due}
 
 -- A call: the text, each area before and after, and the answer; of them no more is known than that the promise was kept.

@@ -3,40 +3,63 @@
 
 mod calls;
 
-ghost use Rattle.std.specs.Prelude.{length};
+ghost use Rattle.std.specs.Prelude.{◌≡◌, length};
 ghost use Rattle.grammar.specs.Areas.{WrittenOrNone};
 ghost use Rattle.rimecutter.specs.Calls.{call, own_call, text_of, work_words, answer_words};
-ghost use Rattle.rimecutter.specs.Answers.{Settled, TextWritten};
+ghost use Rattle.rimecutter.specs.Answers.{Settled, TextWritten, refusal_for};
+ghost use Rattle.rimecutter.specs.declared.Refusal.TheVariants.{TooLarge};
 
-use crate::calls::{Response, respond, respond_few, respond_own};
+use crate::calls::{Response, is_large, respond, respond_few, respond_own};
 use areas::rows::labels_in;
-use faults::{Flaw, number_of};
+use faults::number_of;
+use keyed::BadLine;
 use labels::LABEL_WORDS;
 use printing::{write_answer, write_refusal};
-use reading::TEXT_BYTES;
-use rounds::ANSWER_WORDS;
+use reading::{ReadError, TEXT_BYTES};
 use rounds::few::FEW_WORDS;
+use rounds::{ANSWER_WORDS, Listed};
+use sets::TooLarge;
 
-// Listed with the rounds and the number of labels; or refused: with 1; with the fault of a line, its column and the line's number; or with 7.
-#[derive(Clone, Copy)]
-pub enum Answer {
-    Listed(usize, usize),
+// Why nothing is listed: refusal 1; the fault of a line with its column, and the line's number; or refusal 7.
+#[derive(Clone, Copy, Debug, PartialEq, Eq)]
+pub enum Refusal {
     TooLong,
-    Bad(Flaw, usize),
+    Bad(BadLine),
     TooLarge,
+}
+
+// Why a text was not read. No room is told as too large.
+impl From<ReadError> for Refusal {
+    ghost from_gives = { λ why e. e ≡ refusal_for why };
+
+    fn from(why: ReadError) -> Refusal {
+        match why {
+            ReadError::TooLong => Refusal::TooLong,
+            ReadError::NoRoom => Refusal::TooLarge,
+            ReadError::Bad(bad) => Refusal::Bad(bad),
+        }
+    }
+}
+
+// What the rounds tell of a limit.
+impl From<TooLarge> for Refusal {
+    ghost from_gives = { λ why e. e ≡ TooLarge };
+
+    fn from(_why: TooLarge) -> Refusal {
+        Refusal::TooLarge
+    }
 }
 
 // Works the alphabet out in two lent areas. On an answer the labels' numbers stand at the start of `answer`, ascending, two words each, the
 // lower first; on a refusal `answer` is as it was. The first 8,192 words of `work` are 0 afterwards. Refusal 1, also given for areas that
 // are too short, changes neither area.
-pub fn alphabet(description: &[u8], work: &mut [u64], answer: &mut [u64]) -> Answer
+pub fn alphabet(description: &[u8], work: &mut [u64], answer: &mut [u64]) -> Result<Listed, Refusal>
     ensures { Settled
         (call description.now (length work.old) (length answer.old))
         work.old work.new answer.old answer.new result }
 {
-    let response = respond(description, work, answer);
-    let said = response.answer;
-    said
+    let response = respond(description, work, answer)?;
+    Ok(response.listed)
 }
 
 // The refusals that are no fault of a line.
@@ -49,24 +72,24 @@ const NO_LINE: usize = 0;
 const NO_COLUMN: usize = 0;
 
 // The text of a response, whose labels are the first words of an area.
-fn write_response(text: &mut [u8], response: Response, answer: &[u64]) -> Option<usize>
+fn write_response(text: &mut [u8], response: Result<Response, Refusal>, answer: &[u64]) -> Option<usize>
     ensures { TextWritten response answer.now text.old text.new result }
 {
-    let said = response.answer;
-    let names = response.names;
-    match said {
-        Answer::Listed(rounds, labels) => {
+    match response {
+        Ok(response) => {
+            let names = response.names;
+            let Listed { rounds, labels } = response.listed;
             if labels_in(answer) < labels {
                 return None;
             }
             write_answer(text, names, rounds, &answer[..LABEL_WORDS * labels])
         }
-        Answer::TooLong => write_refusal(text, TOO_LONG, NO_LINE, NO_COLUMN),
-        Answer::Bad(flaw, line) => {
-            let fault = flaw.fault;
-            write_refusal(text, number_of(fault), line, flaw.column)
+        Err(Refusal::TooLong) => write_refusal(text, TOO_LONG, NO_LINE, NO_COLUMN),
+        Err(Refusal::Bad(bad)) => {
+            let flaw = bad.flaw;
+            write_refusal(text, number_of(flaw.fault), bad.line, flaw.column)
         }
-        Answer::TooLarge => write_refusal(text, TOO_LARGE, NO_LINE, NO_COLUMN),
+        Err(Refusal::TooLarge) => write_refusal(text, TOO_LARGE, NO_LINE, NO_COLUMN),
     }
 }
 
@@ -85,11 +108,10 @@ fn text_few(description: &[u8], text: &mut [u8]) -> Option<usize>
 {
     let mut answer = [0u64; FEW_WORDS];
     let response = respond_few(description, &mut answer);
-    let said = response.answer;
-    let Answer::TooLarge = said else {
-        return write_response(text, response, &answer);
-    };
-    text_full(description, text)
+    if is_large(&response) {
+        return text_full(description, text);
+    }
+    write_response(text, response, &answer)
 }
 
 // A text of more bytes mostly has more terms than small areas have room for.

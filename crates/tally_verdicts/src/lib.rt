@@ -6,7 +6,8 @@ ghost use Rattle.rimecutter.specs.Answers.{verdict_for};
 ghost use Rattle.tally_verdicts.specs.Verdicts.{counted};
 
 use faults::number_of;
-use rimecutter::{Answer, TOO_LARGE, TOO_LONG};
+use rimecutter::{Refusal, TOO_LARGE, TOO_LONG};
+use rounds::Listed;
 use tally::Verdict;
 
 // A refusal has neither rounds nor labels.
@@ -21,20 +22,20 @@ fn refusal(reason: usize) -> Verdict
 }
 
 // What is counted of an answer. The line and the column that are to blame are not: a tally has no place for them.
-pub fn counted_of(said: Answer) -> Verdict
+pub fn counted_of(said: Result<Listed, Refusal>) -> Verdict
     ensures { result ≡ counted (verdict_for said) }
 {
     match said {
-        Answer::Listed(rounds, labels) => Verdict {
+        Ok(Listed { rounds, labels }) => Verdict {
             reason: 0,
             rounds,
             labels,
         },
-        Answer::TooLong => refusal(TOO_LONG),
-        Answer::Bad(flaw, _) => {
-            let fault = flaw.fault;
+        Err(Refusal::TooLong) => refusal(TOO_LONG),
+        Err(Refusal::Bad(bad)) => {
+            let fault = bad.flaw.fault;
             refusal(number_of(fault))
         }
-        Answer::TooLarge => refusal(TOO_LARGE),
+        Err(Refusal::TooLarge) => refusal(TOO_LARGE),
     }
 }

@@ -1,16 +1,11 @@
 -- `rimecutter::text_few` meets its contract: what is told in small areas, written, or else the text from those that are enough.
 -- Assumes nothing.
-use mathlib.Core.Path.{refl}
-use borrow.Enum.Refused.{opened}
+use mathlib.Core.Path.{sym, ◌∙◌}
 use Rattle.rimecutter.proofs.Arms.{told}
 use Rattle.rimecutter.proofs.Texts.{told-printed}
 use Rattle.rimecutter.proofs.text_few.Goals as goal
 
-pub slice_bounds-respond_few-end : goal.slice_bounds-respond_few-end
-slice_bounds-respond_few-end c = refl
-
-pub returns-in_default : goal.returns-in_default
-returns-in_default c =
+pub returns : goal.returns
+returns c =
     let tried = c.respond_few-response in
-    told-printed _ _ _ tried.result (tried.ensures.told (told tried.result.answer (opened c.in_default.in_default-own.keys2)))
-    c.write_response.ensures
+    told-printed _ _ _ tried.result (tried.ensures.told (told _ (sym c.is_large.ensures ∙ c.if-is_large.false))) c.write_response.ensures

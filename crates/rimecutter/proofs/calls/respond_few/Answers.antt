@@ -1,39 +1,23 @@
 -- `rimecutter::calls::respond_few` meets its contract: why the text was not read, or what the rounds found in small areas.
 -- Assumes nothing.
-use mathlib.Core.Path.{refl, sym}
-use borrow.Enum.Refused.{opened}
-use Rattle.reading.proofs.Stores.{not-fine}
+use Rattle.std.specs.Prelude.{Err}
+use mathlib.Core.Path.{refl}
+use Rattle.std.proofs.lemmas.Result.{err_from_is_err_and}
+use Rattle.rimecutter.specs.declared.Refusal.TheVariants.{TooLarge}
 use Rattle.rimecutter.proofs.Readings.{fine-read, refused-read}
-use Rattle.rimecutter.proofs.Responses.{few-refused, few-worked}
+use Rattle.rimecutter.proofs.Responses.{few-refused, few-worked, unprinted}
 use Rattle.rimecutter.proofs.calls.respond_few.Goals as goal
 
-pub slice_bounds-read_description-end : goal.slice_bounds-read_description-end
-slice_bounds-read_description-end c = refl
+pub returns-in_err-order : goal.returns-in_err-order
+returns-in_err-order c =
+    let p = err_from_is_err_and c.from_residual.result c.from_residual.ensures.1 in
+    rw (p.1, p.2) (few-refused c.args.description.now _ c.args.answer.now _ (refused-read c.in_err-order.ensures refl refl refl))
 
-pub slice_bounds-read_description-end-2 : goal.slice_bounds-read_description-end-2
-slice_bounds-read_description-end-2 c = refl
-
-pub slice_bounds-read_description-end-3 : goal.slice_bounds-read_description-end-3
-slice_bounds-read_description-end-3 c = refl
-
-pub returns-in_default : goal.returns-in_default
-returns-in_default c =
-    let read = c.read_description-read in
-    few-refused _ _ _ c.unread.result read.result.answer c.unread.ensures
-    (refused-read read.ensures refl refl (not-fine read.result.answer (opened c.in_default.in_default-own.keys2)))
-
-pub slice_bounds-alphabet_of_few-end : goal.slice_bounds-alphabet_of_few-end
-slice_bounds-alphabet_of_few-end c = sym c.read_description-read.auto.table
-
-pub slice_bounds-alphabet_of_few-end-2 : goal.slice_bounds-alphabet_of_few-end-2
-slice_bounds-alphabet_of_few-end-2 c = sym c.read_description-read.auto.lists
-
-pub slice_bounds-alphabet_of_few-end-3 : goal.slice_bounds-alphabet_of_few-end-3
-slice_bounds-alphabet_of_few-end-3 c = sym c.read_description-read.auto.listed
+pub returns-in_err-found : goal.returns-in_err-found
+returns-in_err-found c =
+    let p = err_from_is_err_and c.from_residual-in_err-found.result c.from_residual-in_err-found.ensures.1 in
+    rw (p.1, p.2) (few-worked (fine-read c.in_ok-order.ensures refl refl refl) (Err TooLarge) unprinted _ c.in_err-found.ensures refl)
 
 pub returns : goal.returns
 returns c =
-    let read = c.read_description-read in
-    few-worked (fine-read read.ensures refl refl c.in-Fine.is)
-    (record { answer = c.found-found.result; names = c.names_by_value.result }) c.names_by_value.ensures
-    c.alphabet_of_few.result c.alphabet_of_few.ensures c.found-found.ensures
+    few-worked (fine-read c.in_ok-order.ensures refl refl refl) _ (λ l e. c.names_by_value.ensures) _ c.in_ok-found.ensures refl
