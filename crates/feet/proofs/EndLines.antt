@@ -186,6 +186,7 @@ module _ {text : Text} {line equations terms : ℕ} {table table' : List ℕ} {p
   pub foot-taken : took ≤ length text
   foot-taken = foot.within
 
-  pub end_read : line + equations ≤ 199 → {rest : Text} {names listed listed' : List ℕ} {last : Result (Taken Order) BadLine} → rest ≡ drop took text → names ≡ names_in table'
+  pub end_read : line + equations ≤ 199 → {rest : Text} {names listed listed' : List ℕ} {last : Result (Taken Order) BadLine}
+      → rest ≡ drop took text → names ≡ names_in table'
       → OrderEnd rest (line + equations + 1) names listed listed' last → EndRead text line equations terms table listed table' listed' last
   end_read low t n o = last-come line terms w.tabled foot low (rw (t, n) at o)

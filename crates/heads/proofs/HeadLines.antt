@@ -38,7 +38,8 @@ module _ (table : List ℕ) (named : ℕ) {text : Text} {r : Result (Taken ℕ) 
         rw n at (number-to (ascii "equations=") 0 17 equations_in_range equations-test form (2 + named) text w e)
 
     module _ {g : Result (Taken ℕ) BadLine}
-        (v : NumberTo (rest_at text t.bytes) (3 + named) 97 g (one_line (take_number (ascii "terms=") (between 1 97) form) (3 + named) (rest_at text t.bytes))) where
+        (v : NumberTo (rest_at text t.bytes) (3 + named) 97 g
+            (one_line (take_number (ascii "terms=") (between 1 97) form) (3 + named) (rest_at text t.bytes))) where
       pub counts-on : {u : Taken ℕ} → g ≡ Ok u → t.bytes + u.bytes ≤ length text
       counts-on q = rest-within text t.bytes counts-within (gone-within v.walks q)
 
@@ -80,7 +81,8 @@ module _ (table : List ℕ) (named : ℕ) {text : Text} {r : Result (Taken ℕ) 
           }
 
 -- All lines.
-module _ (table : List ℕ) {text : Text} {r : Result (Taken ℕ) BadLine} (w : NumberTo text 1 25 r (one_line (take_number (ascii "names=") (between 1 25) form) 1 text)) where
+module _ (table : List ℕ) {text : Text} {r : Result (Taken ℕ) BadLine}
+    (w : NumberTo text 1 25 r (one_line (take_number (ascii "names=") (between 1 25) form) 1 text)) where
   abbrev on_names : ℕ → ℕ → Text → Walk Heading
   on_names n line s = head_names n line s
 

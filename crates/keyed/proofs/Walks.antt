@@ -29,7 +29,8 @@ module _ {A : Type 0} {value : ℕ → A} {text : Text} {next : ℕ} {r : Result
   pub gone-before : {b : BadLine} → r ≡ Err b → b.line < next
   gone-before e = (rw e at w).within
 
-pub gone-below : {text : Text} {line below : ℕ} {r : Result (Taken ℕ) BadLine} {due : Walk ℕ} → NumberTo text line below r due → {t : Taken ℕ} → r ≡ Ok t → t.value < below
+pub gone-below : {text : Text} {line below : ℕ} {r : Result (Taken ℕ) BadLine} {due : Walk ℕ}
+    → NumberTo text line below r due → {t : Taken ℕ} → r ≡ Ok t → t.value < below
 gone-below w e = (rw e at w).bounded
 
 -- a line that is refused

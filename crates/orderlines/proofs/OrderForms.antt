@@ -149,6 +149,7 @@ module _ (text : Text) where
   unfolding order_line
   order-passed {s} t e f = ap (λ u. order_after u s) f ∙ after-key (is_rest (ascii "all") s) s ∙ ap (λ d. onward d after_key) e
 
-pub order-become : (words : List Text) (text : Text) (due : Past OrderLine) (before after : List ℕ) (r : Reading OrderSaid) {other : Past OrderLine} → due ≡ other
+pub order-become : (words : List Text) (text : Text) (due : Past OrderLine) (before after : List ℕ) (r : Reading OrderSaid)
+    {other : Past OrderLine} → due ≡ other
     → OrderRead words text due before after r → OrderRead words text other before after r
 order-become words text due before after r e h = subst (λ d. OrderRead words text d before after r) e h

@@ -24,7 +24,8 @@ abbrev pub only_these : Text → Past OrderLine
 only_these s = onward (label_list s) (λ ls q. onward (ended q) (λ _ p. past (only ls) p))
 
 -- The order, the fault of its labels, and their words over the start of those that are lent where there is none.
-pub record OrderTaken (words : List Text) (text : Text) (due : Past OrderLine) (before after : List ℕ) (x : Order) (f : Option FaultAt) (took : ℕ) : Type 0 where
+pub record OrderTaken (words : List Text) (text : Text) (due : Past OrderLine) (before after : List ℕ)
+    (x : Order) (f : Option FaultAt) (took : ℕ) : Type 0 where
   pub line : OrderLine
   pub says : past line (drop took text) ≡ due
   pub within : took ≤ length text

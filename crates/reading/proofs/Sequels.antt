@@ -44,7 +44,8 @@ end-told words ts equations due table listed table' listed' r overlong e = absur
 end-told words ts equations due table listed table' listed' r (bad_line f line) e = ap read_of e.answered
 
 -- The terms, and the lines after them. The code has the number of names and of equations from the words that the table lends.
-module _ {text : Text} {count : ℕ} {table lists table' lists' names bodies : List ℕ} {p : Result ℕ BadLine} (n : names ≡ names_in table) (b : bodies ≡ bodies_in table)
+module _ {text : Text} {count : ℕ} {table lists table' lists' names bodies : List ℕ} {p : Result ℕ BadLine}
+    (n : names ≡ names_in table) (b : bodies ≡ bodies_in table)
     (room : (count ≤ 96) × (140 ≤ length table) × (64 * count ≤ length lists))
     (g : TermsGiven text (4 + length names) (length bodies) count table lists table' lists' p) where
   w : TermsRead text (4 + length (names_in table)) (length (bodies_in table)) count table lists table' lists' p
@@ -61,7 +62,8 @@ module _ {text : Text} {count : ℕ} {table lists table' lists' names bodies : L
     left = λ words s. rw (← ends-bad _ (rw e at (w.came words s))) (within_same 64 listed);
   }
 
-  module _ (listed : List ℕ) {r : Result (Taken Order) BadLine} {took : ℕ} (e : p ≡ Ok took) {rest : Text} (t : rest ≡ drop took text) {table'' listed' : List ℕ}
+  module _ (listed : List ℕ) {r : Result (Taken Order) BadLine} {took : ℕ} (e : p ≡ Ok took)
+      {rest : Text} (t : rest ≡ drop took text) {table'' listed' : List ℕ}
       (h : EndGiven rest (4 + length names + count) (length bodies) count table' listed table'' listed' r) where
     ended : EndRead (drop took text) (4 + length (names_in table) + count) (length (bodies_in table)) count table' listed table'' listed' r
     ended = (rw (n, b, t) at h).roomy (omega (arith, names-few table, room.0), bodies-few table, omega (arith, room.1, w.tabled.long))
@@ -104,7 +106,8 @@ module _ {text : Text} {count : ℕ} {table lists table' lists' names bodies : L
         }
 
 -- The lines before the terms, and those from the terms on.
-module _ {text : Text} {table table' : List ℕ} {p : Result (Taken ℕ) BadLine} (long : 140 ≤ length table) (g : HeadGiven text table table' p) (lists listed : List ℕ) where
+module _ {text : Text} {table table' : List ℕ} {p : Result (Taken ℕ) BadLine} (long : 140 ≤ length table) (g : HeadGiven text table table' p)
+    (lists listed : List ℕ) where
   pub head-refused : {b : BadLine} → p ≡ Err b → LinesRead text table lists listed table' lists listed (Err (Bad b))
   head-refused {b} e =
       let k = lines-halt text (length lists) (rw e at (g.roomy long).came) in

@@ -54,7 +54,8 @@ cleared : {n : ℕ} {a b : List ℕ} → Within n a b → zeroed n b ≡ zeroed 
 cleared {n} {a} {b} w = cleared-alike n a b w.long w.behind
 
 -- By the answer the areas are kept or cleared.
-module _ {text : Text} {table lists listed table' lists' listed' : List ℕ} {r : Result Order ReadError} (w : LinesRead text table lists listed table' lists' listed' r)
+module _ {text : Text} {table lists listed table' lists' listed' : List ℕ} {r : Result Order ReadError}
+    (w : LinesRead text table lists listed table' lists' listed' r)
     (fits : too_much (length text) (length table) (length listed) ≡ false) where
   looked-at : lines_in (length lists) text ≡ read_in text (length table) (length lists) (length listed)
   unfolding read_in

@@ -11,7 +11,8 @@ use Rattle.orderlines.proofs.first_line.Goals as goal
 pub returns-in-Err : goal.returns-in-Err
 returns-in-Err c =
     let a = c.args in
-    refused-walked (line-bad a.line a.text.now c.flaw_after-flaw.ensures (order-formless (map (name_of 8) a.names.now) a.text.now c.in-Err.ensures)) (omega arith)
+    refused-walked
+    (line-bad a.line a.text.now c.flaw_after-flaw.ensures (order-formless (map (name_of 8) a.names.now) a.text.now c.in-Err.ensures)) (omega arith)
 
 pub returns-in-Some : goal.returns-in-Some
 returns-in-Some c =
