@@ -72,7 +72,11 @@ const NO_LINE: usize = 0;
 const NO_COLUMN: usize = 0;
 
 // The text of a response, whose labels are the first words of an area.
-fn write_response(text: &mut [u8], response: Result<Response, Refusal>, answer: &[u64]) -> Option<usize>
+fn write_response(
+    text: &mut [u8],
+    response: Result<Response, Refusal>,
+    answer: &[u64],
+) -> Option<usize>
     ensures { TextWritten response answer.now text.old text.new result }
 {
     match response {
