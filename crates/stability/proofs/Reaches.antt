@@ -81,7 +81,8 @@ module _ (d : D.Description) (work part : List ℕ) (used : length part ≡ whol
             ∙ sym (ap (λ (y : Outcome). alone (in_words (map number (labels_of y))) work) x.outcome),
       )
 
-  answered-ends : (sets : List ℕ) (last : Result ℕ TooLarge) → RunEnds d sets (held part) 2048 last → Concluded last (part_at sets d.root) (after work part) work' r
+  answered-ends : (sets : List ℕ) (last : Result ℕ TooLarge) → RunEnds d sets (held part) 2048 last
+      → Concluded last (part_at sets d.root) (after work part) work' r
       → Answered d work work' r
   answered-ends sets (Err f) (inl e) left = answered-large e left
   answered-ends sets (Err f) (inr x) left = answered-large (passing-large x) left
@@ -91,7 +92,8 @@ module _ {table lists work : List ℕ} where
   pub reached-short : length work < whole → Reached table lists work work (Err (record {}))
   reached-short h = record { short = λ x. (refl, refl); right = λ d o l e room. absurd (omega arith) }
 
-  pub reached-run : {slots sets news log out work' : List ℕ} {last : Result ℕ TooLarge} {root : ℕ} {r : Result Found TooLarge} (part : List ℕ) → whole ≤ length work
+  pub reached-run : {slots sets news log out work' : List ℕ} {last : Result ℕ TooLarge} {root : ℕ} {r : Result Found TooLarge} (part : List ℕ)
+      → whole ≤ length work
       → Ran table lists (replicate 96 0) (replicate 194 0) (replicate 224 0) (held (take whole work)) (held (replicate 4096 0)) (held (replicate 2048 0))
       slots sets news (held part) log out last → length part ≡ length (take whole work) → root ≡ root_in table
       → Concluded last (part_at sets root) (part ++ drop whole work) work' r

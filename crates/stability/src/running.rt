@@ -4,8 +4,8 @@ ghost use Rattle.areas.specs.Rows.{held};
 ghost use Rattle.syncs.specs.Merging.{merged_to};
 ghost use Rattle.stability.specs.Running.{Ran};
 
-use crate::stages::turn_on;
 use crate::TOTAL_LABELS;
+use crate::stages::turn_on;
 use areas::rows::labels_in;
 use sets::TooLarge;
 use syncs::merge_wholes;
