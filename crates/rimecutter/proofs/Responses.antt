@@ -59,7 +59,8 @@ long-responded text {work} {work'} {answer} {answer'} {r} long h =
     subst (λ (b : Bool). Responded (unless_short b (read_text text)) work work' answer answer' r) (sym long) h
 
 -- Refusal 1 before anything is read.
-pub short-responded : (text : Text) (work answer : List ℕ) (r : Result Response Refusal) → answer_in r ≡ Err TooLong → too_short (length work) (length answer) ≡ true
+pub short-responded : (text : Text) (work answer : List ℕ) (r : Result Response Refusal) → answer_in r ≡ Err TooLong
+    → too_short (length work) (length answer) ≡ true
     → Responded (call text (length work) (length answer)) work work answer answer r
 unfolding call
 short-responded text work answer r said e =
@@ -88,7 +89,8 @@ module _ (work : List ℕ) (long : work_words ≤ length work) where
   cleared-after (refusing large) = zeroed-front work_words work long
   cleared-after (answering words rounds labels) = zeroed-front work_words work long
 
-  pub cleared-responded : (c : Call) (answer answer' : List ℕ) {work' : List ℕ} {r a : Result Response Refusal} → Told c answer answer' r → Cleared r work work' a
+  pub cleared-responded : (c : Call) (answer answer' : List ℕ) {work' : List ℕ} {r a : Result Response Refusal} → Told c answer answer' r
+      → Cleared r work work' a
       → Responded c work work' answer answer' a
   cleared-responded c answer answer' {work'} {r} t h =
       let one : answer_in r ≡ answer_of c = verdict-unique (answer_in r) (answer_of c) (verdict_of c) t.0 (told-once c) in

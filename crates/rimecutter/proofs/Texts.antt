@@ -161,7 +161,8 @@ record Listing (c : Call) (rounds n : ℕ) (names answer : List ℕ) : Type 0 wh
   pub says : text_of c ≡ answer_text (name_texts names) rounds (map counts_of (take n (held answer)))
 
 listed-text : (text : Text) (c : Call) → own_call text ≡ c → (rounds n : ℕ) (names answer answer' : List ℕ)
-    → verdict_for (Ok (record { rounds = rounds; labels = n })) ≡ verdict_of c → NamesFor c names → answer' ≡ answer_after c answer → Listing c rounds n names answer'
+    → verdict_for (Ok (record { rounds = rounds; labels = n })) ≡ verdict_of c → NamesFor c names → answer' ≡ answer_after c answer
+    → Listing c rounds n names answer'
 listed-text text (refusing r) e rounds n names answer answer' v ns put = absurd (omega (arith, refusals-numbered r, reason-eq v))
 listed-text text (answering words k ls) e rounds n names answer answer' v ns put =
     let from = call→origin text words k ls work_words answer_words e in
