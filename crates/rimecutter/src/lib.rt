@@ -71,7 +71,8 @@ const NO_LINE: usize = 0;
 
 const NO_COLUMN: usize = 0;
 
-// The text of a response, whose labels are the first words of an area.
+// The text of a response, whose labels are the first words of an area. None also where the area has fewer labels than are told, as it has
+// for no response that a call gives.
 fn write_response(
     text: &mut [u8],
     response: Result<Response, Refusal>,
