@@ -28,7 +28,12 @@ pub fn turn_on(
 {
     let mut end = 0;
     for k in 0..MOST_ROUNDS {
-        end = course(slots, lists, sets, news, work, log, end, out)?;
+        let made = course(slots, lists, sets, news, work, log, end, out);
+        // not by a `?`: an edit turns this answer alone
+        let Ok(next) = made else {
+            return Err(TooLarge);
+        };
+        end = next;
         if !hand_on(bodies, news) {
             return Ok(k + 1);
         }
