@@ -12,6 +12,6 @@ pub mod Covering
 -- rules-stored: a rule of a description as it is stored
 pub mod Reading
 -- outcome-by: on the numbers of the labels of an operand the walk gives the comm of the labels, or passes a limit, with the rules in any
--- order; gives-by, there-by, back-by, listed-by: what is listed of some of its labels, apart from a set; comm-outcome, gives, comm-there,
+-- order; gives-by, there-by, back_by, listed_by: what is listed of some of its labels, apart from a set; comm-outcome, gives, comm-there,
 -- comm-back, comm-listed: the same with the rules as they are read from a list
 pub mod Communication

@@ -4,7 +4,7 @@
 pub mod Runs
 -- literal-lawful, number-lawful, word-lawful: the forms of which all others are made
 pub mod Signs
--- list-lawful: lists
+-- list_lawful: lists
 pub mod Lists
 -- kinds-lawful: a choice by words, of which none begins with another
 pub mod Alternatives

@@ -1,11 +1,11 @@
 -- The laws of what is new in a round, each file after those that it cites.
--- in-less, less-or-known, less-ascends: the labels of a list that another does not have; ascending-itself; Adds, adds-same, adds-less:
+-- in-less, less-or-known, less-ascends: the labels of a list that another does not have; ascending-itself; Adds, adds_same, adds-less:
 -- labels that make a newer list of an older one; less-length: how many the two lists have
 pub mod Differences
 -- rising-number; less-number: the same on the numbers of labels, found by search; less-joined, less-rising, known-rising, less-apart:
 -- with the older list they are the newer one
 pub mod Numbers
--- in-arrived, arrived-or-before, arrived-ascends, arrived-length, all-new, adds-arrived: what is new in a round; arrived-joined,
+-- in-arrived, arrived-or-before, arrived-ascends, arrived-length, all_new, adds-arrived: what is new in a round; arrived-joined,
 -- arrived-rising, before-rising, arrived-apart: on the numbers of labels
 pub mod News
 -- labels-total, round-labels: the labels of all sets; mixed-new, mixed-old, mixed-none, mixed-all, mixed-other, mixed-next, labels-advanced,

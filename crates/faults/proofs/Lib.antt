@@ -1,5 +1,5 @@
 -- The laws that the proofs about faults cite, and the uniqueness of what is promised; each file after those that it cites.
--- asks-nothing: a call of a function without a `requires`
+-- asks_nothing: a call of a function without a `requires`
 pub mod Calls
 -- worse-fine, worse-none, unless-none, worse-first, worse-second, worse-assoc, not-below, first-fails, second-fails: faults joined
 pub mod Ranks

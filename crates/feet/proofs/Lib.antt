@@ -5,7 +5,7 @@ pub mod BodyTests
 pub mod BodyLines
 -- foot-bodies-bad, foot-root-bad, foot-end: the bodies, and the root after them
 pub mod FootLines
--- foot-refused, end-read: what all lines come to, as the last of the whole text
+-- foot-refused, end_read: what all lines come to, as the last of the whole text
 pub mod EndLines
 -- end-once: any two answers that meet the promise are equal, and so are the areas where no line is bad
 pub mod Uniqueness

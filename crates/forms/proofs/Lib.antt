@@ -3,7 +3,7 @@
 pub mod KindWords
 -- Sought, sought-none, sought-more, sought-found, letters-found, line-there: the kinds one after the other, and the tail of the one found
 pub mod Kinded
--- line-taken: a term line with its faults, as a term's answer
+-- line_taken: a term line with its faults, as a term's answer
 pub mod Taken
 -- term-unique: what is settled of any two results that meet a promise
 pub mod Uniqueness

@@ -63,6 +63,14 @@ none→short {s} {before} p e =
       | no h ↦ absurd (fits-not-none (omega arith) p e)
     ]
 
+-- (so what is answered lies within the area)
+pub some-within : (s before after : Text) (n : ℕ) → WrittenOrNone s before after (Some n) → n ≤ length before
+some-within s before after n p =
+    elim (dec_lt (length before) (length s)) [
+      | yes h ↦ absurd (none-some n (sym (rw (lt-leb (length s) (length before) h, size_if_fits) at p.size)))
+      | no h ↦ omega (arith, (some→written (omega arith) p refl).size)
+    ]
+
 pub written-or-none-unique : (s before after₁ after₂ : Text) (o₁ o₂ : Option ℕ) → WrittenOrNone s before after₁ o₁ → WrittenOrNone s before after₂ o₂ →
     (o₁ ≡ o₂) × (after₁ ≡ after₂)
 written-or-none-unique s before after₁ after₂ o₁ o₂ p q = (alike p.size q.size, alike p.area q.area)

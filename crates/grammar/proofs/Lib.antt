@@ -7,9 +7,9 @@ pub mod Texts
 pub mod Cases
 -- The writing of the listing and of every kind of list, computed and compared byte by byte
 pub mod Writings
--- decimal-digit, decimal-last, length-decimal: the last digit and those before it, and how many there are
+-- decimal_digit, decimal-last, length-decimal: the last digit and those before it, and how many there are
 pub mod Decimal
--- written→some, some→written, none→short, written-or-none-unique: what is printed in an area, or nothing
+-- written→some, some→written, none→short, some-within, written-or-none-unique: what is printed in an area, or nothing
 -- written→printed, printed→written, printed-within, printed-unique: the same for C
 pub mod Areas
 -- written-append, underway-start, -byte, -step, -end, lent-room: one text behind another in an area
@@ -20,17 +20,17 @@ pub mod Findings
 pub mod Items
 -- T→true, when-past, onward→, literal→, rest→, ..: what a form's answer says of the steps that it is made of
 pub mod Onwards
--- writes-placed, writes-as, writes-narrow, writes-pair, writes-items: forms put together are read back from their writings
+-- writes-placed, writes_as, writes-narrow, writes-pair, writes_items: forms put together are read back from their writings
 pub mod Writes
 -- writes-number, writes-word, writes-name: numbers, words and names
 pub mod Atoms
 -- added-legal, entries-legal: a label and its ascending entries give each other back
 pub mod Entries
--- writes-label, writes-names, writes-pairs, writes-rules, writes-labels: labels and the lists
+-- writes_label, writes-names, writes-pairs, writes-rules, writes-labels: labels and the lists
 pub mod ListForms
 -- →overlong, overlong→: too long is over 8,192 bytes
 pub mod Lengths
--- line-ended, line-first, line-after, line-narrow: forms that are the whole of a line
+-- line-ended, line_first, line_after, line-narrow: forms that are the whole of a line
 pub mod LineForms
 -- writes-term, writes-order: term lines and the order's line
 pub mod TermLines
@@ -40,7 +40,7 @@ pub mod Sections
 pub mod LegalLines
 -- accepted, written-injective: a text is accepted exactly if it is the writing of a legal description
 pub mod Acceptance
--- exact-text-tested, exact-texts, unseen-texts: the test of an exact text is the definition, and texts of examples/
+-- exact-text-tested, exact-examples, unseen-examples: the test of an exact text is the definition, and texts of examples/
 pub mod ExactTexts
 -- ManyNames, read-as-before: what a text came to while a description had at most 12 names
 pub mod FewNames

@@ -31,12 +31,13 @@ affirms t p = record { yes = λ e. p; no = λ e. absurd (let z : ◌≡◌ {A = 
 
 -- A set that can be moved is one whose labels can be copied.
 pub copied : {start end at limit words : ℕ} {set : Part} → Movable start end at set limit → limit ≡ words → start ≤ at → end ≤ words
-    → let count = set.to - set.from in (set.from + count ≤ words) × (at + count ≤ words)
+    → let count = set.to - set.from in
+    ((set.from + count ≤ at) ⊎ (at + count ≤ set.from)) × (set.from + count ≤ words) × (at + count ≤ words)
 copied m l s e =
     let u = m.upright in
     let t = m.there in
     let f = m.fits in
-    (omega arith, omega arith)
+    (⊎_elim (λ o. inl (omega arith)) (λ o. inr (omega arith)) m.outside, omega arith, omega arith)
 
 -- A set that cannot be moved stays, and one that can is moved.
 module _ {t start end at : ℕ} {row work : List ℕ} {set : Part} (read : set ≡ part_at row t) where

@@ -9,8 +9,8 @@ pub mod Carries
 -- are; standing-as: the same of equal sets; standing-start: empty sets; sizes-mono, length-joined, sizes-joined: how many labels there
 -- are together; joined-here, joined-other: the sets with new labels in one of them
 pub mod Stands
--- planned, plan-within, pick-small, anew-start, anew-within, anew-step, anew-end: the loop of `lay_anew`
+-- planned, plan-within, pick_small, anew-start, anew-within, anew-step, anew-end: the loop of `lay_anew`
 pub mod Layings
 -- denies, affirms: the promise of `movable`; copied, unmoved, moved-set: that of `move_set`; unwoven, woven-set: that of `weave_into`;
--- roomy, made-as, grown: that of `grow`
+-- roomy, made_as, grown: that of `grow`
 pub mod Growths

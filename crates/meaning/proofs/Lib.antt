@@ -5,9 +5,9 @@ pub mod Alike
 pub mod Legality
 -- computed: the examples P1 to P8, as one table that the checker computes, and those of docs/EXACT.md
 pub mod Alphabets
--- and-left, or-cases, compare-says, ..: tests against what they say
+-- and_left, or_cases, compare-says, ..: tests against what they say
 pub mod Tests
--- plus-comm, count-minus, size-plus, ..: the laws of bags
+-- plus_comm, count-minus, size-plus, ..: the laws of bags
 pub mod Bags
 -- ≺-irrefl, ≺-trans, order-says: the order of labels is a strict order, and `order` tells it
 pub mod Order
@@ -15,9 +15,9 @@ pub mod Order
 pub mod Digits
 -- sorted-once, sorted-unique, rising-unique, once-count: lists that ascend in a strict order
 pub mod Ascent
--- in-append, in-map, in-product, in-ascending, same-set, ..: members of the lists that sets are made of
+-- in-append, in_map, in-product, in-ascending, same_set, ..: members of the lists that sets are made of
 pub mod Members
--- without-twice, without-keeps, renamed-keeps, ..: hiding and renaming as maps of labels
+-- without-twice, without-keeps, renamed_keeps, ..: hiding and renaming as maps of labels
 pub mod Maps
 -- allowed→, tau-allowed, allowed-common, clear-union, ..: allow lists and blocked names as filters of labels
 pub mod Filters
@@ -47,7 +47,7 @@ pub mod ExactKinds
 pub mod Passages
 -- in_set→on_run, exact, exact-list: where every term is of the exact kinds, the root's set holds just the labels on runs
 pub mod Exact
--- step-of, on-no-run: the steps of a state by its form, and how a label is shown to be on no run
+-- step_of, on-no-run: the steps of a state by its form, and how a label is shown to be on no run
 pub mod Steps
 -- long→some_long, over-cases, over-grows, round-passes, rounds-bound: a limit that a part passes the whole passes
 pub mod Limits
@@ -73,9 +73,9 @@ pub mod Unseen
 pub mod Rows
 -- spread-choice, map-merge, spread-merge: operators over two sides
 pub mod Spreading
--- same-rounds, same-answer, same-shapes: rounds and answers by the shapes of the terms alone
+-- same-rounds, same_answer, same-shapes: rounds and answers by the shapes of the terms alone
 pub mod ByShapes
--- old-sets, old-rounds, old-answer: what was well-formed while sync was of multi-actions alone has the sets and the answer that it had
+-- old-sets, old_rounds, old-answer: what was well-formed while sync was of multi-actions alone has the sets and the answer that it had
 pub mod OldSync
 -- rewritten-sets, rewritten-answer: a line regrouped in its place
 pub mod Rewriting

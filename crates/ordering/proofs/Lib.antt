@@ -14,7 +14,7 @@ pub mod CardOrder
 -- Written: the loop that writes the rules in order
 pub mod WrittenRules
 -- ordered-members: the rules of a list in order are those of the list; taken-for: the first labels of `list_for` are `rules_for`; order_for,
--- rules-for-read, order-in, in-order: the rules of a description
+-- rules-for-read, order-in, in_order_lem: the rules of a description
 pub mod SameRules
 -- gives-for, outcome-for, there-for, back-for, listed-for: communication with the rules as they are followed
 pub mod FollowedRules

@@ -6,7 +6,7 @@ use Prim.Native.Nat.{ℕ, ◌+◌, ◌*◌, ◌≤◌}
 use native.Mathlib.Omega.{arith}
 use lib.ListN.{length}
 use Rattle.grammar.specs.Printed.{answer_text}
-pub use Rattle.grammar.proofs.Areas.{printed-within}
+pub use Rattle.grammar.proofs.Areas.{some-within, printed-within}
 use Rattle.label_texts.specs.Packed.{name_texts, counts_of}
 use Rattle.printing.proofs.LabelLines.{lines-short}
 use Rattle.printing.proofs.Answers.{length-answer-head, length-joined}

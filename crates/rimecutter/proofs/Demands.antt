@@ -1,16 +1,22 @@
 -- The three demands of the order, over what the library's call promises (`Settled`) and not over anything inside it. What they say is
 -- defined in specs/Demands.antt and specs/Refusals.antt, and the steps are in DemandSteps.antt.
 -- Assumes nothing.
-use mathlib.Core.Path.{◌≡◌, sym, subst, ◌∙◌}
+use mathlib.Core.Path.{◌≡◌, refl, sym, subst, ◌∙◌}
 use mathlib.Core.Logic.{◌⊎◌, inl, inr, ◌↔◌}
+use Prim.Native.Nat.{ℕ}
 use native.Mathlib.Omega.{arith}
 use lib.ListN.{length}
+use Rattle.std.specs.Prelude.{Option, unwrap_or}
+use Rattle.meaning.specs.Bytes.{Text}
 use Rattle.meaning.specs.Descriptions.{Description, Order}
 use Rattle.meaning.specs.Answers as A
 use Rattle.meaning.specs.Answers.{Refusal}
 use Rattle.meaning.specs.Widening.{Widens}
 use Rattle.meaning.proofs.Answers.{reason-eq}
+use Rattle.grammar.specs.Areas.{WrittenOrNone}
 use Rattle.grammar.specs.Reading.{read, read_text}
+use Rattle.grammar.proofs.Areas.{written→printed}
+use Rattle.rimecutter.specs.Calls.{own_call, text_of}
 use Rattle.rimecutter.specs.Refusals.{Roomy, Large}
 use Rattle.rimecutter.specs.Demands.{Made, verdict_given, DueOf, Answered, RefusedWith, Refused, Right, Safe, Called, Holds, number_of, SaysOk, SafeText}
 use Rattle.rimecutter.proofs.DemandSteps.{due→, refused-by, answered-or-refused, refusal-unique, no_answer}
@@ -99,3 +105,10 @@ pub demand-3-text : (c c' : Called) {d d' : Description} {o o' : Order}
     → SaysOk c'.area'
     → SafeText c c' d o d'
 demand-3-text c c' reads reads' holds holds' w ok = safe-texts c c' reads reads' holds holds' w ok
+
+-- And of the calls that the program makes: what `alphabet_text` promises is what a call for C does, with 0 in the place of None.
+abbrev pub called-for : (text : Text) {area area' : Text} {o : Option ℕ}
+    → WrittenOrNone (text_of (own_call text)) area area' o
+    → Called
+called-for text {area} {area'} {o} written =
+    record { text = text; area = area; area' = area'; size = unwrap_or o 0; kept = written→printed written refl }

@@ -11,7 +11,7 @@ pub mod Responses
 pub mod Texts
 -- due→, read→right, widens→safe, holds→shown, ..: the steps to the demands
 pub mod DemandSteps
--- demand-1, demand-2, demand-3, refused-exactly, refusal-8, ..: the three demands of the order
+-- demand-1, demand-2, demand-3, refused-exactly, refusal-8, called-for, ..: the three demands of the order
 pub mod Demands
 -- exact-list, exact-list-text: exact lists, beside the demands
 pub mod Exact

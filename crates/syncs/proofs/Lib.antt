@@ -1,5 +1,5 @@
 -- Laws of syncs of whole processes.
--- is-kind, no-kind, stays: the kinds of terms by their tags
+-- is-kind, no_kind, stays: the kinds of terms by their tags
 pub mod ByKind
 -- merged-legal, merged-join, merged-rounds, merged-answer, merged-lists: a description in which they are merges
 pub mod MergedSets

@@ -1,5 +1,5 @@
--- For callers: how long the text of a tally can be, which is what an area must have to hold every one, and that a text that fits has its
--- length answered.
+-- For callers: how long the text of a tally can be, which is what an area must have to hold every one, that a text that fits has its
+-- length answered, and that what is answered lies within the area.
 -- Assumes nothing.
 use mathlib.Core.Path.{◌≡◌, refl}
 use mathlib.Core.List.{List, [], ◌∷◌}
@@ -9,7 +9,7 @@ use lib.ListN.{length, length-append}
 use Rattle.meaning.specs.Bytes.{Text}
 use Rattle.grammar.specs.Marks.{digits, decimal}
 use Rattle.grammar.specs.Printed.{line}
-pub use Rattle.grammar.proofs.Areas.{fits-is_some}
+pub use Rattle.grammar.proofs.Areas.{fits-is_some, some-within, printed-within}
 use Rattle.grammar.proofs.Decimal.{length-decimal}
 use Rattle.numerals.proofs.Line.{length-line}
 use Rattle.tally.specs.declared.Tally.{Tally}

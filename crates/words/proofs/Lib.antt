@@ -1,9 +1,9 @@
 -- The laws that the proofs of the readers cite, and the uniqueness of what is promised; each file after those that it cites.
 -- rest-cons, literal-other, literal-more, Spelling, number-none, zero-read, one-read, two-read: the text from a place on, byte by byte
 pub mod Rests
--- word-none, word-other, Worded, name-back, take-snoc: a name, read and packed
+-- word_none, word-other, Worded, name_back, take_snoc: a name, read and packed
 pub mod WordReading
--- stops, goes, as-told, shifted, steps-to, steps-stuck, moved, went-on, stays-on, back-past: steps one after the other, and of the rest of a line
+-- stops, goes, as_told, shifted, steps-to, steps-stuck, moved, went_on, stays_on, back-past: steps one after the other, and of the rest of a line
 pub mod Steps
 -- word-name, number-here, number-later, rest-literal, packed-split: names looked up by their words
 pub mod Looked

@@ -44,7 +44,8 @@ overflow_sub-set c = (moves (goal.at.overflow_sub-set c).Else-not-movable).uprig
 pub carry-requires : goal.carry-requires
 carry-requires c =
     let p = c.requires in
-    copied (moves (goal.at.carry-requires c).Else-not-movable) c.labels_in.ensures p.0 p.2
+    let copies = copied (moves (goal.at.carry-requires c).Else-not-movable) c.labels_in.ensures p.0 p.2 in
+    (copies.1, copies.2)
 
 pub set_part-requires : goal.set_part-requires
 set_part-requires c = tt
