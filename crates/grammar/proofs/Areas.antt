@@ -63,14 +63,6 @@ none→short {s} {before} p e =
       | no h ↦ absurd (fits-not-none (omega arith) p e)
     ]
 
--- (so what is answered lies within the area)
-pub some-within : (s before after : Text) (n : ℕ) → WrittenOrNone s before after (Some n) → n ≤ length before
-some-within s before after n p =
-    elim (dec_lt (length before) (length s)) [
-      | yes h ↦ absurd (none-some n (sym (rw (lt-leb (length s) (length before) h, size_if_fits) at p.size)))
-      | no h ↦ omega (arith, (some→written (omega arith) p refl).size)
-    ]
-
 pub written-or-none-unique : (s before after₁ after₂ : Text) (o₁ o₂ : Option ℕ) → WrittenOrNone s before after₁ o₁ → WrittenOrNone s before after₂ o₂ →
     (o₁ ≡ o₂) × (after₁ ≡ after₂)
 written-or-none-unique s before after₁ after₂ o₁ o₂ p q = (alike p.size q.size, alike p.area q.area)
@@ -106,6 +98,10 @@ printed-within s before after n p =
       | yes h ↦ omega (arith, (printed→short h p).1)
       | no h ↦ omega (arith, (printed→written (omega arith) p).size)
     ]
+
+-- (and so is what a writer answers)
+pub some-within : (s before after : Text) (n : ℕ) → WrittenOrNone s before after (Some n) → n ≤ length before
+some-within s before after n p = printed-within s before after n (written→printed p refl)
 
 pub printed-unique : (s before after₁ after₂ : Text) (n₁ n₂ : ℕ) → Printed s before after₁ n₁ → Printed s before after₂ n₂ → (n₁ ≡ n₂) × (after₁ ≡ after₂)
 printed-unique s before after₁ after₂ n₁ n₂ p q = (alike p.size q.size, alike p.area q.area)

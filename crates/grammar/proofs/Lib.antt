@@ -9,8 +9,8 @@ pub mod Cases
 pub mod Writings
 -- decimal_digit, decimal-last, length-decimal: the last digit and those before it, and how many there are
 pub mod Decimal
--- written→some, some→written, none→short, some-within, written-or-none-unique: what is printed in an area, or nothing
--- written→printed, printed→written, printed-within, printed-unique: the same for C
+-- written→some, some→written, none→short, written-or-none-unique: what is printed in an area, or nothing
+-- written→printed, printed→written, printed-within, printed-unique: the same for C; some-within: what is answered lies within the area
 pub mod Areas
 -- written-append, underway-start, -byte, -step, -end, lent-room: one text behind another in an area
 pub mod Underway

@@ -28,9 +28,8 @@ pub fn turn_on(
 {
     let mut end = 0;
     for k in 0..MOST_ROUNDS {
-        let made = course(slots, lists, sets, news, work, log, end, out);
         // not by a `?`: an edit turns this answer alone
-        let Ok(next) = made else {
+        let Ok(next) = course(slots, lists, sets, news, work, log, end, out) else {
             return Err(TooLarge);
         };
         end = next;
